@@ -1,0 +1,17 @@
+/// A place in a text of a specification.
+///
+/// `file` is a number, from 0, in the program's list of file names; `line` and `col` count from 1,
+/// the column in characters.
+#[derive(Clone, Copy, Debug, Drop, PartialEq, Eq)]
+pub struct Place {
+    pub file: u32,
+    pub line: u32,
+    pub col: u32,
+}
+
+/// A line of a log. `file` counts the logs from 1, `line` the lines of that log from 1.
+#[derive(Clone, Copy, Debug, Drop, PartialEq, Eq)]
+pub struct LineAt {
+    pub file: u32,
+    pub line: u32,
+}
