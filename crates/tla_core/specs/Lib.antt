@@ -1,0 +1,4 @@
+pub mod States
+pub mod System
+pub mod Sets
+pub mod Runs
