@@ -1,8 +1,13 @@
-//! Specifications, states and behaviours.
+//! Specifications, states and behaviours of a log, and the faults of evaluations.
 #![tactic(auto)]
 
+mod fault;
 mod spec;
+mod state;
 mod term;
 
+pub use fault::Fault;
 pub use spec::Spec;
+pub use state::{Behaviour, Mark, Shown, State, StateList};
 pub use term::{Atom, Term};
+pub use tla_values::EvalKind;

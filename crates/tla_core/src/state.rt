@@ -1,0 +1,202 @@
+ghost use Rattle.std.specs.Prelude.{◌≡◌, ◌++◌, [], ◌∷◌, ◌↔◌, ◌≤◌, length, reverse, slice_get, Some, MatchOption, OnOk, OnErr, IfOk, IsTrue};
+
+use std::alloc::{AllocError, Global};
+use std::marker::Model;
+use tla_values::Value;
+use trace_base::LineAt;
+
+/// One value for each variable, in the order in which the variables are declared, seen as the list of them.
+#[derive(Drop)]
+pub struct State {
+    values: Vec<Value>,
+}
+
+impl Model for State {
+    ghost use Rattle.std.specs.Prelude.{List};
+    ghost use Rattle.tla_values.specs.Data.{Val};
+
+    ghost Value = { List Val };
+
+    ghost view = { λ s. s.values.items };
+}
+
+impl State {
+    pub fn new(values: Vec<Value>) -> State
+        ensures { result ≡ values.items }
+    {
+        State { values }
+    }
+
+    /// The value of the variable with this number, from 0.
+    pub fn get(&self, index: usize) -> Option<&Value>
+        ensures { MatchOption result (length self.now ≤ index) (λ v. slice_get self.now index ≡ Some v.now) }
+    {
+        self.values.get(index)
+    }
+
+    pub fn values(&self) -> &[Value]
+        ensures { result.now ≡ self.now }
+    {
+        &self.values
+    }
+
+    /// An equal state.
+    pub fn copy(&self, alloc: Global) -> Result<State, AllocError>
+        ensures { IfOk result (λ s. s ≡ self.now) }
+    {
+        let mut values = Vec::new(alloc);
+        for value in &self.values {
+            values.push(value.copy()?)?;
+        }
+        Ok(State { values })
+    }
+
+    /// Whether both have the same values.
+    pub fn same(&self, other: &State) -> bool
+        ensures { IsTrue result ↔ (self.now ≡ other.now) }
+    {
+        if self.values.len() != other.values.len() {
+            return false;
+        }
+        for index in 0..self.values.len() {
+            if !self.values[index].same(&other.values[index]) {
+                return false;
+            }
+        }
+        true
+    }
+}
+
+/// How a state was reached: as a first one, by a step that no line shows, or by the step of a line.
+#[derive(Clone, Copy, Debug, Drop, PartialEq, Eq)]
+pub enum Mark {
+    Init,
+    Silent,
+    Line(LineAt),
+}
+
+/// A state and how it was reached.
+#[derive(Drop)]
+pub struct Shown {
+    pub mark: Mark,
+    pub state: State,
+}
+
+/// States in the order in which they were reached, seen as the list of them.
+#[derive(Drop)]
+pub struct Behaviour {
+    items: Vec<Shown>,
+}
+
+impl Model for Behaviour {
+    ghost use Rattle.std.specs.Prelude.{List};
+    ghost use Rattle.tla_core.specs.declared.state.Shown.{Shown};
+
+    ghost Value = { List Shown };
+
+    ghost view = { λ b. b.items.items };
+}
+
+impl Behaviour {
+    pub fn new(alloc: Global) -> Behaviour
+        ensures { result ≡ [] }
+    {
+        Behaviour {
+            items: Vec::new(alloc),
+        }
+    }
+
+    /// Adds a state at the end, or nothing where memory is wanting.
+    pub fn push(&mut self, item: Shown) -> Result<(), AllocError>
+        ensures ok { OnOk result (self.new ≡ self.old ++ item ∷ []) }
+        ensures err { OnErr result (self.new ≡ self.old) }
+    {
+        self.items.push(item)?;
+        Ok(())
+    }
+
+    pub fn len(&self) -> usize
+        ensures { result ≡ length self.now }
+    {
+        self.items.len()
+    }
+
+    /// The state with this number, from 0.
+    pub fn get(&self, index: usize) -> Option<&Shown>
+        ensures { MatchOption result (length self.now ≤ index) (λ shown. slice_get self.now index ≡ Some shown.now) }
+    {
+        self.items.get(index)
+    }
+
+    pub fn items(&self) -> &[Shown]
+        ensures { result.now ≡ self.now }
+    {
+        &self.items
+    }
+
+    /// Turns the order round.
+    pub fn reverse(&mut self)
+        ensures { self.new ≡ reverse self.old }
+    {
+        self.items.reverse();
+    }
+}
+
+/// States, seen as the list of them.
+#[derive(Drop)]
+pub struct StateList {
+    items: Vec<State>,
+}
+
+impl Model for StateList {
+    ghost use Rattle.std.specs.Prelude.{List};
+    ghost use Rattle.tla_values.specs.Data.{Val};
+
+    ghost Value = { List (List Val) };
+
+    ghost view = { λ b. b.items.items };
+}
+
+impl StateList {
+    pub fn new(alloc: Global) -> StateList
+        ensures { result ≡ [] }
+    {
+        StateList {
+            items: Vec::new(alloc),
+        }
+    }
+
+    /// Adds a state at the end, or nothing where memory is wanting.
+    pub fn push(&mut self, item: State) -> Result<(), AllocError>
+        ensures ok { OnOk result (self.new ≡ self.old ++ item ∷ []) }
+        ensures err { OnErr result (self.new ≡ self.old) }
+    {
+        self.items.push(item)?;
+        Ok(())
+    }
+
+    pub fn len(&self) -> usize
+        ensures { result ≡ length self.now }
+    {
+        self.items.len()
+    }
+
+    /// The state with this number, from 0.
+    pub fn get(&self, index: usize) -> Option<&State>
+        ensures { MatchOption result (length self.now ≤ index) (λ state. slice_get self.now index ≡ Some state.now) }
+    {
+        self.items.get(index)
+    }
+
+    pub fn items(&self) -> &[State]
+        ensures { result.now ≡ self.now }
+    {
+        &self.items
+    }
+
+    pub fn into_items(self) -> Vec<State>
+        ensures { result.items ≡ self }
+    {
+        self.items
+    }
+}
