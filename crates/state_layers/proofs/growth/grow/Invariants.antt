@@ -1,0 +1,12 @@
+use Rattle.std.proofs.Common.{length, ◌-◌, ◌≤◌}
+use Rattle.state_layers.specs.Moves.{Growing}
+use Rattle.state_layers.proofs.growth.grow.Given as goal
+
+abbrev pub invariant-loop-index : goal.invariant-loop-index
+invariant-loop-index g l = record {
+  grows : Growing (g.S.Steps.system l.steps) l.step l.nodes l.from l.index l.layer;
+  after : l.from ≤ l.index
+}
+
+abbrev pub decreases-loop-index : goal.decreases-loop-index
+decreases-loop-index g l = length l.nodes - l.index

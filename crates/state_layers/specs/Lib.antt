@@ -1,0 +1,6 @@
+pub mod Answers
+pub mod Gives
+pub mod Found
+pub mod Moves
+pub mod Says
+pub mod Kept

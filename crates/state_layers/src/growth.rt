@@ -1,0 +1,166 @@
+ghost use Rattle.std.specs.Prelude.{◌≡◌, ◌⊎◌, ◌≤◌, ◌<◌, ◌+◌, ◌-◌, ◌++◌, IfOk, IfErr, OnOk, length};
+ghost use Rattle.tla_core.specs.Sets.{AreOf, IsList};
+ghost use Rattle.tla_core.specs.Runs.{Layer, Upto};
+ghost use Rattle.state_layers.specs.Gives.{Gives, IsSmall};
+ghost use Rattle.state_layers.specs.Found.{states_of};
+ghost use Rattle.state_layers.specs.Moves.{IsSource, line_of, silents_of, line_after, silents_after, IsOpen, Moves, MoveFaults, MoveSeen, entries, at_layer, IsRange, Grown};
+ghost use Rattle.state_layers.specs.Says.{IsStop, Expands};
+ghost use Rattle.state_layers.specs.Kept.{Kept, IsBehind, nodes_of};
+
+use crate::answer::{Answer, Stop};
+use crate::layer::{merge, Frontier};
+use crate::node::{Move, Node};
+use crate::steps::{StepFault, Steps};
+use std::alloc::{AllocError, Global};
+use tla_core::{State, StateList};
+
+/// How many lines the layer that a move leads to is after.
+fn line_after_move(step: Move) -> u32
+    requires { line_of step < u32.MAX }
+    ensures { result ≡ line_after step }
+{
+    match step {
+        Move::Wait { line, .. } => line,
+        Move::Go { line } => line + 1,
+    }
+}
+
+/// How many silent steps the layer that a move leads to is after.
+fn silents_after_move(step: Move) -> u32
+    requires { silents_after step ≤ u32.MAX }
+    ensures { result ≡ silents_after step }
+{
+    match step {
+        Move::Wait { silents, .. } => silents + 1,
+        Move::Go { .. } => 0,
+    }
+}
+
+/// The states to which a move leads from a state.
+fn list_steps<S: Steps>(alloc: Global, steps: &S, step: Move, state: &State, bound: u32) -> Result<StateList, StepFault>
+    requires { IsOpen (S.system steps.now) step }
+    ensures { Gives (Moves (S.system steps.now) step state.now) (MoveFaults (S.system steps.now) step state.now) (MoveSeen (S.system steps.now) step state.now) bound result }
+{
+    match step {
+        Move::Wait { .. } => steps.silent(alloc, state, bound),
+        Move::Go { line } => steps.successors(alloc, line, state, bound),
+    }
+}
+
+/// The states to which a move leads from a node, or an answer.
+fn expand<S: Steps>(alloc: Global, steps: &S, step: Move, node: &Node) -> Result<StateList, Stop>
+    requires small { IsSmall (S.system steps.now) }
+    requires opens { IsOpen (S.system steps.now) step }
+    requires source { IsSource step node.now.line node.now.silents }
+    requires reached { Layer (S.system steps.now) node.now.line node.now.silents node.now.state }
+    ensures listed { IfOk result (λ list. Expands (S.system steps.now) step node.now.state list) }
+    ensures stopped { IfErr result (λ stop. IsStop (S.system steps.now) stop) }
+{
+    let line = line_after_move(step);
+    let silents = silents_after_move(step);
+    let bound = steps.limit();
+    match list_steps(alloc, steps, step, &node.state, bound) {
+        Ok(list) => Ok(list),
+        Err(StepFault::Eval(fault)) => Err(Stop::Answered(Answer::Fault {
+            after: node.line,
+            silent: node.silents,
+            state: node.state.copy(alloc)?,
+            kind: fault.kind,
+            at: fault.at,
+        })),
+        Err(StepFault::TooMany) => Err(Stop::Answered(Answer::LayerLimit {
+            after: line,
+            silent: silents,
+        })),
+        Err(StepFault::NoMemory) => Err(Stop::NoMemory),
+    }
+}
+
+/// Whether the layer is within the limits, beside the nodes of the layers before it.
+fn check_size<S: Steps>(steps: &S, nodes: &[Node], layer: &Frontier, line: u32, silents: u32) -> Result<(), Stop>
+    requires part { AreOf (Layer (S.system steps.now) line silents) (states_of layer.now) }
+    requires together { AreOf (Upto (S.system steps.now) line silents) (entries nodes.now ++ at_layer line silents (states_of layer.now)) }
+    ensures limit { OnOk result (length layer.now ≤ (S.system steps.now).limit) }
+    ensures total { OnOk result (length nodes.now + length layer.now ≤ (S.system steps.now).total) }
+    ensures stopped { IfErr result (λ stop. IsStop (S.system steps.now) stop) }
+{
+    if layer.len() > steps.limit() as usize {
+        return Err(Stop::Answered(Answer::LayerLimit {
+            after: line,
+            silent: silents,
+        }));
+    }
+    let total = steps.total() as usize;
+    if nodes.len() > total || layer.len() > total - nodes.len() {
+        return Err(Stop::Answered(Answer::TotalLimit {
+            after: line,
+            silent: silents,
+        }));
+    }
+    Ok(())
+}
+
+/// The layer that a move leads to.
+fn grow<S: Steps>(alloc: Global, steps: &S, nodes: &[Node], from: usize, step: Move) -> Result<Frontier, Stop>
+    requires small { IsSmall (S.system steps.now) }
+    requires opens { IsOpen (S.system steps.now) step }
+    requires kept { IsList (Upto (S.system steps.now) (line_of step) (silents_of (S.system steps.now) step)) (entries nodes.now) }
+    requires range { IsRange step nodes.now from }
+    requires room { length nodes.now ≤ (S.system steps.now).total }
+    ensures whole { IfOk result (λ layer. Grown (S.system steps.now) step nodes.now layer) }
+    ensures stopped { IfErr result (λ stop. IsStop (S.system steps.now) stop) }
+{
+    let line = line_after_move(step);
+    let silents = silents_after_move(step);
+    let limit = steps.limit() as usize;
+    let mut layer = Frontier::new(alloc);
+    let mut index = from;
+    while index < nodes.len() {
+        let list = expand(alloc, steps, step, &nodes[index])?;
+        merge(&mut layer, list, index as u32, limit)?;
+        check_size(steps, nodes, &layer, line, silents)?;
+        index += 1;
+    }
+    Ok(layer)
+}
+
+/// Puts a layer behind the nodes.
+fn keep(nodes: &mut Vec<Node>, layer: Frontier, line: u32, silents: u32) -> Result<(), AllocError>
+    ensures { OnOk result (nodes.new.items ≡ nodes.old.items ++ nodes_of line silents layer) }
+{
+    for found in layer.into_items() {
+        nodes.push(Node {
+            line,
+            silents,
+            state: found.state,
+            from: found.from,
+        })?;
+    }
+    Ok(())
+}
+
+/// Grows one more layer behind the nodes, and gives the size of the largest layer so far.
+pub fn advance<S: Steps>(alloc: Global, steps: &S, nodes: &mut Vec<Node>, from: usize, step: Move, widest: usize) -> Result<usize, Stop>
+    requires small { IsSmall (S.system steps.now) }
+    requires opens { IsOpen (S.system steps.now) step }
+    requires kept { Kept (S.system steps.now) (line_of step) (silents_of (S.system steps.now) step) nodes.old.items widest }
+    requires range { IsRange step nodes.old.items from }
+    ensures kept { IfOk result (λ wide. Kept (S.system steps.now) (line_after step) (silents_after step) nodes.new.items wide) }
+    ensures behind { OnOk result (IsBehind (S.system steps.now) step nodes.old.items nodes.new.items) }
+    ensures stopped { IfErr result (λ stop. IsStop (S.system steps.now) stop) }
+{
+    let line = line_after_move(step);
+    let silents = silents_after_move(step);
+    let layer = grow(alloc, steps, nodes, from, step)?;
+    let size = layer.len();
+    keep(nodes, layer, line, silents)?;
+    Ok(greater(widest, size))
+}
+
+fn greater(one: usize, other: usize) -> usize
+    ensures first { one ≤ result }
+    ensures second { other ≤ result }
+    ensures either { (result ≡ one) ⊎ (result ≡ other) }
+{
+    if other > one { other } else { one }
+}

@@ -1,0 +1,17 @@
+use tla_core::State;
+
+/// A state of a layer: after how many lines and silent steps, and the index of the node before it.
+#[derive(Drop)]
+pub struct Node {
+    pub line: u32,
+    pub silents: u32,
+    pub state: State,
+    pub from: u32,
+}
+
+/// From the states of a layer by a silent step, or from those after a line by the step of the next.
+#[derive(Clone, Copy, Drop)]
+pub enum Move {
+    Wait { line: u32, silents: u32 },
+    Go { line: u32 },
+}

@@ -1,0 +1,148 @@
+ghost use Rattle.std.specs.Prelude.{◌≡◌, ◌-◌, ◌<◌, IfOk, IfErr, OnOk, length};
+ghost use Rattle.tla_core.specs.System.{Begins};
+ghost use Rattle.tla_core.specs.Sets.{IsList};
+ghost use Rattle.state_layers.specs.Gives.{IsSmall};
+ghost use Rattle.state_layers.specs.Answers.{IsAnswer};
+ghost use Rattle.state_layers.specs.Says.{Says, IsStop};
+ghost use Rattle.state_layers.specs.Kept.{IsInitClear, Kept, Starts, Continues, first_of};
+
+use crate::answer::{Answer, Stop};
+use crate::assumptions::judge;
+use crate::back::read_back;
+use crate::growth::advance;
+use crate::node::{Move, Node};
+use crate::steps::{StepFault, Steps};
+use std::alloc::{AllocError, Global};
+use tla_core::StateList;
+
+/// The nodes of the first layer.
+fn begin<S: Steps>(alloc: Global, steps: &S) -> Result<Vec<Node>, Stop>
+    requires small { IsSmall (S.system steps.now) }
+    ensures first { IfOk result (λ nodes. Kept (S.system steps.now) 0 0 nodes.items (length nodes.items)) }
+    ensures some { IfOk result (λ nodes. Starts 0 nodes.items 0) }
+    ensures stopped { IfErr result (λ stop. IsStop (S.system steps.now) stop) }
+{
+    let limit = steps.limit();
+    match steps.initial(alloc, limit) {
+        Ok(list) => first_nodes(alloc, steps, list),
+        Err(StepFault::Eval(fault)) => Err(Stop::Answered(Answer::InitFault {
+            kind: fault.kind,
+            at: fault.at,
+        })),
+        Err(StepFault::TooMany) => Err(Stop::Answered(Answer::LayerLimit {
+            after: 0,
+            silent: 0,
+        })),
+        Err(StepFault::NoMemory) => Err(Stop::NoMemory),
+    }
+}
+
+fn first_nodes<S: Steps>(alloc: Global, steps: &S, list: StateList) -> Result<Vec<Node>, Stop>
+    requires listed { IsList (Begins (S.system steps.now)) list }
+    requires clear { IsInitClear (S.system steps.now) }
+    requires small { IsSmall (S.system steps.now) }
+    ensures first { IfOk result (λ nodes. Kept (S.system steps.now) 0 0 nodes.items (length nodes.items)) }
+    ensures some { IfOk result (λ nodes. Starts 0 nodes.items 0) }
+    ensures stopped { IfErr result (λ stop. IsStop (S.system steps.now) stop) }
+{
+    if list.len() == 0 {
+        return Err(Stop::Answered(Answer::NoInitial));
+    }
+    if list.len() > steps.limit() as usize {
+        return Err(Stop::Answered(Answer::LayerLimit {
+            after: 0,
+            silent: 0,
+        }));
+    }
+    if list.len() > steps.total() as usize {
+        return Err(Stop::Answered(Answer::TotalLimit {
+            after: 0,
+            silent: 0,
+        }));
+    }
+    Ok(first_items(alloc, list)?)
+}
+
+fn first_items(alloc: Global, list: StateList) -> Result<Vec<Node>, AllocError>
+    ensures { IfOk result (λ nodes. nodes.items ≡ first_of list) }
+{
+    let mut nodes = Vec::new(alloc);
+    for state in list.into_items() {
+        nodes.push(Node {
+            line: 0,
+            silents: 0,
+            state,
+            from: 0,
+        })?;
+    }
+    Ok(nodes)
+}
+
+/// The layers of silent steps after a line.
+fn wait<S: Steps>(alloc: Global, steps: &S, nodes: &mut Vec<Node>, start: usize, line: u32, widest: usize) -> Result<usize, Stop>
+    requires small { IsSmall (S.system steps.now) }
+    requires left { line < (S.system steps.now).count }
+    requires kept { Kept (S.system steps.now) line 0 nodes.old.items widest }
+    requires starts { Starts line nodes.old.items start }
+    ensures kept { IfOk result (λ wide. Kept (S.system steps.now) line ((S.system steps.now).within - 1) nodes.new.items wide) }
+    ensures starts { OnOk result (Continues line nodes.new.items start) }
+    ensures stopped { IfErr result (λ stop. IsStop (S.system steps.now) stop) }
+{
+    let within = steps.within();
+    let mut widest = widest;
+    let mut from = start;
+    let mut silents = 0;
+    while silents + 1 < within {
+        let end = nodes.len();
+        widest = advance(alloc, steps, nodes, from, Move::Wait { line, silents }, widest)?;
+        from = end;
+        silents += 1;
+    }
+    Ok(widest)
+}
+
+fn search<S: Steps>(alloc: Global, steps: &S) -> Result<Answer, Stop>
+    requires { IsSmall (S.system steps.now) }
+    ensures answered { IfOk result (λ answer. Says (S.system steps.now) answer) }
+    ensures stopped { IfErr result (λ stop. IsStop (S.system steps.now) stop) }
+{
+    let count = steps.count();
+    let mut nodes = begin(alloc, steps)?;
+    let mut widest = nodes.len();
+    let mut start = 0;
+    let mut line = 0;
+    while line < count {
+        widest = wait(alloc, steps, &mut nodes, start, line, widest)?;
+        let end = nodes.len();
+        widest = advance(alloc, steps, &mut nodes, start, Move::Go { line }, widest)?;
+        if nodes.len() == end {
+            return Ok(Answer::NotExplained {
+                prefix: line,
+                of: count,
+                after: steps.at(line),
+                behaviour: read_back(alloc, steps, &nodes, start)?,
+            });
+        }
+        start = end;
+        line += 1;
+    }
+    Ok(Answer::Explained {
+        behaviour: read_back(alloc, steps, &nodes, start)?,
+        widest: widest as u32,
+    })
+}
+
+/// What a log says of a specification, whose assumptions are judged before all else.
+pub fn explain<S: Steps>(alloc: Global, steps: &S) -> Result<Answer, AllocError>
+    requires { IsSmall (S.system steps.now) }
+    ensures { IfOk result (λ answer. IsAnswer (S.system steps.now) answer) }
+{
+    if let Some(answer) = judge(alloc, steps)? {
+        return Ok(answer);
+    }
+    match search(alloc, steps) {
+        Ok(answer) => Ok(answer),
+        Err(Stop::Answered(answer)) => Ok(answer),
+        Err(Stop::NoMemory) => Err(AllocError),
+    }
+}
