@@ -1,11 +1,11 @@
 -- The ends of edges, one after another.
-use Rattle.std.proofs.Common.{◌≡◌, ◌≢◌, ◌≤◌, ◌<◌, ◌+◌, ℕ, List, [], ◌∷◌, ◌++◌, length, arith, refl, sym, subst, ap, ◌∙◌, ◌⊎◌, inl, inr, map, take, drop, Bool, true, false, get_or}
+use Rattle.std.proofs.Common.{◌≡◌, ◌≤◌, ◌<◌, ◌+◌, ℕ, List, [], ◌∷◌, ◌++◌, length, arith, refl, sym, subst, ap, ◌∙◌, ◌⊎◌, inl, inr, take, Bool, true, false, get_or}
 use Rattle.std.specs.List.{Contains}
 use Rattle.std.proofs.lemmas.Grind.{common_steps}
 use Rattle.std.proofs.lemmas.List.Elements.{Contains-push}
 use Rattle.tla_core.specs.States.{Values}
-use Rattle.tla_core.specs.Sets.{AreOf, IsList, HasMoreThan}
-use Rattle.state_layers.specs.Found.{states_of, AddsNew}
+use Rattle.tla_core.specs.Sets.{IsList, HasMoreThan}
+use Rattle.state_layers.specs.Found.{states_of}
 use Rattle.state_layers.specs.declared.layer.Found.{Found}
 use Rattle.state_layers.proofs.Members.{in_nil, in_left, in_append, in_one, in_map, map_in}
 use Rattle.state_layers.proofs.FoundLemmas.{adds_kept, adds_in, adds_distinct, adds_new}
