@@ -4,3 +4,4 @@ pub mod Found
 pub mod Moves
 pub mod Says
 pub mod Kept
+pub mod Table

@@ -13,3 +13,6 @@ mod steps;
 pub use answer::Answer;
 pub use search::explain;
 pub use steps::{StepFault, Steps};
+
+#[cfg(test)]
+mod tests;

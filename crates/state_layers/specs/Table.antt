@@ -1,0 +1,80 @@
+-- A table of edges, whose system the tests search.
+use Rattle.std.specs.Prelude.{◌≡◌, ◌⊎◌, ℕ, Bool, true, false, List, [], Contains, get_or, Option, Some, None, Result, Ok, Err}
+use Rattle.trace_base.specs.declared.place.LineAt.{LineAt}
+use Rattle.trace_base.specs.declared.place.Place.{Place}
+use Rattle.tla_core.specs.States.{Values}
+use Rattle.tla_core.specs.Sets.{IsList}
+use Rattle.tla_core.specs.System.{System}
+use Rattle.tla_core.specs.declared.fault.Fault.{Fault}
+use Rattle.tla_core.specs.declared.state.Mark.{Mark}
+use Rattle.tla_core.specs.declared.state.Mark.TheVariants.{Init, Silent, Line}
+use Rattle.state_layers.specs.Found.{AddsNew, states_of}
+use Rattle.state_layers.specs.declared.layer.Found.{Found}
+use Rattle.state_layers.specs.declared.steps.StepFault.{StepFault}
+use Rattle.state_layers.specs.declared.steps.StepFault.TheVariants.{Eval, TooMany, NoMemory}
+
+-- A step of this kind leads from a state to a state, or faults there. A first state is reached from the empty one.
+pub record Edge : Type 0 where
+  pub mark : Mark
+  pub from : Values
+  pub to : Values
+  pub faults : Bool
+
+-- The edge is of this kind, from s.
+abbrev pub IsEdge : Edge → Mark → Values → Type 0
+IsEdge e mark s = (e.mark ≡ mark) × (e.from ≡ s)
+
+-- The end of an edge of this kind from s, which does not fault, is added; another edge adds nothing.
+abbrev pub Takes : Edge → Mark → Values → List Found → List Found → Type 0
+Takes e mark s old now = (IsEdge e mark s × (e.faults ≡ false) × AddsNew old e.to 0 now) ⊎ ((IsEdge e mark s → ⊥) × (now ≡ old))
+
+-- The edge is of this kind, from s, and faults; or memory is wanting.
+abbrev pub IsRefused : Edge → Mark → Values → StepFault → Type 0
+IsRefused e mark s (Eval f) = IsEdge e mark s × (e.faults ≡ true)
+IsRefused e mark s TooMany = ⊥
+IsRefused e mark s NoMemory = Unit {0}
+
+-- An edge of this kind leads from s to t, and faults or does not.
+pub record Leads (edges : List Edge) (mark : Mark) (s : Values) (faults : Bool) (t : Values) : Type 0 where
+  pub edge : Edge
+  pub there : Contains edges edge
+  pub is : IsEdge edge mark s
+  pub to : edge.to ≡ t
+  pub fault : edge.faults ≡ faults
+
+-- These are the ends of the edges of this kind from s, each once, and none of those edges faults.
+pub record Listed (edges : List Edge) (mark : Mark) (s : Values) (found : List Found) : Type 0 where
+  pub list : IsList (Leads edges mark s false) (states_of found)
+  pub clear : (t : Values) → Leads edges mark s true t → ⊥
+
+-- The n-th line is line n of the only log, both counted from 0.
+abbrev pub line : ℕ → LineAt
+line n = record { file = 1; line = n }
+
+-- What is told of the k-th assumption: its place where it is FALSE, or its fault; past the end of the list it is TRUE.
+abbrev pub told : List (Result (Option Place) Fault) → ℕ → Result (Option Place) Fault
+told xs k = get_or xs k (Ok None)
+
+-- The edges as relations, with counts and limits. What a line shows rules nothing out.
+abbrev pub system_of : List Edge → List (Result (Option Place) Fault) → ℕ → ℕ → ℕ → ℕ → ℕ → System Values
+system_of edges assumptions assumes count within limit total = record {
+  Init = λ s. Leads edges Init [] false s;
+  InitSeen = λ s. Unit {0};
+  Step = λ n s t. Leads edges (Line (line n)) s false t;
+  Seen = λ n s t. Unit {0};
+  Silent = λ s t. Leads edges Silent s false t;
+  FaultInit = λ t f. Leads edges Init [] true t;
+  FaultStep = λ n s t f. Leads edges (Line (line n)) s true t;
+  FaultSilent = λ s t f. Leads edges Silent s true t;
+  at = λ n s t. line n;
+  expected = λ n s. line n;
+  state_of = λ s. s;
+  count = count;
+  within = within;
+  limit = limit;
+  total = total;
+  assumes = assumes;
+  IsAssumed = λ k. told assumptions k ≡ Ok None;
+  FaultAssume = λ k f. told assumptions k ≡ Err f;
+  IsFalse = λ k p. told assumptions k ≡ Ok (Some p)
+}
