@@ -32,7 +32,12 @@ fn two_files(alloc: Global, failing: &[u64]) -> Result<MemoryFiles, AllocError> 
 }
 
 /// What reading answers, with the length for the bytes, and the count of faults after it.
-fn answer(alloc: Global, name: &str, limit: usize, failing: &[u64]) -> Result<(Result<usize, ReadFault>, u64), AllocError> {
+fn answer(
+    alloc: Global,
+    name: &str,
+    limit: usize,
+    failing: &[u64],
+) -> Result<(Result<usize, ReadFault>, u64), AllocError> {
     let mut files = two_files(alloc, failing)?;
     let read = read_file(alloc, &mut files, name, limit);
     Ok((read.map(|v| v.len()), Files::faults(&files)))
@@ -50,7 +55,10 @@ fn texts_and_names(rt: HostRuntime) -> Result<(), Fail> {
     assert!(rt; a != Text::from_text(alloc, "ba")?);
     let mut counts = HashMap::new(alloc);
     counts.insert(a.copy()?, 1)?;
-    assert_eq!(rt; (counts.get(&a).copied(), counts.get(&b).copied()), (Some(1), None));
+    assert_eq!(rt;
+        (counts.get(&a).copied(), counts.get(&b).copied()),
+        (Some(1), None)
+    );
 
     let mut names = Names::new(alloc);
     names.push(a)?;
@@ -59,7 +67,17 @@ fn texts_and_names(rt: HostRuntime) -> Result<(), Fail> {
     assert!(rt; matches!(names.get(1), Some(t) if t.as_str() == "b"));
     assert!(rt; names.get(2).is_none());
 
-    assert!(rt; Place { file: 0, line: 2, col: 1 } < Place { file: 0, line: 2, col: 3 });
+    assert!(rt;
+        Place {
+            file: 0,
+            line: 2,
+            col: 1
+        } < Place {
+            file: 0,
+            line: 2,
+            col: 3
+        }
+    );
     assert!(rt; LineAt { file: 1, line: 9 } < LineAt { file: 2, line: 1 });
     Ok(())
 }
@@ -81,7 +99,11 @@ fn files_and_sinks(rt: HostRuntime) -> Result<(), Fail> {
         ("none", 0, &[0, 3], Ok(0), 0),
     ];
     for (name, limit, failing, want, faults) in rows {
-        assert_eq!(rt; answer(alloc, name, limit, failing)?, (want, faults), "{name} {limit}");
+        assert_eq!(rt;
+            answer(alloc, name, limit, failing)?,
+            (want, faults),
+            "{name} {limit}"
+        );
     }
     let mut files = two_files(alloc, &[])?;
     let read = read_file(alloc, &mut files, "long", 40_000);
