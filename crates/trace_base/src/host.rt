@@ -1,4 +1,5 @@
-ghost use Rattle.std.specs.Prelude.{◌≡◌, ◌≤◌, None, length, IfSome};
+ghost use Rattle.std.specs.Prelude.{◌≡◌, ◌≤◌, None, length, IfSome, IfOk, is_ok, if◌then◌else◌};
+ghost use Rattle.trace_base.specs.Device.{count_after};
 
 use crate::device::{Failed, Files, OpenFault, Sink};
 use std::fs::File;
@@ -42,7 +43,10 @@ impl<R: rt::Files + Drop> Files for HostFiles<R> {
 
     ghost faults = { λ h. h };
 
-    fn open(&mut self, name: &str) -> Result<(), OpenFault> {
+    fn open(&mut self, name: &str) -> Result<(), OpenFault>
+        ensures counted { self.new ≡ (if is_ok result then self.old else count_after self.old) }
+        ensures later { self.old ≤ self.new }
+    {
         self.open = None;
         match File::open(&self.rt, name) {
             Ok(file) => {
@@ -60,7 +64,11 @@ impl<R: rt::Files + Drop> Files for HostFiles<R> {
         }
     }
 
-    fn next(&mut self, room: &mut [u8]) -> Result<usize, Failed> {
+    fn next(&mut self, room: &mut [u8]) -> Result<usize, Failed>
+        ensures bound { IfOk result (λ n. n ≤ length room.new) }
+        ensures counted { self.new ≡ (if is_ok result then self.old else count_after self.old) }
+        ensures later { self.old ≤ self.new }
+    {
         let Some(file) = &mut self.open else {
             return Ok(0);
         };
@@ -120,7 +128,10 @@ impl<P: Print + Drop> Sink for HostSink<P> {
 
     ghost faults = { λ h. h };
 
-    fn put(&mut self, piece: &[u8]) -> Result<(), Failed> {
+    fn put(&mut self, piece: &[u8]) -> Result<(), Failed>
+        ensures counted { self.new ≡ (if is_ok result then self.old else count_after self.old) }
+        ensures later { self.old ≤ self.new }
+    {
         if write_whole(&self.out, piece) {
             return Ok(());
         }

@@ -2,7 +2,7 @@ ghost use Rattle.std.specs.Prelude.{◌≡◌, ◌↔◌, ◌<◌, [], ◌∷◌
 
 use crate::NoMemory;
 use crate::text::Text;
-use std::alloc::{AllocError, Global};
+use std::alloc::Global;
 use std::marker::Model;
 
 // A list type is written as this one, beside its items: a struct with the one field `items`, a
@@ -38,7 +38,8 @@ impl Names {
         ensures pushed { OnOk result (self.new ≡ self.old ++ item ∷ []) }
         ensures kept { OnErr result (self.new ≡ self.old) }
     {
-        self.items.push(item).map_err(|_| AllocError)
+        self.items.push(item)?;
+        Ok(())
     }
 
     /// How many names there are.

@@ -22,7 +22,12 @@ pub enum ReadFault {
 
 /// All bytes of the named file, of which there are at most `limit`. After a refusal some file may
 /// be open, but for `Missing`.
-pub fn read_file<F: Files>(alloc: Global, files: &mut F, name: &str, limit: usize) -> Result<Vec<u8>, ReadFault>
+pub fn read_file<F: Files>(
+    alloc: Global,
+    files: &mut F,
+    name: &str,
+    limit: usize,
+) -> Result<Vec<u8>, ReadFault>
     ensures whole { IfOk result (λ v. IsWhole name.now (F.holds files.old) v.items) }
     ensures within { IfOk result (λ v. vec_len v ≤ limit) }
     ensures too_long { IsErrOf result ReadFault.TooLong → IsLonger name.now (F.holds files.old) limit }

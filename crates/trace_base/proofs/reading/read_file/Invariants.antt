@@ -7,7 +7,7 @@ invariant-loop-count g l = record {
   read : IsRead l.name (g.F.Files.holds l.fn.files) l.bytes.items (g.F.Files.at l.files);
   same : g.F.Files.holds l.files ≡ g.F.Files.holds l.fn.files;
   within : vec_len l.bytes ≤ l.limit;
-  later : g.F.Files.faults l.fn.files ≤ g.F.Files.faults l.files
+  later : g.F.Files.faults l.fn.files ≤ g.F.Files.faults l.files;
 }
 
 abbrev pub decreases-loop-count : goal.decreases-loop-count
