@@ -1,0 +1,9 @@
+pub mod EvalLemmas
+pub mod FormLemmas
+pub mod Fronts
+pub mod JsonLemmas
+pub mod JudgeLemmas
+pub mod LogLemmas
+pub mod ModuleLemmas
+pub mod NameLemmas
+pub mod SpellsLemmas

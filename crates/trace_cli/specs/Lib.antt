@@ -1,0 +1,10 @@
+pub mod Names
+pub mod Words
+pub mod Module
+pub mod Lines
+pub mod Log
+pub mod Form
+pub mod Evaluates
+pub mod Report
+pub mod Run
+pub mod Codes

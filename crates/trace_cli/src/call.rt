@@ -1,0 +1,61 @@
+ghost use Rattle.std.specs.Prelude.{◌≡◌, ◌≢◌, ◌⊎◌, ◌≤◌};
+ghost use Rattle.trace_base.specs.Device.{Rose};
+ghost use Rattle.trace_cli.specs.Words.{words_of};
+ghost use Rattle.trace_cli.specs.Codes.{code_of};
+ghost use Rattle.trace_cli.specs.Run.{HoldsReport, HoldsPart};
+
+use crate::judge::{Stop, judge};
+use std::alloc::Global;
+use trace_base::{Files, Sink};
+
+/// How a call ended.
+#[derive(Clone, Copy, Debug, Drop, PartialEq, Eq)]
+pub enum Status {
+    /// The log is explained.
+    Done,
+    /// The log is not explained, or no state can be the first.
+    Not,
+    /// The words are of no form.
+    Words,
+    /// A file was refused, missing or too long.
+    Reading,
+    /// An evaluation faults.
+    Evaluation,
+    /// A limit of layers was passed.
+    Limit,
+    /// A call on the files or on the sink failed.
+    Device,
+    /// Want of memory.
+    Memory,
+}
+
+impl Status {
+    /// The exit status of the program, from 0 to 7.
+    pub fn code(&self) -> u8
+        ensures { result ≡ code_of self.now }
+    {
+        *self as u8
+    }
+}
+
+/// Does what the words say, and writes the report.
+///
+/// Want of memory may come at any time; then, and where the sink fails, a first part of the report may have been written.
+pub fn run<F: Files, S: Sink>(alloc: Global, words: &[String], files: &mut F, out: &mut S) -> Status
+    ensures report { result ≢ Status.Device → result ≢ Status.Memory
+        → HoldsReport (words_of words.now) (F.holds files.old) (F.faults files.old) (F.faults files.new) result (S.written out.old) (S.written out.new) }
+    ensures part { HoldsPart (words_of words.now) (F.holds files.old) (F.faults files.old) (F.faults files.new) (S.written out.old) (S.written out.new) }
+    ensures device { result ≡ Status.Device → Rose (F.faults files.old) (F.faults files.new) ⊎ Rose (S.faults out.old) (S.faults out.new) }
+    ensures same { F.holds files.new ≡ F.holds files.old }
+    ensures files_later { F.faults files.old ≤ F.faults files.new }
+    ensures out_later { S.faults out.old ≤ S.faults out.new }
+{
+    match judge(alloc, words, files) {
+        Ok(judged) => match out.put(judged.report.as_bytes()) {
+            Ok(()) => judged.status,
+            Err(_) => Status::Device,
+        },
+        Err(Stop::Device) => Status::Device,
+        Err(Stop::NoMemory) => Status::Memory,
+    }
+}

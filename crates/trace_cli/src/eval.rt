@@ -1,0 +1,46 @@
+ghost use Rattle.std.specs.Prelude.{◌≡◌};
+ghost use Rattle.trace_cli.specs.Evaluates.{ReadsAtom, Evaluates, in_range};
+
+use tla_core::{Atom, EvalKind, Fault, State, Term};
+use trace_base::Place;
+
+/// The value of the term in the state, or its fault, or nothing where the state lacks an integer.
+pub fn evaluate(term: Term, state: &State) -> Option<Result<i64, Fault>>
+    ensures { Evaluates state.now term result }
+{
+    match term {
+        Term::Atom(atom) => Some(Ok(read_atom(atom, state)?)),
+        Term::Add(left, right, at) => {
+            let left = read_atom(left, state)?;
+            let right = read_atom(right, state)?;
+            Some(in_range(left.checked_add(right), at))
+        }
+        Term::Subtract(left, right, at) => {
+            let left = read_atom(left, state)?;
+            let right = read_atom(right, state)?;
+            Some(in_range(left.checked_sub(right), at))
+        }
+    }
+}
+
+pub fn read_atom(atom: Atom, state: &State) -> Option<i64>
+    ensures { ReadsAtom state.now atom result }
+{
+    match atom {
+        Atom::Variable => state.get(0)?.as_int(),
+        Atom::Number(number) => Some(number),
+    }
+}
+
+/// The result of an operation at that place, or its overflow.
+fn in_range(value: Option<i64>, at: Place) -> Result<i64, Fault>
+    ensures { result ≡ in_range value at }
+{
+    match value {
+        Some(value) => Ok(value),
+        None => Err(Fault {
+            kind: EvalKind::Overflow,
+            at,
+        }),
+    }
+}

@@ -1,0 +1,15 @@
+//! The top call: from words and files to a report and a status.
+#![tactic(auto)]
+
+mod answer_report;
+mod call;
+mod eval;
+mod judge;
+mod log;
+mod module;
+mod report;
+mod seen;
+mod steps;
+mod words;
+
+pub use call::{Status, run};
