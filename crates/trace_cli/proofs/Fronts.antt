@@ -44,6 +44,6 @@ passes_more p x xs holds h =
 pub run_passes : (p : ℕ → Bool) (xs : List ℕ) → list_all p (take (prefix_len p xs) xs) ≡ true
 run_passes p [] = refl
 run_passes p (x ∷ xs) = elim (cases_Bool (p x)) [
-    inl holds ↦ rw (cond-true (p x) (1 + prefix_len p xs) 0 holds) (passes_more p x xs holds (run_passes p xs))
+  | inl holds ↦ rw (cond-true (p x) (1 + prefix_len p xs) 0 holds) (passes_more p x xs holds (run_passes p xs))
   | inr fails ↦ rw (cond-false (p x) (1 + prefix_len p xs) 0 fails) refl
-  ]
+]

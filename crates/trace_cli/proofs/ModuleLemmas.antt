@@ -1,5 +1,5 @@
 -- The parts of six lines are the only ones.
-use Rattle.std.proofs.Common.{◌≡◌, ◌≢◌, ◌⊎◌, inl, inr, ◌∙◌, sym, ap, refl, ℕ, ◌+◌, ◌-◌, ◌*◌, ◌<◌, ◌≤◌, ◌==◌, not, Bool, true, false, List, [], ◌∷◌, ◌++◌, length, get_or, take, drop, arith}
+use Rattle.std.proofs.Common.{◌≡◌, ◌≢◌, ◌⊎◌, inl, inr, ◌∙◌, sym, ap, refl, ℕ, ◌+◌, ◌-◌, ◌*◌, ◌<◌, ◌≤◌, ◌==◌, not, Bool, true, List, [], ◌∷◌, ◌++◌, length, get_or, take, drop, arith}
 use Rattle.std.specs.Prelude.{codes}
 use Rattle.std.specs.List.{fold, list_all, prefix_len}
 use Rattle.std.proofs.lemmas.List.Sums.{fold-append, fold_more}
@@ -32,7 +32,7 @@ pub variable_of : (name text r : List ℕ) → text ≡ head name r
     → (n : ℕ) (x s : List ℕ) → n ≡ prefix_len is_name_byte r → x ≡ take n r → s ≡ drop n r → Variable name text x s
 variable_of name text r e n x s len front back y i w m =
     let rest = same_behind (codes "---- MODULE ") name (codes " ----\nEXTENDS Integers\nVARIABLE ") r
-      (y ++ init_line y (i ++ next_line y (w ++ m.end))) (sym e ∙ m.lines) in
+    (y ++ init_line y (i ++ next_line y (w ++ m.end))) (sym e ∙ m.lines) in
     run_is is_name_byte refl r y _ rest m.name_bytes n x s len front back
 
 pub initial_of : (name text x b r : List ℕ) → Variable name text x b → b ≡ init_line x r
@@ -40,7 +40,7 @@ pub initial_of : (name text x b r : List ℕ) → Variable name text x b → b �
 initial_of name text x b r known e n i s len front back y j w m =
     let k = known y j w m in
     let rest = same_behind (codes "\nInit == ") y (codes " = ") r (j ++ next_line y (w ++ m.end))
-      (ap (λ (z : List ℕ). init_line z r) (sym k.0) ∙ sym e ∙ k.1) in
+    (ap (λ (z : List ℕ). init_line z r) (sym k.0) ∙ sym e ∙ k.1) in
     let run = run_is is_digit refl r j _ rest m.digits n i s len front back in
     (k.0, run.0, run.1)
 
@@ -53,7 +53,7 @@ pub whole_of : (name text x i b r : List ℕ) → Initial name text x i b → b 
 whole_of name text x i b r known e n w s len front back y j v m =
     let k = known y j v m in
     let rest = same_behind (codes "\nNext == ") y (codes "' = ") r (v ++ m.end)
-      (ap (λ (z : List ℕ). next_line z r) (sym k.0) ∙ sym e ∙ k.2) in
+    (ap (λ (z : List ℕ). next_line z r) (sym k.0) ∙ sym e ∙ k.2) in
     let end = end_begins m.end m.end_is in
     let run = run_is (λ c. not (c == 10)) refl r v end.0 (rest ∙ ap (λ (t : List ℕ). v ++ t) end.1) m.one_line n w s len front back in
     (k.0, k.1, run.0, run.1 ∙ sym end.1)
@@ -95,8 +95,8 @@ lines_of name text x b i d w end r s t heading n nlen nfront nback init k klen k
   end = end;
   end_is = last;
   lines = heading ∙ ap (head name) (joined n r x b nfront nback
-    ∙ ap (λ (z : List ℕ). x ++ z) (init ∙ ap (init_line x) (joined k s i d kfront kback
-    ∙ ap (λ (z : List ℕ). i ++ z) (next ∙ ap (next_line x) (joined l t w end lfront lback)))));
+      ∙ ap (λ (z : List ℕ). x ++ z) (init ∙ ap (init_line x) (joined k s i d kfront kback
+      ∙ ap (λ (z : List ℕ). i ++ z) (next ∙ ap (next_line x) (joined l t w end lfront lback)))));
 }
 
 -- the number of a run of digits grows with the run
@@ -109,5 +109,5 @@ value_more ds i l =
     let step : ℕ → ℕ → ℕ = λ v d. v * 10 + (d - 48) in
     let one = fold_more step 0 ds i 0 l in
     let all : value_of ds ≡ fold step (value_of (take (i + 1) ds)) (drop (i + 1) ds) =
-      ap (fold step 0) (sym (take-append-drop (i + 1) ds)) ∙ fold-append step 0 (take (i + 1) ds) (drop (i + 1) ds) in
+    ap (fold step 0) (sym (take-append-drop (i + 1) ds)) ∙ fold-append step 0 (take (i + 1) ds) (drop (i + 1) ds) in
     omega (arith, one, all, value_grows (value_of (take (i + 1) ds)) (drop (i + 1) ds))

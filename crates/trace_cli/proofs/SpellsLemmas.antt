@@ -1,5 +1,5 @@
 -- A module's text is its six lines.
-use Rattle.std.proofs.Common.{◌≡◌, ◌≢◌, ◌⊎◌, inl, inr, ◌∙◌, sym, ap, refl, ℕ, ◌+◌, ◌<◌, ◌≤◌, ◌==◌, not, Bool, true, false, List, [], ◌∷◌, ◌++◌, length, get_or, Option, Some, None, ℤ, arith}
+use Rattle.std.proofs.Common.{◌≡◌, ◌≢◌, inl, inr, ◌∙◌, sym, ap, refl, ℕ, ◌<◌, ◌≤◌, ◌==◌, not, Bool, true, false, List, [], ◌∷◌, ◌++◌, length, get_or, Option, Some, None, ℤ, arith}
 use Rattle.std.specs.Prelude.{MatchOption, IsUtf8, codes}
 use Rattle.std.specs.List.{list_all}
 use Rattle.std.specs.Str.{IsAscii}
@@ -29,9 +29,9 @@ passes_too p q then (x ∷ xs) h =
 
 no_feed : (p : ℕ → Bool) → p 10 ≡ false → (b : ℕ) → p b ≡ true → not (b == 10) ≡ true
 no_feed p fails b h = elim (cases_eq b 10) [
-    inl same ↦ absurd (false≢true (sym fails ∙ ap p (sym same) ∙ h))
+  | inl same ↦ absurd (false≢true (sym fails ∙ ap p (sym same) ∙ h))
   | inr other ↦ ap not (ne_eqb b 10 other)
-  ]
+]
 
 name_line : (x : List ℕ) → is_name x ≡ true → list_all (λ b. not (b == 10)) x ≡ true
 name_line x h = passes_too is_name_byte (λ b. not (b == 10)) (no_feed is_name_byte refl) x (spelled x h)
@@ -60,9 +60,9 @@ spelled_lines name spec text m = record {
   one_line = right_line spec.variable spec.next m.right m.variable.named m.right_is;
   end = codes "\n====" ++ m.end;
   end_is = elim m.end_is [
-      inl e ↦ inl (ap (λ (s : List ℕ). codes "\n====" ++ s) e)
+    | inl e ↦ inl (ap (λ (s : List ℕ). codes "\n====" ++ s) e)
     | inr e ↦ inr (ap (λ (s : List ℕ). codes "\n====" ++ s) e)
-    ];
+  ];
   lines = m.lines;
 }
 
@@ -70,15 +70,27 @@ spelled_lines name spec text m = record {
 pub spells : (name x i w text : List ℕ) → AreLines name x i w text → IsVariable x → (z : ℤ) → IsNumeral i z → (t : Term) → IsRight x t w
     → Spells name (record { variable = x; init = z; next = t }) text
 spells name x i w text a v z n t r = elim a.end_is [
-    inl e ↦ record {
-      variable = v; init = i; init_is = n; right = w; right_is = r; end = []; end_is = inl refl;
-      lines = a.lines ∙ ap (λ (s : List ℕ). head name (x ++ init_line x (i ++ next_line x (w ++ s)))) e;
-    }
+  | inl e ↦ record {
+    variable = v;
+    init = i;
+    init_is = n;
+    right = w;
+    right_is = r;
+    end = [];
+    end_is = inl refl;
+    lines = a.lines ∙ ap (λ (s : List ℕ). head name (x ++ init_line x (i ++ next_line x (w ++ s)))) e;
+  }
   | inr e ↦ record {
-      variable = v; init = i; init_is = n; right = w; right_is = r; end = 10 ∷ []; end_is = inr refl;
-      lines = a.lines ∙ ap (λ (s : List ℕ). head name (x ++ init_line x (i ++ next_line x (w ++ s)))) e;
-    }
-  ]
+    variable = v;
+    init = i;
+    init_is = n;
+    right = w;
+    right_is = r;
+    end = 10 ∷ [];
+    end_is = inr refl;
+    lines = a.lines ∙ ap (λ (s : List ℕ). head name (x ++ init_line x (i ++ next_line x (w ++ s)))) e;
+  }
+]
 
 -- the variable is no longer than the text
 pub variable_fits : (name x i w text : List ℕ) → AreLines name x i w text → length x ≤ length text
@@ -95,9 +107,9 @@ small b h = grind (arith, nat_tests)
 
 ascii : (x : List ℕ) → is_name x ≡ true → IsAscii x
 ascii x h i = elim (cases_lt i (length x)) [
-    inl within ↦ small (get_or x i 0) (name_at x i h within)
+  | inl within ↦ small (get_or x i 0) (name_at x i h within)
   | inr past ↦ rw (get_or_past x i 0 past) (omega arith)
-  ]
+]
 
 -- names are text
 pub name_utf8 : (x : List ℕ) → is_name x ≡ true → IsUtf8 x

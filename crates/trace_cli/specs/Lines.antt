@@ -1,5 +1,5 @@
 -- The six lines of a module of the first form, by the parts that differ from module to module.
-use Rattle.std.specs.Prelude.{◌≡◌, ◌⊎◌, ◌==◌, ℕ, List, [], ◌∷◌, ◌++◌, IsTrue, codes, not}
+use Rattle.std.specs.Prelude.{◌≡◌, ◌⊎◌, ◌==◌, ℕ, List, ◌++◌, IsTrue, codes, not}
 use Rattle.std.specs.List.{list_all}
 use Rattle.trace_cli.specs.Names.{is_digit, is_name_byte}
 
@@ -12,5 +12,5 @@ pub record AreLines (name x init right text : List ℕ) : Type 0 where
   pub end : List ℕ
   pub end_is : (end ≡ codes "\n====") ⊎ (end ≡ codes "\n====\n")
   pub lines : text ≡ codes "---- MODULE " ++ (name ++ (codes " ----\nEXTENDS Integers\nVARIABLE " ++ (x
-    ++ (codes "\nInit == " ++ (x ++ (codes " = " ++ (init ++ (codes "\nNext == " ++ (x
-    ++ (codes "' = " ++ (right ++ end)))))))))))
+      ++ (codes "\nInit == " ++ (x ++ (codes " = " ++ (init ++ (codes "\nNext == " ++ (x
+      ++ (codes "' = " ++ (right ++ end)))))))))))

@@ -12,6 +12,7 @@ use tla_core::{Atom, Spec, Term};
 use trace_base::{Place, Text};
 
 const MAX_NUMBER: u64 = 1_000_000_000;
+
 const MAX_DIGITS: usize = 19;
 
 /// What stands in the three places of the six lines that differ from module to module.
@@ -74,7 +75,12 @@ fn cut_lines<'a>(name: &[u8], text: &'a [u8]) -> Option<Parts<'a>>
     ensures only { IfSome result (λ p. (x init right : List ℕ) → AreLines name.now x init right text.now
         → (p.variable.now ≡ x) × (p.init.now ≡ init) × (p.right.now ≡ right)) }
 {
-    let first = after(text, b"---- MODULE ", name, b" ----\nEXTENDS Integers\nVARIABLE ")?;
+    let first = after(
+        text,
+        b"---- MODULE ",
+        name,
+        b" ----\nEXTENDS Integers\nVARIABLE ",
+    )?;
     let (variable, behind_variable) = first.split_at(name_len(first));
     let second = after(behind_variable, b"\nInit == ", variable, b" = ")?;
     let (init, behind_init) = second.split_at(digits_len(second));
@@ -149,7 +155,10 @@ fn is_variable(name: &[u8]) -> bool
 fn is_taken(name: &[u8]) -> bool
     ensures { IsTrue result ↔ ((name.now ≡ codes "Init") ⊎ ((name.now ≡ codes "Next") ⊎ ((name.now ≡ codes "Nat") ⊎ (name.now ≡ codes "Int")))) }
 {
-    name == b"Init".as_slice() || name == b"Next".as_slice() || name == b"Nat".as_slice() || name == b"Int".as_slice()
+    name == b"Init".as_slice()
+        || name == b"Next".as_slice()
+        || name == b"Nat".as_slice()
+        || name == b"Int".as_slice()
 }
 
 /// The number that these digits spell, if it is small enough.
@@ -233,8 +242,16 @@ mod tests {
     use super::*;
     use std::test::Fail;
 
-    fn module_text(alloc: Global, variable: &str, init: &str, next: &str, end: &str) -> Result<String, AllocError> {
-        format!(in alloc; "---- MODULE M ----\nEXTENDS Integers\nVARIABLE {variable}\nInit == {init}\nNext == {next}\n===={end}")
+    fn module_text(
+        alloc: Global,
+        variable: &str,
+        init: &str,
+        next: &str,
+        end: &str,
+    ) -> Result<String, AllocError> {
+        format!(in alloc;
+            "---- MODULE M ----\nEXTENDS Integers\nVARIABLE {variable}\nInit == {init}\nNext == {next}\n===={end}"
+        )
     }
 
     fn read(alloc: Global, name: &str, text: &str) -> Result<Option<Spec>, AllocError> {
@@ -246,7 +263,9 @@ mod tests {
 
     fn is_spec(found: Option<Spec>, variable: &str, init: i64, next: Term) -> bool {
         match found {
-            Some(spec) => spec.variable.as_str() == variable && spec.init == init && spec.next == next,
+            Some(spec) => spec.variable.as_str() == variable
+                && spec.init == init
+                && spec.next == next,
             None => false,
         }
     }
@@ -254,17 +273,45 @@ mod tests {
     #[test]
     fn modules_are_read(rt: HostRuntime) -> Result<(), Fail> {
         let alloc = rt.alloc();
-        let at = |col: u32| Place { file: 0, line: 5, col };
+        let at = |col: u32| Place {
+            file: 0,
+            line: 5,
+            col,
+        };
         let taken = [
             ("x", "x = 0", "x' = x", "", 0, Term::Atom(Atom::Variable)),
             ("x", "x = 7", "x' = 0", "\n", 7, Term::Atom(Atom::Number(0))),
-            ("x", "x = 1000000000", "x' = x + 1", "", 1_000_000_000, Term::Add(Atom::Variable, Atom::Number(1), at(16))),
-            ("Inits", "Inits = 007", "Inits' = Inits - 10", "\n", 7, Term::Subtract(Atom::Variable, Atom::Number(10), at(24))),
-            ("_a1", "_a1 = 0000000000000000000", "_a1' = 1000000000", "", 0, Term::Atom(Atom::Number(1_000_000_000))),
+            (
+                "x",
+                "x = 1000000000",
+                "x' = x + 1",
+                "",
+                1_000_000_000,
+                Term::Add(Atom::Variable, Atom::Number(1), at(16)),
+            ),
+            (
+                "Inits",
+                "Inits = 007",
+                "Inits' = Inits - 10",
+                "\n",
+                7,
+                Term::Subtract(Atom::Variable, Atom::Number(10), at(24)),
+            ),
+            (
+                "_a1",
+                "_a1 = 0000000000000000000",
+                "_a1' = 1000000000",
+                "",
+                0,
+                Term::Atom(Atom::Number(1_000_000_000)),
+            ),
         ];
         for (variable, init, next, end, number, term) in taken {
             let text = module_text(alloc, variable, init, next, end)?;
-            assert!(rt; is_spec(read(alloc, "M", text.as_str())?, variable, number, term), "{text}");
+            assert!(rt;
+                is_spec(read(alloc, "M", text.as_str())?, variable, number, term),
+                "{text}"
+            );
             assert!(rt; read(alloc, "N", text.as_str())?.is_none(), "{text}");
         }
         let refused = [
@@ -299,7 +346,14 @@ mod tests {
             let text = module_text(alloc, variable, init, next, end)?;
             assert!(rt; read(alloc, "M", text.as_str())?.is_none(), "{text}");
         }
-        assert!(rt; read(alloc, "M", "---- MODULE M ----\nEXTENDS Integers\nVARIABLE x\nInit == x = 0\nNext == x' = x\n")?.is_none());
+        assert!(rt;
+            read(
+                alloc,
+                "M",
+                "---- MODULE M ----\nEXTENDS Integers\nVARIABLE x\nInit == x = 0\nNext == x' = x\n"
+            )?
+            .is_none()
+        );
         assert!(rt; read(alloc, "M", "")?.is_none());
         Ok(())
     }

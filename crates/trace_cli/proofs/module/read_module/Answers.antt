@@ -1,4 +1,3 @@
-use Rattle.std.proofs.Common.{◌≡◌, List, ℕ}
 use Rattle.trace_cli.proofs.SpellsLemmas.{name_utf8}
 use Rattle.trace_cli.proofs.module.read_module.Goals as goal
 
