@@ -7,3 +7,6 @@ mod state;
 pub use fault::Fault;
 pub use state::{Behaviour, Mark, Shown, State, StateList};
 pub use tla_values::EvalKind;
+
+#[cfg(test)]
+mod tests;
