@@ -37,7 +37,11 @@ fn number_of(state: &State) -> i64 {
 // the marks and states behind each other, turned round
 fn tell_reversed(alloc: Global) -> Result<String, AllocError> {
     let mut behaviour = Behaviour::new(alloc);
-    let marks = [(Mark::Init, 0), (Mark::Silent, 1), (Mark::Line(LineAt { file: 2, line: 7 }), 2)];
+    let marks = [
+        (Mark::Init, 0),
+        (Mark::Silent, 1),
+        (Mark::Line(LineAt { file: 2, line: 7 }), 2),
+    ];
     for (mark, number) in marks {
         behaviour.push(Shown {
             mark,
@@ -48,7 +52,11 @@ fn tell_reversed(alloc: Global) -> Result<String, AllocError> {
     let mut text = String::new(alloc);
     for index in 0..4 {
         match behaviour.get(index) {
-            Some(shown) => text.push_str(format!(in alloc; "{:?} {} ", shown.mark, number_of(&shown.state))?.as_str())?,
+            Some(shown) => text.push_str(format!(in alloc;
+                "{:?} {} ",
+                shown.mark,
+                number_of(&shown.state)
+            )?.as_str())?,
             None => text.push_str("none")?,
         }
     }
@@ -84,10 +92,16 @@ fn states(rt: HostRuntime) {
         (&[1], &[1, 2], false),
     ];
     for (one, other, expected) in cases {
-        assert!(rt; is_copy(alloc, one, other) == Ok(expected), "{one:?} {other:?}");
+        assert!(rt;
+            is_copy(alloc, one, other) == Ok(expected),
+            "{one:?} {other:?}"
+        );
     }
     let told = tell_reversed(alloc);
-    assert!(rt; told.is_ok_and(|text| text.as_str() == "Line(LineAt { file: 2, line: 7 }) 2 Silent 1 Init 0 none"));
+    assert!(rt;
+        told.is_ok_and(|text| text.as_str()
+            == "Line(LineAt { file: 2, line: 7 }) 2 Silent 1 Init 0 none")
+    );
     let listed = tell_list(alloc);
     assert!(rt; listed.is_ok_and(|text| text.as_str() == "2 6 5 6 5 6"));
 }
