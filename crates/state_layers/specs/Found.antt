@@ -18,7 +18,7 @@ IsDistinct xs = AllPairs (λ a b. a ≢ b) xs
 -- The state is added at the end where it is not there; else nothing changes.
 abbrev pub AddsNew : List Found → Values → ℕ → List Found → Type 0
 AddsNew old s from now = (Contains (states_of old) s × (now ≡ old))
-  ⊎ ((Contains (states_of old) s → ⊥) × (now ≡ old ++ found s from ∷ []))
+    ⊎ ((Contains (states_of old) s → ⊥) × (now ≡ old ++ found s from ∷ []))
 
 -- States of the list that were not there are added, each once; and where there are at most `most` at the end, all of them.
 pub record Merged (old : List Found) (list : List Values) (from most : ℕ) (now : List Found) : Type 0 where

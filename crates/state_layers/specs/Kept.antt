@@ -50,7 +50,7 @@ mark_at y n j = mark_of y j n
 pub data Linked (y : System Values) (nodes : List Node) : Node → Type 0 where
   begins : (s : Values) (k : ℕ) → y.Init s → y.InitSeen s → Linked y nodes (node 0 0 s k)
   moves : (x : Node) (move : Move) (s : Values) (k : ℕ) → slice_get nodes k ≡ Some x → IsSource move x.line x.silents → IsOpen y move
-    → Moves y move x.state s → Linked y nodes (node (line_after move) (silents_after move) s k)
+      → Moves y move x.state s → Linked y nodes (node (line_after move) (silents_after move) s k)
 
 -- Each node is so linked to one that stands before it.
 abbrev pub AllLinked : System Values → List Node → Type 0
@@ -97,4 +97,4 @@ pub record IsBehind (y : System Values) (move : Move) (old now : List Node) : Ty
 -- Put behind any run that ends in the i-th node, the states, which stand last first, make a run that ends in the last node.
 abbrev pub IsBack : System Values → List Node → ℕ → ℕ → List Shown → Type 0
 IsBack y nodes last i states = (x z : Node) (w : List Shown) → slice_get nodes last ≡ Some x → slice_get nodes i ≡ Some z
-  → Run y z.line z.silents z.state w → Run y x.line x.silents x.state (w ++ reverse states)
+    → Run y z.line z.silents z.state w → Run y x.line x.silents x.state (w ++ reverse states)
