@@ -32,7 +32,7 @@ node_layer y n j nodes l i x e = (l.are.members (entry_of x) (in_map entry_of no
 pub comes_layer : (y : System Values) (move : Move) (nodes : List Node) (f : Found) → IsOpen y move
     → IsList (Upto y (line_of move) (silents_of y move)) (entries nodes) → Comes y move nodes f → Layer y (line_after move) (silents_after move) f.state
 comes_layer y move nodes f o l c = into y move c.node.line c.node.silents c.node.state f.state o c.source
-  (node_layer y (line_of move) (silents_of y move) nodes l f.from c.node c.at) c.step
+    (node_layer y (line_of move) (silents_of y move) nodes l f.from c.node c.at) c.step
 
 pub part_are : (y : System Values) (move : Move) (nodes : List Node) (layer : List Found) → IsOpen y move
     → IsList (Upto y (line_of move) (silents_of y move)) (entries nodes) → Part y move nodes layer
@@ -40,7 +40,7 @@ pub part_are : (y : System Values) (move : Move) (nodes : List Node) (layer : Li
 part_are y move nodes layer o l p = record {
   distinct = p.distinct;
   members = λ s h. let r = map_in (λ (f : Found). f.state) layer s h in
-    subst (λ (z : Values). Layer y (line_after move) (silents_after move) z) r.2 (comes_layer y move nodes r.0 o l (p.comes r.0 r.1))
+      subst (λ (z : Values). Layer y (line_after move) (silents_after move) z) r.2 (comes_layer y move nodes r.0 o l (p.comes r.0 r.1));
 }
 
 not_yet : (y : System Values) (move : Move) → IsUpto (line_of move) (silents_of y move) (line_after move) (silents_after move) → ⊥
@@ -53,14 +53,15 @@ pub together : (y : System Values) (move : Move) (nodes : List Node) (xs : List 
     → AreOf (Upto y (line_after move) (silents_after move)) (entries nodes ++ at_layer (line_after move) (silents_after move) xs)
 together y move nodes xs l a = record {
   distinct = distinct_append (entries nodes) (at_layer (line_after move) (silents_after move) xs) l.are.distinct
-    (distinct_map (entry (line_after move) (silents_after move)) (λ s t e. ap (λ (p : Entry Values). p.member) e) xs a.distinct)
-    (λ p old new. let r = map_in (entry (line_after move) (silents_after move)) xs p new in
+      (distinct_map (entry (line_after move) (silents_after move)) (λ s t e. ap (λ (p : Entry Values). p.member) e) xs a.distinct)
+      (λ p old new. let r = map_in (entry (line_after move) (silents_after move)) xs p new in
       not_yet y move (subst (λ (z : Entry Values). IsUpto (line_of move) (silents_of y move) z.line z.silents) (sym r.2) (l.are.members p old).upto));
   members = λ p h. elim (in_append (entries nodes) (at_layer (line_after move) (silents_after move) xs) p h) [
-      inl old ↦ upto_old y move p (l.are.members p old)
+    | inl old ↦ upto_old y move p (l.are.members p old)
     | inr new ↦ (let r = map_in (entry (line_after move) (silents_after move)) xs p new in
         subst (λ (z : Entry Values). Upto y (line_after move) (silents_after move) z) r.2
-          (record { layer = a.members r.0 r.1; upto = inr (refl, omega arith) })) ]
+        (record { layer = a.members r.0 r.1; upto = inr (refl, omega arith) }))
+  ];
 }
 
 pub together_list : (y : System Values) (move : Move) (nodes : List Node) (xs : List Values) → 1 ≤ y.within
@@ -69,18 +70,19 @@ pub together_list : (y : System Values) (move : Move) (nodes : List Node) (xs : 
 together_list y move nodes xs one l a = record {
   are = together y move nodes xs l a.are;
   all = λ p u. elim (upto_new y move p one u) [
-      inl old ↦ in_left (entries nodes) (at_layer (line_after move) (silents_after move) xs) p (l.all p old)
+    | inl old ↦ in_left (entries nodes) (at_layer (line_after move) (silents_after move) xs) p (l.all p old)
     | inr e ↦ in_right (entries nodes) (at_layer (line_after move) (silents_after move) xs) p
         (let here : Layer y (line_after move) (silents_after move) p.member =
-           subst (λ (k : ℕ). Layer y (line_after move) k p.member) e.1 (subst (λ (m : ℕ). Layer y m p.silents p.member) e.0 u.layer) in
-         let q : entry (line_after move) (silents_after move) p.member ≡ p = same p (line_after move) (silents_after move) e.0 e.1 in
-         subst (λ (z : Entry Values). Contains (at_layer (line_after move) (silents_after move) xs) z) q
-           (in_map (entry (line_after move) (silents_after move)) xs p.member (a.all p.member here))) ]
+        subst (λ (k : ℕ). Layer y (line_after move) k p.member) e.1 (subst (λ (m : ℕ). Layer y m p.silents p.member) e.0 u.layer) in
+        let q : entry (line_after move) (silents_after move) p.member ≡ p = same p (line_after move) (silents_after move) e.0 e.1 in
+        subst (λ (z : Entry Values). Contains (at_layer (line_after move) (silents_after move) xs) z) q
+        (in_map (entry (line_after move) (silents_after move)) xs p.member (a.all p.member here)))
+  ];
 }
   where
-  same : (p : Entry Values) (n j : ℕ) → p.line ≡ n → p.silents ≡ j → entry n j p.member ≡ p
-  same p n j e f = let g : entry p.line p.silents p.member ≡ p = refl in
-    subst (λ (m : ℕ). entry m j p.member ≡ p) e (subst (λ (k : ℕ). entry p.line k p.member ≡ p) f g)
+    same : (p : Entry Values) (n j : ℕ) → p.line ≡ n → p.silents ≡ j → entry n j p.member ≡ p
+    same p n j e f = let g : entry p.line p.silents p.member ≡ p = refl in
+        subst (λ (m : ℕ). entry m j p.member ≡ p) e (subst (λ (k : ℕ). entry p.line k p.member ≡ p) f g)
 
 -- one state's steps are merged in
 pub part_step : (y : System Values) (move : Move) (nodes : List Node) (old now : List Found) (list : List Values) (i most : ℕ) (x : Node)
@@ -88,8 +90,10 @@ pub part_step : (y : System Values) (move : Move) (nodes : List Node) (old now :
     → Part y move nodes old → Part y move nodes now
 part_step y move nodes old now list i most x at src e m p = record {
   distinct = m.distinct p.distinct;
-  comes = λ f h. elim (m.new f h) [ inl a ↦ p.comes f a
-    | inr b ↦ record { node = x; at = subst (λ (k : ℕ). slice_get nodes k ≡ Some x) (sym b.0) at; source = src; step = e.list.are.members f.state b.1 } ]
+  comes = λ f h. elim (m.new f h) [
+    | inl a ↦ p.comes f a
+    | inr b ↦ record { node = x; at = subst (λ (k : ℕ). slice_get nodes k ≡ Some x) (sym b.0) at; source = src; step = e.list.are.members f.state b.1 }
+  ];
 }
 
 pub growing_nil : (y : System Values) (move : Move) (nodes : List Node) (from : ℕ) → length nodes ≤ y.total → Growing y move nodes from from []
@@ -98,7 +102,7 @@ growing_nil y move nodes from le = record {
   all = λ k x t at a b h. absurd (omega arith);
   clear = λ k x t f at a b h seen. absurd (omega arith);
   limit = omega arith;
-  total = omega arith
+  total = omega arith;
 }
 
 pub growing_step : (y : System Values) (move : Move) (nodes : List Node) (from i : ℕ) (old now : List Found) (list : List Values) (most : ℕ) (x : Node)
@@ -108,31 +112,38 @@ pub growing_step : (y : System Values) (move : Move) (nodes : List Node) (from i
 growing_step y move nodes from i old now list most x at src e m g lim tot le = record {
   part = part_step y move nodes old now list i most x at src e m g.part;
   all = λ k z t here a b h. elim (below k i b) [
-      inl c ↦ m.kept t (g.all k z t here a c h)
+    | inl c ↦ m.kept t (g.all k z t here a c h)
     | inr c ↦ (let same : z ≡ x = get_same nodes i z x (subst (λ (n : ℕ). slice_get nodes n ≡ Some z) c here) at in
-        m.all le t (e.list.all t (subst (λ (n : Node). Moves y move n.state t) same h))) ];
+        m.all le t (e.list.all t (subst (λ (n : Node). Moves y move n.state t) same h)))
+  ];
   clear = λ k z t f here a b h seen. elim (below k i b) [
-      inl c ↦ g.clear k z t f here a c h seen
+    | inl c ↦ g.clear k z t f here a c h seen
     | inr c ↦ (let same : z ≡ x = get_same nodes i z x (subst (λ (n : ℕ). slice_get nodes n ≡ Some z) c here) at in
-        e.clear t f (subst (λ (n : Node). MoveFaults y move n.state t f) same h) (subst (λ (n : Node). MoveSeen y move n.state t) same seen)) ];
+        e.clear t f (subst (λ (n : Node). MoveFaults y move n.state t f) same h) (subst (λ (n : Node). MoveSeen y move n.state t) same seen))
+  ];
   limit = lim;
-  total = tot
+  total = tot;
 }
   where
-  below : (k i : ℕ) → k < i + 1 → (k < i) ⊎ (k ≡ i)
-  below k i h = grind arith
+    below : (k i : ℕ) → k < i + 1 → (k < i) ⊎ (k ≡ i)
+    below k i h = grind arith
 
 -- where a source state stands
 source_at : (y : System Values) (move : Move) (nodes : List Node) (from : ℕ) → 1 ≤ y.within → IsRange move nodes from
     → IsList (Upto y (line_of move) (silents_of y move)) (entries nodes) → (m k : ℕ) (s : Values) → IsSource move m k → Layer y m k s
     → (i : ℕ) × (x : Node) × (slice_get nodes i ≡ Some x) × (from ≤ i) × (i < length nodes) × (x.state ≡ s)
 source_at y move nodes from one range l m k s src h =
-  let r = map_in entry_of nodes (entry m k s) (l.all (entry m k s) (upto_source y move m k s one src h)) in
-  let g = in_get nodes r.0 r.1 in
-  let line : r.0.line ≡ m = ap (λ (p : Entry Values). p.line) r.2 in
-  let silents : r.0.silents ≡ k = ap (λ (p : Entry Values). p.silents) r.2 in
-  (g.0, r.0, g.1, (range g.0 r.0 g.1).1 (subst (λ (a : ℕ). IsSource move r.0.line a) (sym silents) (subst (λ (a : ℕ). IsSource move a k) (sym line) src)),
-   get_below nodes g.0 r.0 g.1, ap (λ (p : Entry Values). p.member) r.2)
+    let r = map_in entry_of nodes (entry m k s) (l.all (entry m k s) (upto_source y move m k s one src h)) in
+    let g = in_get nodes r.0 r.1 in
+    let line : r.0.line ≡ m = ap (λ (p : Entry Values). p.line) r.2 in
+    let silents : r.0.silents ≡ k = ap (λ (p : Entry Values). p.silents) r.2 in (
+      g.0,
+      r.0,
+      g.1,
+      (range g.0 r.0 g.1).1 (subst (λ (a : ℕ). IsSource move r.0.line a) (sym silents) (subst (λ (a : ℕ). IsSource move a k) (sym line) src)),
+      get_below nodes g.0 r.0 g.1,
+      ap (λ (p : Entry Values). p.member) r.2,
+    )
 
 pub grown : (y : System Values) (move : Move) (nodes : List Node) (from i : ℕ) (layer : List Found) → 1 ≤ y.within → IsOpen y move → IsRange move nodes from
     → IsList (Upto y (line_of move) (silents_of y move)) (entries nodes) → length nodes ≤ i → Growing y move nodes from i layer → Grown y move nodes layer
@@ -140,13 +151,13 @@ grown y move nodes from i layer one o range l end g = record {
   list = record {
     are = part_are y move nodes layer o l g.part;
     all = λ t h. let b = out_of y move t h in
-      let w = source_at y move nodes from one range l b.line b.silents b.state b.source b.layer in
-      g.all w.0 w.1 t w.2 w.3 (omega (arith, w.4)) (subst (λ (s : Values). Moves y move s t) (sym w.5) b.step)
+        let w = source_at y move nodes from one range l b.line b.silents b.state b.source b.layer in
+        g.all w.0 w.1 t w.2 w.3 (omega (arith, w.4)) (subst (λ (s : Values). Moves y move s t) (sym w.5) b.step);
   };
   comes = g.part.comes;
   clear = λ m k s t f src h bad seen.
-    let w = source_at y move nodes from one range l m k s src h in
-    g.clear w.0 w.1 t f w.2 w.3 (omega (arith, w.4)) (subst (λ (z : Values). MoveFaults y move z t f) (sym w.5) bad) (subst (λ (z : Values). MoveSeen y move z t) (sym w.5) seen);
+      let w = source_at y move nodes from one range l m k s src h in
+      g.clear w.0 w.1 t f w.2 w.3 (omega (arith, w.4)) (subst (λ (z : Values). MoveFaults y move z t f) (sym w.5) bad) (subst (λ (z : Values). MoveSeen y move z t) (sym w.5) seen);
   limit = g.limit;
-  total = g.total
+  total = g.total;
 }

@@ -11,8 +11,11 @@ use Rattle.tla_core.specs.declared.state.Shown.{Shown}
 -- a step leads into the layer
 pub into : (y : System Values) (move : Move) (m k : ℕ) (s t : Values) → IsOpen y move → IsSource move m k → Layer y m k s → Moves y move s t
     → Layer y (line_after move) (silents_after move) t
-into y (Wait n j) m k s t o e l h = record { states = _; run =
-  wait n j s t l.states (subst (λ (a : ℕ). Run y n a s l.states) e.1 (subst (λ (a : ℕ). Run y a k s l.states) e.0 l.run)) o.0 o.1 h }
+into y (Wait n j) m k s t o e l h = record {
+  states = _;
+  run =
+      wait n j s t l.states (subst (λ (a : ℕ). Run y n a s l.states) e.1 (subst (λ (a : ℕ). Run y a k s l.states) e.0 l.run)) o.0 o.1 h;
+}
 into y (Go n) m k s t o e l h = record { states = _; run = go n k s t l.states (subst (λ (a : ℕ). Run y a k s l.states) e l.run) o h }
 
 -- the state before a state
@@ -60,14 +63,17 @@ upto_old y (Go n) p u = record { layer = u.layer; upto = elim u.upto [ inl a ↦
 
 pub upto_new : (y : System Values) (move : Move) (p : Entry Values) → 1 ≤ y.within → Upto y (line_after move) (silents_after move) p
     → Upto y (line_of move) (silents_of y move) p ⊎ ((p.line ≡ line_after move) × (p.silents ≡ silents_after move))
-upto_new y (Wait n j) p one u = elim u.upto [ inl a ↦ inl (record { layer = u.layer; upto = inl a })
-  | inr b ↦ elim (last p.silents j b.1) [ inl c ↦ inl (record { layer = u.layer; upto = inr (b.0, c) }) | inr c ↦ inr (b.0, c) ] ]
+upto_new y (Wait n j) p one u = elim u.upto [
+  | inl a ↦ inl (record { layer = u.layer; upto = inl a })
+  | inr b ↦ elim (last p.silents j b.1) [ inl c ↦ inl (record { layer = u.layer; upto = inr (b.0, c) }) | inr c ↦ inr (b.0, c) ]
+]
   where
-  last : (k j : ℕ) → k ≤ suc j → (k ≤ j) ⊎ (k ≡ suc j)
-  last k j h = grind arith
+    last : (k j : ℕ) → k ≤ suc j → (k ≤ j) ⊎ (k ≡ suc j)
+    last k j h = grind arith
 upto_new y (Go n) p one u = elim u.upto [
-    inl a ↦ inl (record { layer = u.layer; upto = below p.line n p.silents y.within a (run_within y p.line p.silents p.member u.layer.states one u.layer.run) })
-  | inr b ↦ inr (b.0, omega (arith, b.1)) ]
+  | inl a ↦ inl (record { layer = u.layer; upto = below p.line n p.silents y.within a (run_within y p.line p.silents p.member u.layer.states one u.layer.run) })
+  | inr b ↦ inr (b.0, omega (arith, b.1))
+]
   where
-  below : (m n k w : ℕ) → m < suc n → k < w → IsUpto n (w - 1) m k
-  below m n k w lt le = grind arith
+    below : (m n k w : ℕ) → m < suc n → k < w → IsUpto n (w - 1) m k
+    below m n k w lt le = grind arith

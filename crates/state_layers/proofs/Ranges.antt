@@ -20,40 +20,46 @@ upto_node y n j nodes l i x e = (l.are.members (entry_of x) (in_map entry_of nod
 
 new_node : (n j : ℕ) (layer : List Found) (x : Node) → Contains (nodes_of n j layer) x → (x.line ≡ n) × (x.silents ≡ j)
 new_node n j layer x h = let r = map_in (λ (f : Found). node n j f.state f.from) layer x h in
-  (sym (ap (λ (z : Node). z.line) r.2), sym (ap (λ (z : Node). z.silents) r.2))
+    (sym (ap (λ (z : Node). z.line) r.2), sym (ap (λ (z : Node). z.silents) r.2))
 
 -- the new nodes are the last layer
 pub range_last : (y : System Values) (n j m k : ℕ) (nodes : List Node) (layer : List Found) → IsList (Upto y n j) (entries nodes) → (IsUpto n j m k → ⊥)
     → IsRange (Wait m k) (nodes ++ nodes_of m k layer) (length nodes)
 range_last y n j m k nodes layer l after i x at = elim (get_append nodes (nodes_of m k layer) i x at) [
-    inl p ↦ ((λ le. absurd (omega (arith, p.0, le))),
-      (λ e. absurd (after (subst (λ (a : ℕ). IsUpto n j m a) e.1 (subst (λ (a : ℕ). IsUpto n j a x.silents) e.0 (upto_node y n j nodes l i x p.1))))))
-  | inr q ↦ ((λ le. new_node m k layer x q.1), (λ e. q.0)) ]
+  | inl p ↦ (
+    (λ le. absurd (omega (arith, p.0, le))),
+    (λ e. absurd (after (subst (λ (a : ℕ). IsUpto n j m a) e.1 (subst (λ (a : ℕ). IsUpto n j a x.silents) e.0 (upto_node y n j nodes l i x p.1))))),
+  )
+  | inr q ↦ ((λ le. new_node m k layer x q.1), (λ e. q.0))
+]
 
 -- more silent steps after a line
 pub range_more : (n j start : ℕ) (nodes : List Node) (layer : List Found) → start ≤ length nodes → IsRange (Go n) nodes start
     → IsRange (Go n) (nodes ++ nodes_of n j layer) start
 range_more n j start nodes layer le range i x at = elim (get_append nodes (nodes_of n j layer) i x at) [
-    inl p ↦ range i x p.1
-  | inr q ↦ ((λ h. (new_node n j layer x q.1).0), (λ e. omega (arith, q.0))) ]
+  | inl p ↦ range i x p.1
+  | inr q ↦ ((λ h. (new_node n j layer x q.1).0), (λ e. omega (arith, q.0)))
+]
 
 -- the first states after a line
 pub range_line : (y : System Values) (n j k : ℕ) (nodes : List Node) (layer : List Found) → IsList (Upto y n j) (entries nodes)
     → IsRange (Go (suc n)) (nodes ++ nodes_of (suc n) k layer) (length nodes)
 range_line y n j k nodes layer l i x at = elim (get_append nodes (nodes_of (suc n) k layer) i x at) [
-    inl p ↦ ((λ le. absurd (omega (arith, p.0, le))), (λ e. absurd (early e (upto_node y n j nodes l i x p.1))))
-  | inr q ↦ ((λ le. (new_node (suc n) k layer x q.1).0), (λ e. q.0)) ]
+  | inl p ↦ ((λ le. absurd (omega (arith, p.0, le))), (λ e. absurd (early e (upto_node y n j nodes l i x p.1))))
+  | inr q ↦ ((λ le. (new_node (suc n) k layer x q.1).0), (λ e. q.0))
+]
   where
-  early : x.line ≡ suc n → IsUpto n j x.line x.silents → ⊥
-  early e u = elim u [ inl a ↦ absurd (omega (arith, a, e)) | inr b ↦ absurd (omega (arith, b.0, e)) ]
+    early : x.line ≡ suc n → IsUpto n j x.line x.silents → ⊥
+    early e u = elim u [ inl a ↦ absurd (omega (arith, a, e)) | inr b ↦ absurd (omega (arith, b.0, e)) ]
 
 pub continues_more : (n j start : ℕ) (nodes : List Node) (layer : List Found) → Continues n nodes start → Continues n (nodes ++ nodes_of n j layer) start
 continues_more n j start nodes layer c = record {
   line = range_more n j start nodes layer (let h = c.some in omega arith) c.line;
   some = (let h = c.some in let e = length-append nodes (nodes_of n j layer) in omega arith);
   front = λ x at. elim (get_append nodes (nodes_of n j layer) start x at) [
-      inl p ↦ c.front x p.1
-    | inr q ↦ absurd (let h = c.some in omega (arith, q.0)) ]
+    | inl p ↦ c.front x p.1
+    | inr q ↦ absurd (let h = c.some in omega (arith, q.0))
+  ];
 }
 
 pub starts_line : (y : System Values) (n j : ℕ) (nodes : List Node) (layer : List Found) → IsList (Upto y n j) (entries nodes) → 0 < length layer
@@ -63,16 +69,17 @@ starts_line y n j nodes layer l some = record {
     line = range_line y n j 0 nodes layer l;
     some = (let e = length-append nodes (nodes_of (suc n) 0 layer) in let f = long_new (suc n) 0 layer in omega arith);
     front = λ x at. elim (get_append nodes (nodes_of (suc n) 0 layer) (length nodes) x at) [
-        inl p ↦ absurd (omega (arith, p.0))
-      | inr q ↦ (new_node (suc n) 0 layer x q.1).1 ]
+      | inl p ↦ absurd (omega (arith, p.0))
+      | inr q ↦ (new_node (suc n) 0 layer x q.1).1
+    ];
   };
-  layer = range_last y n j (suc n) 0 nodes layer l (λ u. elim u [ inl a ↦ absurd (omega (arith, a)) | inr b ↦ absurd (omega (arith, b.0)) ])
+  layer = range_last y n j (suc n) 0 nodes layer l (λ u. elim u [ inl a ↦ absurd (omega (arith, a)) | inr b ↦ absurd (omega (arith, b.0)) ]);
 }
 
 pub wait_last : (y : System Values) (n j end : ℕ) (nodes now : List Node) (layer : List Found) → IsList (Upto y n j) (entries nodes)
     → now ≡ nodes ++ nodes_of n (suc j) layer → end ≡ length nodes → IsRange (Wait n (j + 1)) now end
 wait_last y n j end nodes now layer l e f =
-  rw (e, f, add-one) (range_last y n j n (suc j) nodes layer l (λ u. elim u [ inl a ↦ absurd (omega (arith, a)) | inr b ↦ absurd (omega (arith, b.1)) ]))
+    rw (e, f, add-one) (range_last y n j n (suc j) nodes layer l (λ u. elim u [ inl a ↦ absurd (omega (arith, a)) | inr b ↦ absurd (omega (arith, b.1)) ]))
 
 pub wait_whole : (n j start : ℕ) (nodes now : List Node) (layer : List Found) → now ≡ nodes ++ nodes_of n j layer → Continues n nodes start → Continues n now start
 wait_whole n j start nodes now layer e c = subst (λ (ns : List Node). Continues n ns start) (sym e) (continues_more n j start nodes layer c)

@@ -36,6 +36,7 @@ IsInitClear y = (t : Values) (f : Fault) → y.FaultInit t f → y.InitSeen t �
 abbrev pub line_at : System Values → ℕ → LineAt
 line_at y n = y.at n [] []
 
+-- The same with the number of silent steps first.
 abbrev pub mark_of : System Values → ℕ → ℕ → Mark
 mark_of y (suc j) n = Silent
 mark_of y zero zero = Init
@@ -49,7 +50,7 @@ mark_at y n j = mark_of y j n
 pub data Linked (y : System Values) (nodes : List Node) : Node → Type 0 where
   begins : (s : Values) (k : ℕ) → y.Init s → y.InitSeen s → Linked y nodes (node 0 0 s k)
   moves : (x : Node) (move : Move) (s : Values) (k : ℕ) → slice_get nodes k ≡ Some x → IsSource move x.line x.silents → IsOpen y move
-    → Moves y move x.state s → Linked y nodes (node (line_after move) (silents_after move) s k)
+      → Moves y move x.state s → Linked y nodes (node (line_after move) (silents_after move) s k)
 
 -- Each node is so linked to one that stands before it.
 abbrev pub AllLinked : System Values → List Node → Type 0
@@ -64,7 +65,8 @@ abbrev pub IsDone : System Values → ℕ → ℕ → Move → Type 0
 IsDone y n j (Wait m k) = ((m < n) × (suc k < y.within)) ⊎ ((m ≡ n) × (k < j))
 IsDone y n j (Go m) = m < n
 
--- the nodes are the states up to layer (n, j), nothing faulted on the way, and no limit is passed
+-- The nodes are the entries of all layers up to (n, j), each once and linked; no move made on the way faults, no limit
+-- is passed, and the largest of these layers has this many states.
 pub record Kept (y : System Values) (n j : ℕ) (nodes : List Node) (widest : ℕ) : Type 0 where
   pub list : IsList (Upto y n j) (entries nodes)
   pub links : AllLinked y nodes
@@ -75,24 +77,24 @@ pub record Kept (y : System Values) (n j : ℕ) (nodes : List Node) (widest : �
   pub limit : widest ≤ y.limit
   pub total : length nodes ≤ y.total
 
--- the nodes from an index on are those after line n, the first of which is a state after the line itself
+-- The nodes from an index on are those after line n, at least one, the first of which no silent step leads to.
 pub record Continues (n : ℕ) (nodes : List Node) (start : ℕ) : Type 0 where
   pub line : IsRange (Go n) nodes start
   pub some : start < length nodes
   pub front : (x : Node) → slice_get nodes start ≡ Some x → x.silents ≡ 0
 
--- the nodes from an index on are the states after line n itself
+-- The nodes from an index on are those after line n, and no silent step leads to any of them.
 pub record Starts (n : ℕ) (nodes : List Node) (start : ℕ) : Type 0 where
   pub whole : Continues n nodes start
   pub layer : IsRange (Wait n 0) nodes start
 
--- the new nodes are behind the old, and are the layer that the move leads to
+-- The new nodes stand behind the old, and are the layer that the move leads to.
 pub record IsBehind (y : System Values) (move : Move) (old now : List Node) : Type 0 where
   pub added : List Found
   pub is : now ≡ old ++ nodes_of (line_after move) (silents_after move) added
   pub list : IsList (Layer y (line_after move) (silents_after move)) (states_of added)
 
--- where the states from a node on, last first, are behind any that end in that node, they end in the last node
+-- Put behind any run that ends in the i-th node, the states, which stand last first, make a run that ends in the last node.
 abbrev pub IsBack : System Values → List Node → ℕ → ℕ → List Shown → Type 0
 IsBack y nodes last i states = (x z : Node) (w : List Shown) → slice_get nodes last ≡ Some x → slice_get nodes i ≡ Some z
-  → Run y z.line z.silents z.state w → Run y x.line x.silents x.state (w ++ reverse states)
+    → Run y z.line z.silents z.state w → Run y x.line x.silents x.state (w ++ reverse states)

@@ -21,6 +21,7 @@ abbrev pub line_of : Move → ℕ
 line_of (Wait n j) = n
 line_of (Go n) = n
 
+-- Its silent steps: before the step of a line, as many as are allowed.
 abbrev pub silents_of : System Values → Move → ℕ
 silents_of y (Wait n j) = j
 silents_of y (Go n) = y.within - 1
@@ -30,6 +31,7 @@ abbrev pub line_after : Move → ℕ
 line_after (Wait n j) = n
 line_after (Go n) = suc n
 
+-- Its silent steps: one more, or none after the step of a line.
 abbrev pub silents_after : Move → ℕ
 silents_after (Wait n j) = suc j
 silents_after (Go n) = 0
@@ -62,6 +64,7 @@ IsClear y move = (m k : ℕ) (s t : Values) (f : Fault) → IsSource move m k �
 abbrev pub entry_of : Node → Entry Values
 entry_of x = record { line = x.line; silents = x.silents; member = x.state }
 
+-- The entries that the nodes are.
 abbrev pub entries : List Node → List (Entry Values)
 entries xs = map entry_of xs
 
@@ -69,6 +72,7 @@ entries xs = map entry_of xs
 abbrev pub entry : ℕ → ℕ → Values → Entry Values
 entry n j s = record { line = n; silents = j; member = s }
 
+-- These states as members of layer (n, j).
 abbrev pub at_layer : ℕ → ℕ → List Values → List (Entry Values)
 at_layer n j xs = map (entry n j) xs
 

@@ -76,5 +76,5 @@ system_of edges assumptions assumes count within limit total = record {
   assumes = assumes;
   IsAssumed = λ k. told assumptions k ≡ Ok None;
   FaultAssume = λ k f. told assumptions k ≡ Err f;
-  IsFalse = λ k p. told assumptions k ≡ Ok (Some p)
+  IsFalse = λ k p. told assumptions k ≡ Ok (Some p);
 }

@@ -6,7 +6,10 @@ use trace_base::{LineAt, Place};
 #[derive(Drop)]
 pub enum Answer {
     /// The behaviour explains all lines. `widest` is the size of the largest layer.
-    Explained { behaviour: Behaviour, widest: u32 },
+    Explained {
+        behaviour: Behaviour,
+        widest: u32,
+    },
     /// The behaviour explains the first `prefix` of the `of` lines, and none explains one more.
     /// `after` is the line that comes next.
     NotExplained {
@@ -18,7 +21,10 @@ pub enum Answer {
     /// No state can be the first.
     NoInitial,
     /// The initial predicate faults.
-    InitFault { kind: EvalKind, at: Place },
+    InitFault {
+        kind: EvalKind,
+        at: Place,
+    },
     /// A step from the state, which is reached after that many lines and then silent steps, faults.
     Fault {
         after: u32,
@@ -28,13 +34,24 @@ pub enum Answer {
         at: Place,
     },
     /// An assumption faults, and all before it are TRUE.
-    AssumeFault { kind: EvalKind, at: Place },
+    AssumeFault {
+        kind: EvalKind,
+        at: Place,
+    },
     /// An assumption, whose term stands at the place, is FALSE, and all before it are TRUE.
-    AssumeFalse { at: Place },
+    AssumeFalse {
+        at: Place,
+    },
     /// The layer after that many lines and then silent steps is too large.
-    LayerLimit { after: u32, silent: u32 },
+    LayerLimit {
+        after: u32,
+        silent: u32,
+    },
     /// The layers up to that one are together too large.
-    TotalLimit { after: u32, silent: u32 },
+    TotalLimit {
+        after: u32,
+        silent: u32,
+    },
 }
 
 /// Why the search stops before its end.

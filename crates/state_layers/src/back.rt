@@ -7,7 +7,12 @@ use std::alloc::{AllocError, Global};
 use tla_core::{Behaviour, Mark, Shown};
 
 /// The states along the links to a node, first to last.
-pub fn read_back<S: Steps>(alloc: Global, steps: &S, nodes: &[Node], at: usize) -> Result<Behaviour, AllocError>
+pub fn read_back<S: Steps>(
+    alloc: Global,
+    steps: &S,
+    nodes: &[Node],
+    at: usize,
+) -> Result<Behaviour, AllocError>
     requires links { AllLinked (S.system steps.now) nodes.now }
     requires within { at < length nodes.now }
     ensures { IfOk result (λ w. EndsAt (S.system steps.now) nodes.now at w) }

@@ -8,7 +8,7 @@ ghost use Rattle.state_layers.specs.Says.{IsStop, Expands};
 ghost use Rattle.state_layers.specs.Kept.{Kept, IsBehind, nodes_of};
 
 use crate::answer::{Answer, Stop};
-use crate::layer::{merge, Frontier};
+use crate::layer::{Frontier, merge};
 use crate::node::{Move, Node};
 use crate::steps::{StepFault, Steps};
 use std::alloc::{AllocError, Global};
@@ -37,7 +37,13 @@ fn silents_after_move(step: Move) -> u32
 }
 
 /// The states to which a move leads from a state.
-fn list_steps<S: Steps>(alloc: Global, steps: &S, step: Move, state: &State, bound: u32) -> Result<StateList, StepFault>
+fn list_steps<S: Steps>(
+    alloc: Global,
+    steps: &S,
+    step: Move,
+    state: &State,
+    bound: u32,
+) -> Result<StateList, StepFault>
     requires { IsOpen (S.system steps.now) step }
     ensures { Gives (Moves (S.system steps.now) step state.now) (MoveFaults (S.system steps.now) step state.now) (MoveSeen (S.system steps.now) step state.now) bound result }
 {
@@ -77,7 +83,13 @@ fn expand<S: Steps>(alloc: Global, steps: &S, step: Move, node: &Node) -> Result
 }
 
 /// Whether the layer is within the limits, beside the nodes of the layers before it.
-fn check_size<S: Steps>(steps: &S, nodes: &[Node], layer: &Frontier, line: u32, silents: u32) -> Result<(), Stop>
+fn check_size<S: Steps>(
+    steps: &S,
+    nodes: &[Node],
+    layer: &Frontier,
+    line: u32,
+    silents: u32,
+) -> Result<(), Stop>
     requires part { AreOf (Layer (S.system steps.now) line silents) (states_of layer.now) }
     requires together { AreOf (Upto (S.system steps.now) line silents) (entries nodes.now ++ at_layer line silents (states_of layer.now)) }
     ensures limit { OnOk result (length layer.now ≤ (S.system steps.now).limit) }
@@ -101,7 +113,13 @@ fn check_size<S: Steps>(steps: &S, nodes: &[Node], layer: &Frontier, line: u32, 
 }
 
 /// The layer that a move leads to.
-fn grow<S: Steps>(alloc: Global, steps: &S, nodes: &[Node], from: usize, step: Move) -> Result<Frontier, Stop>
+fn grow<S: Steps>(
+    alloc: Global,
+    steps: &S,
+    nodes: &[Node],
+    from: usize,
+    step: Move,
+) -> Result<Frontier, Stop>
     requires small { IsSmall (S.system steps.now) }
     requires opens { IsOpen (S.system steps.now) step }
     requires kept { IsList (Upto (S.system steps.now) (line_of step) (silents_of (S.system steps.now) step)) (entries nodes.now) }
@@ -140,7 +158,14 @@ fn keep(nodes: &mut Vec<Node>, layer: Frontier, line: u32, silents: u32) -> Resu
 }
 
 /// Grows one more layer behind the nodes, and gives the size of the largest layer so far.
-pub fn advance<S: Steps>(alloc: Global, steps: &S, nodes: &mut Vec<Node>, from: usize, step: Move, widest: usize) -> Result<usize, Stop>
+pub fn advance<S: Steps>(
+    alloc: Global,
+    steps: &S,
+    nodes: &mut Vec<Node>,
+    from: usize,
+    step: Move,
+    widest: usize,
+) -> Result<usize, Stop>
     requires small { IsSmall (S.system steps.now) }
     requires opens { IsOpen (S.system steps.now) step }
     requires kept { Kept (S.system steps.now) (line_of step) (silents_of (S.system steps.now) step) nodes.old.items widest }

@@ -72,7 +72,12 @@ impl Frontier {
 }
 
 /// Adds the states of the list that the layer lacks, but none once the layer has more than `most`.
-pub fn merge(layer: &mut Frontier, list: StateList, from: u32, most: usize) -> Result<(), AllocError>
+pub fn merge(
+    layer: &mut Frontier,
+    list: StateList,
+    from: u32,
+    most: usize,
+) -> Result<(), AllocError>
     ensures { OnOk result (Merged layer.old list from most layer.new) }
 {
     for state in list.into_items() {

@@ -79,7 +79,14 @@ fn first_items(alloc: Global, list: StateList) -> Result<Vec<Node>, AllocError>
 }
 
 /// The layers of silent steps after a line.
-fn wait<S: Steps>(alloc: Global, steps: &S, nodes: &mut Vec<Node>, start: usize, line: u32, widest: usize) -> Result<usize, Stop>
+fn wait<S: Steps>(
+    alloc: Global,
+    steps: &S,
+    nodes: &mut Vec<Node>,
+    start: usize,
+    line: u32,
+    widest: usize,
+) -> Result<usize, Stop>
     requires small { IsSmall (S.system steps.now) }
     requires left { line < (S.system steps.now).count }
     requires kept { Kept (S.system steps.now) line 0 nodes.old.items widest }
@@ -94,7 +101,14 @@ fn wait<S: Steps>(alloc: Global, steps: &S, nodes: &mut Vec<Node>, start: usize,
     let mut silents = 0;
     while silents + 1 < within {
         let end = nodes.len();
-        widest = advance(alloc, steps, nodes, from, Move::Wait { line, silents }, widest)?;
+        widest = advance(
+            alloc,
+            steps,
+            nodes,
+            from,
+            Move::Wait { line, silents },
+            widest,
+        )?;
         from = end;
         silents += 1;
     }

@@ -66,7 +66,13 @@ pub trait Steps {
         ensures { Gives (Begins (system self.now)) (system self.now).FaultInit (system self.now).InitSeen bound result };
 
     /// The states to which a line leads from a state, each once.
-    fn successors(&self, alloc: Global, line: u32, state: &State, bound: u32) -> Result<StateList, StepFault>
+    fn successors(
+        &self,
+        alloc: Global,
+        line: u32,
+        state: &State,
+        bound: u32,
+    ) -> Result<StateList, StepFault>
         requires { line < (system self.now).count }
         ensures { Gives ((system self.now).Step line state.now) ((system self.now).FaultStep line state.now) ((system self.now).Seen line state.now) bound result };
 

@@ -4,7 +4,7 @@ ghost use Rattle.state_layers.specs.Found.{states_of};
 ghost use Rattle.state_layers.specs.Table.{Leads, IsEdge, Takes, IsRefused};
 
 use crate::layer::Frontier;
-use crate::{explain, Answer, StepFault, Steps};
+use crate::{Answer, StepFault, Steps, explain};
 use std::alloc::{AllocError, Global};
 use std::marker::Model;
 use std::rt::HostRuntime;
@@ -56,7 +56,13 @@ fn is_edge(edge: &Edge, mark: Mark, state: &State) -> bool
     edge.mark == mark && edge.from.same(state)
 }
 
-fn add_end(alloc: Global, found: &mut Frontier, edge: &Edge, mark: Mark, state: &State) -> Result<(), StepFault>
+fn add_end(
+    alloc: Global,
+    found: &mut Frontier,
+    edge: &Edge,
+    mark: Mark,
+    state: &State,
+) -> Result<(), StepFault>
     ensures ok { OnOk result (Takes edge.now mark state.now found.old found.new) }
     ensures err { IfErr result (λ fault. IsRefused edge.now mark state.now fault) }
 {
@@ -80,7 +86,13 @@ fn into_states(alloc: Global, found: Frontier) -> Result<StateList, AllocError>
 }
 
 /// The states that the edges of a kind lead to from a state.
-fn listed(alloc: Global, edges: &[Edge], mark: Mark, state: &State, bound: u32) -> Result<StateList, StepFault>
+fn listed(
+    alloc: Global,
+    edges: &[Edge],
+    mark: Mark,
+    state: &State,
+    bound: u32,
+) -> Result<StateList, StepFault>
     ensures { Gives (Leads edges.now mark state.now false) (λ t f. Leads edges.now mark state.now true t) (λ t. Unit {0}) bound result }
 {
     let mut found = Frontier::new(alloc);
@@ -132,11 +144,29 @@ impl Steps for Table {
     }
 
     fn initial(&self, alloc: Global, bound: u32) -> Result<StateList, StepFault> {
-        listed(alloc, &self.edges, Mark::Init, &State::new(Vec::new(alloc)), bound)
+        listed(
+            alloc,
+            &self.edges,
+            Mark::Init,
+            &State::new(Vec::new(alloc)),
+            bound,
+        )
     }
 
-    fn successors(&self, alloc: Global, line: u32, state: &State, bound: u32) -> Result<StateList, StepFault> {
-        listed(alloc, &self.edges, Mark::Line(LineAt { file: 1, line }), state, bound)
+    fn successors(
+        &self,
+        alloc: Global,
+        line: u32,
+        state: &State,
+        bound: u32,
+    ) -> Result<StateList, StepFault> {
+        listed(
+            alloc,
+            &self.edges,
+            Mark::Line(LineAt { file: 1, line }),
+            state,
+            bound,
+        )
     }
 
     fn silent(&self, alloc: Global, state: &State, bound: u32) -> Result<StateList, StepFault> {
@@ -220,7 +250,11 @@ fn tell_states(alloc: Global, behaviour: &Behaviour) -> Result<String, AllocErro
 }
 
 fn tell_fault(alloc: Global, kind: EvalKind, at: Place) -> Result<String, AllocError> {
-    let known = if kind == FAULT.kind { "Overflow" } else { "another kind" };
+    let known = if kind == FAULT.kind {
+        "Overflow"
+    } else {
+        "another kind"
+    };
     format!(in alloc; "{known} at {}", at.line)
 }
 
@@ -232,8 +266,14 @@ fn tell_stopped(alloc: Global, name: &str, after: u32, silent: u32) -> Result<St
 
 fn tell_rest(alloc: Global, answer: &Answer) -> Result<String, AllocError> {
     match answer {
-        Answer::InitFault { kind, at } => format!(in alloc; "init fault {}", tell_fault(alloc, *kind, *at)?),
-        Answer::AssumeFault { kind, at } => format!(in alloc; "assume fault {}", tell_fault(alloc, *kind, *at)?),
+        Answer::InitFault { kind, at } => format!(in alloc;
+            "init fault {}",
+            tell_fault(alloc, *kind, *at)?
+        ),
+        Answer::AssumeFault { kind, at } => format!(in alloc;
+            "assume fault {}",
+            tell_fault(alloc, *kind, *at)?
+        ),
         Answer::AssumeFalse { at } => format!(in alloc; "assume false at {}", at.line),
         Answer::LayerLimit { after, silent } => tell_stopped(alloc, "layer limit", *after, *silent),
         Answer::TotalLimit { after, silent } => tell_stopped(alloc, "total limit", *after, *silent),
@@ -243,15 +283,38 @@ fn tell_rest(alloc: Global, answer: &Answer) -> Result<String, AllocError> {
 
 fn tell(alloc: Global, answer: &Answer) -> Result<String, AllocError> {
     match answer {
-        Answer::Explained { behaviour, widest } => format!(in alloc; "explained {widest}:{}", tell_states(alloc, behaviour)?),
-        Answer::NotExplained { prefix, of, after, behaviour } => {
+        Answer::Explained { behaviour, widest } => format!(in alloc;
+            "explained {widest}:{}",
+            tell_states(alloc, behaviour)?
+        ),
+        Answer::NotExplained {
+            prefix,
+            of,
+            after,
+            behaviour,
+        } => {
             let mut text = format!(in alloc; "not explained {prefix} of {of}")?;
-            text.push_str(format!(in alloc; " next {}:{}", after.line, tell_states(alloc, behaviour)?)?.as_str())?;
+            text.push_str(format!(in alloc;
+                " next {}:{}",
+                after.line,
+                tell_states(alloc, behaviour)?
+            )?.as_str())?;
             Ok(text)
         }
-        Answer::Fault { after, silent, state, kind, at } => {
+        Answer::Fault {
+            after,
+            silent,
+            state,
+            kind,
+            at,
+        } => {
             let mut text = tell_stopped(alloc, "fault", *after, *silent)?;
-            text.push_str(format!(in alloc; " in {}: {}", number_of(state), tell_fault(alloc, *kind, *at)?)?.as_str())?;
+            text.push_str(format!(in alloc;
+                " in {}: {}",
+                number_of(state),
+                tell_fault(alloc, *kind, *at)?
+            )?
+            .as_str())?;
             Ok(text)
         }
         other => tell_rest(alloc, other),
@@ -260,14 +323,22 @@ fn tell(alloc: Global, answer: &Answer) -> Result<String, AllocError> {
 
 fn run(alloc: Global, case: &Case) -> Result<String, AllocError> {
     let table = table_of(alloc, case)?;
-    if table.count > 200000 || table.within < 1 || table.within > 8 || table.limit > 100000 || table.total > 2000000 {
+    if table.count > 200000
+        || table.within < 1
+        || table.within > 8
+        || table.limit > 100000
+        || table.total > 2000000
+    {
         return String::from_str(alloc, "too large");
     }
     tell(alloc, &explain(alloc, &table)?)
 }
 
 const fn line(number: u32) -> Mark {
-    Mark::Line(LineAt { file: 1, line: number })
+    Mark::Line(LineAt {
+        file: 1,
+        line: number,
+    })
 }
 
 #[test]
@@ -311,24 +382,156 @@ fn answers(rt: HostRuntime) {
     ];
     let bad_first = [Row(Mark::Init, None, 0, true)];
     let cases = [
-        Case { rows: &branching, assumptions: &[], count: 3, within: 1, limit: 10, total: 100, expected: "not explained 2 of 3 next 2: init 0 line-0 20 line-1 12" },
-        Case { rows: &pairs, assumptions: &[], count: 2, within: 1, limit: 10, total: 100, expected: "explained 2: init 0 line-0 12 line-1 24" },
-        Case { rows: &counting, assumptions: &[], count: 1, within: 3, limit: 10, total: 100, expected: "explained 1: init 0 silent 1 silent 2 line-0 3" },
-        Case { rows: &counting, assumptions: &[], count: 1, within: 2, limit: 10, total: 100, expected: "not explained 0 of 1 next 0: init 0" },
-        Case { rows: &repeating, assumptions: &[], count: 1, within: 1, limit: 3, total: 4, expected: "explained 3: init 0 line-0 1" },
-        Case { rows: &repeating, assumptions: &[], count: 1, within: 1, limit: 2, total: 100, expected: "layer limit after 1 and 0" },
-        Case { rows: &repeating, assumptions: &[], count: 1, within: 1, limit: 3, total: 3, expected: "total limit after 1 and 0" },
-        Case { rows: &counting, assumptions: &[], count: 1, within: 3, limit: 10, total: 2, expected: "total limit after 0 and 2" },
-        Case { rows: &[first], assumptions: &[], count: 0, within: 1, limit: 1, total: 1, expected: "explained 1: init 0" },
-        Case { rows: &[], assumptions: &[], count: 1, within: 1, limit: 10, total: 100, expected: "no initial" },
-        Case { rows: &bad_first, assumptions: &[], count: 1, within: 1, limit: 10, total: 100, expected: "init fault Overflow at 3" },
-        Case { rows: &faulty, assumptions: &[], count: 2, within: 1, limit: 10, total: 100, expected: "fault after 1 and 0 in 7: Overflow at 3" },
-        Case { rows: &faulty, assumptions: &[], count: 2, within: 2, limit: 10, total: 100, expected: "fault after 1 and 0 in 7: Overflow at 3" },
-        Case { rows: &faulty, assumptions: &[], count: 1, within: 2, limit: 10, total: 100, expected: "explained 1: init 0 line-0 7" },
-        Case { rows: &faulty, assumptions: &[Ok(None), Ok(Some(place))], count: 2, within: 1, limit: 10, total: 100, expected: "assume false at 3" },
-        Case { rows: &pairs, assumptions: &[Err(FAULT), Ok(Some(place))], count: 2, within: 1, limit: 10, total: 100, expected: "assume fault Overflow at 3" },
+        Case {
+            rows: &branching,
+            assumptions: &[],
+            count: 3,
+            within: 1,
+            limit: 10,
+            total: 100,
+            expected: "not explained 2 of 3 next 2: init 0 line-0 20 line-1 12",
+        },
+        Case {
+            rows: &pairs,
+            assumptions: &[],
+            count: 2,
+            within: 1,
+            limit: 10,
+            total: 100,
+            expected: "explained 2: init 0 line-0 12 line-1 24",
+        },
+        Case {
+            rows: &counting,
+            assumptions: &[],
+            count: 1,
+            within: 3,
+            limit: 10,
+            total: 100,
+            expected: "explained 1: init 0 silent 1 silent 2 line-0 3",
+        },
+        Case {
+            rows: &counting,
+            assumptions: &[],
+            count: 1,
+            within: 2,
+            limit: 10,
+            total: 100,
+            expected: "not explained 0 of 1 next 0: init 0",
+        },
+        Case {
+            rows: &repeating,
+            assumptions: &[],
+            count: 1,
+            within: 1,
+            limit: 3,
+            total: 4,
+            expected: "explained 3: init 0 line-0 1",
+        },
+        Case {
+            rows: &repeating,
+            assumptions: &[],
+            count: 1,
+            within: 1,
+            limit: 2,
+            total: 100,
+            expected: "layer limit after 1 and 0",
+        },
+        Case {
+            rows: &repeating,
+            assumptions: &[],
+            count: 1,
+            within: 1,
+            limit: 3,
+            total: 3,
+            expected: "total limit after 1 and 0",
+        },
+        Case {
+            rows: &counting,
+            assumptions: &[],
+            count: 1,
+            within: 3,
+            limit: 10,
+            total: 2,
+            expected: "total limit after 0 and 2",
+        },
+        Case {
+            rows: &[first],
+            assumptions: &[],
+            count: 0,
+            within: 1,
+            limit: 1,
+            total: 1,
+            expected: "explained 1: init 0",
+        },
+        Case {
+            rows: &[],
+            assumptions: &[],
+            count: 1,
+            within: 1,
+            limit: 10,
+            total: 100,
+            expected: "no initial",
+        },
+        Case {
+            rows: &bad_first,
+            assumptions: &[],
+            count: 1,
+            within: 1,
+            limit: 10,
+            total: 100,
+            expected: "init fault Overflow at 3",
+        },
+        Case {
+            rows: &faulty,
+            assumptions: &[],
+            count: 2,
+            within: 1,
+            limit: 10,
+            total: 100,
+            expected: "fault after 1 and 0 in 7: Overflow at 3",
+        },
+        Case {
+            rows: &faulty,
+            assumptions: &[],
+            count: 2,
+            within: 2,
+            limit: 10,
+            total: 100,
+            expected: "fault after 1 and 0 in 7: Overflow at 3",
+        },
+        Case {
+            rows: &faulty,
+            assumptions: &[],
+            count: 1,
+            within: 2,
+            limit: 10,
+            total: 100,
+            expected: "explained 1: init 0 line-0 7",
+        },
+        Case {
+            rows: &faulty,
+            assumptions: &[Ok(None), Ok(Some(place))],
+            count: 2,
+            within: 1,
+            limit: 10,
+            total: 100,
+            expected: "assume false at 3",
+        },
+        Case {
+            rows: &pairs,
+            assumptions: &[Err(FAULT), Ok(Some(place))],
+            count: 2,
+            within: 1,
+            limit: 10,
+            total: 100,
+            expected: "assume fault Overflow at 3",
+        },
     ];
     for case in &cases {
-        assert!(rt; run(alloc, case).is_ok_and(|told| told.as_str() == case.expected), "{}", case.expected);
+        assert!(rt;
+            run(alloc, case).is_ok_and(|told| told.as_str() == case.expected),
+            "{}",
+            case.expected
+        );
     }
 }

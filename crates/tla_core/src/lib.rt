@@ -11,3 +11,6 @@ pub use spec::Spec;
 pub use state::{Behaviour, Mark, Shown, State, StateList};
 pub use term::{Atom, Term};
 pub use tla_values::EvalKind;
+
+#[cfg(test)]
+mod tests;

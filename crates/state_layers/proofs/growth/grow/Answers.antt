@@ -5,54 +5,54 @@ use Rattle.state_layers.proofs.growth.grow.Goals as goal
 
 pub expand-requires-clause-source : goal.expand-requires-clause-source
 expand-requires-clause-source g c =
-  let lt : c.loop-index.index < length c.args.nodes.now = omega arith in
-  let at = slice_get_read c.args.nodes.now _ c.loop-index.index c.index-nodes-index.result refl lt c.index-nodes-index.is in
-  (c.requires.range c.loop-index.index c.index-nodes-index.result at).0 c.loop-index.invariant.after
+    let lt : c.loop-index.index < length c.args.nodes.now = omega arith in
+    let at = slice_get_read c.args.nodes.now _ c.loop-index.index c.index-nodes-index.result refl lt c.index-nodes-index.is in
+    (c.requires.range c.loop-index.index c.index-nodes-index.result at).0 c.loop-index.invariant.after
 
 pub expand-requires-clause-reached : goal.expand-requires-clause-reached
 expand-requires-clause-reached g c =
-  let lt : c.loop-index.index < length c.args.nodes.now = omega arith in
-  let at = slice_get_read c.args.nodes.now _ c.loop-index.index c.index-nodes-index.result refl lt c.index-nodes-index.is in
-  node_layer _ _ _ c.args.nodes.now c.requires.kept c.loop-index.index c.index-nodes-index.result at
+    let lt : c.loop-index.index < length c.args.nodes.now = omega arith in
+    let at = slice_get_read c.args.nodes.now _ c.loop-index.index c.index-nodes-index.result refl lt c.index-nodes-index.is in
+    node_layer _ _ _ c.args.nodes.now c.requires.kept c.loop-index.index c.index-nodes-index.result at
 
 pub check_size-requires-clause-part : goal.check_size-requires-clause-part
 check_size-requires-clause-part g c =
-  let lt : c.loop-index.index < length c.args.nodes.now = omega arith in
-  let at = slice_get_read c.args.nodes.now _ c.loop-index.index c.index-nodes-index.result refl lt c.index-nodes-index.is in
-  let src = (c.requires.range c.loop-index.index c.index-nodes-index.result at).0 c.loop-index.invariant.after in
-  let part = part_step (g.S.Steps.system c.args.steps.now) c.args.step c.args.nodes.now _ _ _ _ _ c.index-nodes-index.result at src
+    let lt : c.loop-index.index < length c.args.nodes.now = omega arith in
+    let at = slice_get_read c.args.nodes.now _ c.loop-index.index c.index-nodes-index.result refl lt c.index-nodes-index.is in
+    let src = (c.requires.range c.loop-index.index c.index-nodes-index.result at).0 c.loop-index.invariant.after in
+    let part = part_step (g.S.Steps.system c.args.steps.now) c.args.step c.args.nodes.now _ _ _ _ _ c.index-nodes-index.result at src
     c.in_ok-list.ensures.listed c.in_ok-merge.ensures c.loop-index.invariant.grows.part in
-  rw (c.line_after_move-line.ensures, c.silents_after_move-silents.ensures)
+    rw (c.line_after_move-line.ensures, c.silents_after_move-silents.ensures)
     (part_are (g.S.Steps.system c.args.steps.now) c.args.step c.args.nodes.now _ c.requires.opens c.requires.kept part)
 
 pub check_size-requires-clause-together : goal.check_size-requires-clause-together
 check_size-requires-clause-together g c =
-  let lt : c.loop-index.index < length c.args.nodes.now = omega arith in
-  let at = slice_get_read c.args.nodes.now _ c.loop-index.index c.index-nodes-index.result refl lt c.index-nodes-index.is in
-  let src = (c.requires.range c.loop-index.index c.index-nodes-index.result at).0 c.loop-index.invariant.after in
-  let part = part_step (g.S.Steps.system c.args.steps.now) c.args.step c.args.nodes.now _ _ _ _ _ c.index-nodes-index.result at src
+    let lt : c.loop-index.index < length c.args.nodes.now = omega arith in
+    let at = slice_get_read c.args.nodes.now _ c.loop-index.index c.index-nodes-index.result refl lt c.index-nodes-index.is in
+    let src = (c.requires.range c.loop-index.index c.index-nodes-index.result at).0 c.loop-index.invariant.after in
+    let part = part_step (g.S.Steps.system c.args.steps.now) c.args.step c.args.nodes.now _ _ _ _ _ c.index-nodes-index.result at src
     c.in_ok-list.ensures.listed c.in_ok-merge.ensures c.loop-index.invariant.grows.part in
-  rw (c.line_after_move-line.ensures, c.silents_after_move-silents.ensures)
+    rw (c.line_after_move-line.ensures, c.silents_after_move-silents.ensures)
     (together (g.S.Steps.system c.args.steps.now) c.args.step c.args.nodes.now _ c.requires.kept
-      (part_are (g.S.Steps.system c.args.steps.now) c.args.step c.args.nodes.now _ c.requires.opens c.requires.kept part))
+    (part_are (g.S.Steps.system c.args.steps.now) c.args.step c.args.nodes.now _ c.requires.opens c.requires.kept part))
 
 pub loop-index-init : goal.loop-index-init
 loop-index-init g c = record {
   grows = rw c.new-layer.ensures (growing_nil (g.S.Steps.system c.args.steps.now) c.args.step c.args.nodes.now c.args.from c.requires.room);
-  after = omega arith
+  after = omega arith;
 }
 
 pub loop-index-preserved : goal.loop-index-preserved
 loop-index-preserved g c =
-  let lt : c.loop-index.index < length c.args.nodes.now = omega arith in
-  let at = slice_get_read c.args.nodes.now _ c.loop-index.index c.index-nodes-index.result refl lt c.index-nodes-index.is in
-  let src = (c.requires.range c.loop-index.index c.index-nodes-index.result at).0 c.loop-index.invariant.after in
-  record {
-    grows = growing_step (g.S.Steps.system c.args.steps.now) c.args.step c.args.nodes.now c.args.from c.loop-index.index _ _ _ _ c.index-nodes-index.result at src
-      c.in_ok-list.ensures.listed c.in_ok-merge.ensures c.loop-index.invariant.grows c.in_ok-check_size.ensures.limit c.in_ok-check_size.ensures.total (rw c.limit-limit.ensures c.in_ok-check_size.ensures.limit);
-    after = omega arith
-  }
+    let lt : c.loop-index.index < length c.args.nodes.now = omega arith in
+    let at = slice_get_read c.args.nodes.now _ c.loop-index.index c.index-nodes-index.result refl lt c.index-nodes-index.is in
+    let src = (c.requires.range c.loop-index.index c.index-nodes-index.result at).0 c.loop-index.invariant.after in
+    record {
+      grows = growing_step (g.S.Steps.system c.args.steps.now) c.args.step c.args.nodes.now c.args.from c.loop-index.index _ _ _ _ c.index-nodes-index.result at src
+          c.in_ok-list.ensures.listed c.in_ok-merge.ensures c.loop-index.invariant.grows c.in_ok-check_size.ensures.limit c.in_ok-check_size.ensures.total (rw c.limit-limit.ensures c.in_ok-check_size.ensures.limit);
+      after = omega arith;
+    }
 
 pub returns-clause-whole : goal.returns-clause-whole
 returns-clause-whole g c = grown (g.S.Steps.system c.args.steps.now) c.args.step c.args.nodes.now c.args.from c.loop-index.index _
-  c.requires.small.some c.requires.opens c.requires.range c.requires.kept (omega arith) c.loop-index.invariant.grows
+    c.requires.small.some c.requires.opens c.requires.range c.requires.kept (omega arith) c.loop-index.invariant.grows

@@ -5,7 +5,7 @@ use Rattle.state_layers.proofs.growth.grow.Given as goal
 abbrev pub invariant-loop-index : goal.invariant-loop-index
 invariant-loop-index g l = record {
   grows : Growing (g.S.Steps.system l.steps) l.step l.nodes l.from l.index l.layer;
-  after : l.from ≤ l.index
+  after : l.from ≤ l.index;
 }
 
 abbrev pub decreases-loop-index : goal.decreases-loop-index

@@ -6,7 +6,7 @@ abbrev pub invariant-loop-line : goal.invariant-loop-line
 invariant-loop-line g l = record {
   kept : Kept (g.S.Steps.system l.steps) l.line 0 l.nodes.items l.widest;
   starts : Starts l.line l.nodes.items l.start;
-  upto : l.line ≤ l.count
+  upto : l.line ≤ l.count;
 }
 
 abbrev pub decreases-loop-line : goal.decreases-loop-line

@@ -9,7 +9,7 @@ invariant-loop-silents g l = record {
   kept : Kept (g.S.Steps.system l.steps) l.line l.silents l.nodes.items l.widest;
   whole : Continues l.line l.nodes.items l.start;
   last : IsRange (Wait l.line l.silents) l.nodes.items l.from;
-  below : l.silents < l.within
+  below : l.silents < l.within;
 }
 
 abbrev pub decreases-loop-silents : goal.decreases-loop-silents

@@ -1,0 +1,107 @@
+use crate::{Behaviour, Mark, Shown, State, StateList};
+use std::alloc::{AllocError, Global};
+use std::rt::HostRuntime;
+use tla_values::Value;
+use trace_base::LineAt;
+
+fn state_of(alloc: Global, numbers: &[i64]) -> Result<State, AllocError> {
+    let mut values = Vec::new(alloc);
+    for number in numbers {
+        values.push(Value::int(*number))?;
+    }
+    Ok(State::new(values))
+}
+
+// whether a copy of the one is the other, by the state and by each of its values
+fn is_copy(alloc: Global, one: &[i64], other: &[i64]) -> Result<bool, AllocError> {
+    let one = state_of(alloc, one)?.copy(alloc)?;
+    let other = state_of(alloc, other)?;
+    let mut each = one.values().len() == other.values().len();
+    for index in 0..other.values().len() {
+        each = each
+            && match (one.get(index), other.get(index)) {
+                (Some(left), Some(right)) => left.same(right),
+                _ => false,
+            };
+    }
+    Ok(each == one.same(&other) && each)
+}
+
+fn number_of(state: &State) -> i64 {
+    match state.get(0) {
+        Some(value) => value.as_int().unwrap_or(0),
+        None => 0,
+    }
+}
+
+// the marks and states behind each other, turned round
+fn tell_reversed(alloc: Global) -> Result<String, AllocError> {
+    let mut behaviour = Behaviour::new(alloc);
+    let marks = [
+        (Mark::Init, 0),
+        (Mark::Silent, 1),
+        (Mark::Line(LineAt { file: 2, line: 7 }), 2),
+    ];
+    for (mark, number) in marks {
+        behaviour.push(Shown {
+            mark,
+            state: state_of(alloc, &[number])?,
+        })?;
+    }
+    behaviour.reverse();
+    let mut text = String::new(alloc);
+    for index in 0..4 {
+        match behaviour.get(index) {
+            Some(shown) => text.push_str(format!(in alloc;
+                "{:?} {} ",
+                shown.mark,
+                number_of(&shown.state)
+            )?.as_str())?,
+            None => text.push_str("none")?,
+        }
+    }
+    Ok(text)
+}
+
+// the states of a list, by index and then all
+fn tell_list(alloc: Global) -> Result<String, AllocError> {
+    let mut list = StateList::new(alloc);
+    list.push(state_of(alloc, &[5])?)?;
+    list.push(state_of(alloc, &[6])?)?;
+    let mut text = format!(in alloc; "{}", list.len())?;
+    if let Some(state) = list.get(1) {
+        text.push_str(format!(in alloc; " {}", number_of(state))?.as_str())?;
+    }
+    for state in list.items() {
+        text.push_str(format!(in alloc; " {}", number_of(state))?.as_str())?;
+    }
+    for state in list.into_items() {
+        text.push_str(format!(in alloc; " {}", number_of(&state))?.as_str())?;
+    }
+    Ok(text)
+}
+
+#[test]
+fn states(rt: HostRuntime) {
+    let alloc = rt.alloc();
+    let cases: [(&[i64], &[i64], bool); 5] = [
+        (&[], &[], true),
+        (&[1, 2], &[1, 2], true),
+        (&[1, 2], &[1, 3], false),
+        (&[1, 2], &[1], false),
+        (&[1], &[1, 2], false),
+    ];
+    for (one, other, expected) in cases {
+        assert!(rt;
+            is_copy(alloc, one, other) == Ok(expected),
+            "{one:?} {other:?}"
+        );
+    }
+    let told = tell_reversed(alloc);
+    assert!(rt;
+        told.is_ok_and(|text| text.as_str()
+            == "Line(LineAt { file: 2, line: 7 }) 2 Silent 1 Init 0 none")
+    );
+    let listed = tell_list(alloc);
+    assert!(rt; listed.is_ok_and(|text| text.as_str() == "2 6 5 6 5 6"));
+}
