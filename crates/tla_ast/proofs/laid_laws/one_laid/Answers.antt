@@ -1,0 +1,11 @@
+use Rattle.tla_ast.proofs.Unique as unique
+use Rattle.tla_ast.proofs.laid_laws.one_laid.Goals as goal
+
+pub returns-clause-one : goal.returns-clause-one
+returns-clause-one c = unique.one_laid
+
+pub returns-clause-fault : goal.returns-clause-fault
+returns-clause-fault c = unique.one_fault
+
+pub returns-clause-never : goal.returns-clause-never
+returns-clause-never c = unique.never_both
