@@ -1,5 +1,5 @@
 -- The entries of the stack, the innermost first.
-use Rattle.std.specs.Prelude.{◌≡◌, List, [], ◌∷◌, map}
+use Rattle.std.specs.Prelude.{◌≡◌, List, [], ◌∷◌}
 use Rattle.tla_ast.specs.Opens.{Opens}
 use Rattle.junctions.specs.declared.stack.Entry.{Entry}
 use Rattle.junctions.specs.Summary.{summary_of}

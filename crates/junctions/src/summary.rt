@@ -45,13 +45,7 @@ fn greater(greatest: Option<u32>, col: u32) -> Option<u32>
 {
     match greatest {
         None => Some(col),
-        Some(other) => {
-            if other <= col {
-                Some(col)
-            } else {
-                Some(other)
-            }
-        }
+        Some(other) => { if other <= col { Some(col) } else { Some(other) } }
     }
 }
 
