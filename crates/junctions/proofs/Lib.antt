@@ -1,2 +1,3 @@
+pub mod NoEnd
 pub mod Steps
 pub mod Summaries

@@ -12,3 +12,6 @@ mod summary;
 
 pub use fault::LayFault;
 pub use marking::lay;
+
+#[cfg(test)]
+mod tests;
