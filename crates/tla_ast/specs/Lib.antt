@@ -1,2 +1,3 @@
-pub mod Opens
 pub mod Laid
+pub mod Nests
+pub mod Opens

@@ -1,10 +1,13 @@
 //! Laws of the marks of junction lists.
 
 ghost use Rattle.tla_ast.specs.Laid.{OneLaid, OneFault, NeverBoth};
+ghost use Rattle.tla_ast.specs.Nests.{LaidNests};
 
 /// Tokens have their junction lists marked in one way, or are refused at one place, and never both.
-pub fn one_laid()
+/// Marked lists nest, and what is inside a list stands right of its bullets.
+pub fn laws_of_laid()
     ensures one { OneLaid }
     ensures fault { OneFault }
     ensures never { NeverBoth }
+    ensures nests { LaidNests }
 {}

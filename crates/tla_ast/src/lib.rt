@@ -8,5 +8,5 @@ mod token;
 
 pub use construct::{Construct, Open};
 pub use laid::{Bullet, Laid};
-pub use laid_laws::one_laid;
+pub use laid_laws::laws_of_laid;
 pub use token::{Foreign, Kind, Symbol, Token, Word};
