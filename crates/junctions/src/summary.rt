@@ -70,27 +70,22 @@ impl Summary {
         match inner {
             Open::List(bullet, col) => Summary {
                 rightmost: greater(self.rightmost, col),
-                holding: self.holding,
                 list: Some(OpenList { bullet, col }),
                 case_last: false,
-                inside: self.inside,
-                case: self.case,
+                ..self
             },
             Open::Case => Summary {
-                rightmost: self.rightmost,
-                holding: self.holding,
-                list: self.list,
                 case_last: true,
-                inside: self.inside,
                 case: true,
+                ..self
             },
             Open::Inside(construct) => Summary {
-                rightmost: self.rightmost,
                 holding: self.rightmost,
                 list: None,
                 case_last: false,
                 inside: Some(construct),
                 case: false,
+                ..self
             },
         }
     }

@@ -98,7 +98,9 @@ fn tokens_of(alloc: Global, text: &str) -> Result<Vec<Token>, AllocError>
             if !word.is_empty() {
                 add(&mut tokens, kind_of(alloc, word)?, line, col)?;
             }
-            col = col.wrapping_add(u32::try_from(word.len()).unwrap_or(0)).wrapping_add(1);
+            col = col
+                .wrapping_add(u32::try_from(word.len()).unwrap_or(0))
+                .wrapping_add(1);
         }
         col = col.wrapping_sub(1);
     }
@@ -121,8 +123,14 @@ fn shown(alloc: Global, answer: Result<Vec<Laid>, LayFault>) -> Result<String, A
             for mark in laid {
                 let (word, place) = match mark {
                     Laid::Plain(token) => (format!(in alloc; "-")?, token.place),
-                    Laid::ListOpen(bullet, place) => (format!(in alloc; "[{}", sign(bullet))?, place),
-                    Laid::ListItem(bullet, place) => (format!(in alloc; "{}", sign(bullet))?, place),
+                    Laid::ListOpen(bullet, place) => (
+                        format!(in alloc; "[{}", sign(bullet))?,
+                        place,
+                    ),
+                    Laid::ListItem(bullet, place) => (
+                        format!(in alloc; "{}", sign(bullet))?,
+                        place,
+                    ),
                     Laid::ListClose(place) => (format!(in alloc; "]")?, place),
                 };
                 if word.as_str() == "-" {
@@ -158,19 +166,28 @@ const ROWS: [(&str, &str); 42] = [
     ("/\\ (\n", "left 2:1"),
     ("/\\ \\/ ( a\n /\\ b", "left 2:2"),
     // what is finished does no harm
-    ("/\\ IF a THEN b ELSE c\n/\\ d", " [&1:1 &1:1 - - - - - - &2:1 - ]2:5 -"),
+    (
+        "/\\ IF a THEN b ELSE c\n/\\ d",
+        " [&1:1 &1:1 - - - - - - &2:1 - ]2:5 -",
+    ),
     ("/\\ LET x IN y\n/\\ d", " [&1:1 &1:1 - - - - &2:1 - ]2:5 -"),
     ("/\\ \\E x : p\n/\\ d", " [&1:1 &1:1 - - - - &2:1 - ]2:5 -"),
     ("/\\ [ a ]\n/\\ d", " [&1:1 &1:1 - - - &2:1 - ]2:5 -"),
     // a CASE in an item
-    ("/\\ CASE a -> b\n/\\ c", " [&1:1 &1:1 - - - - &2:1 - ]2:5 -"),
+    (
+        "/\\ CASE a -> b\n/\\ c",
+        " [&1:1 &1:1 - - - - &2:1 - ]2:5 -",
+    ),
     ("/\\ CASE a -> ( b\n/\\ c", "left 2:1"),
     // ends by column
     ("/\\ a\nb", " [&1:1 &1:1 - ]2:1 - -"),
     ("  /\\ \\/ a\nb", " [&1:3 &1:3 [|1:6 |1:6 - ]2:1 ]2:1 - -"),
     ("  /\\ a\n  b", " [&1:3 &1:3 - ]2:3 - -"),
     ("/\\ a\n\\/ b", " [&1:1 &1:1 - ]2:1 - - -"),
-    ("\\/ /\\ a\n\\/ b", " [|1:1 |1:1 [&1:4 &1:4 - ]2:1 |2:1 - ]2:5 -"),
+    (
+        "\\/ /\\ a\n\\/ b",
+        " [|1:1 |1:1 [&1:4 &1:4 - ]2:1 |2:1 - ]2:5 -",
+    ),
     ("/\\ a =\n\\/ b", " [&1:1 &1:1 - - ]2:1 - - -"),
     // an operator between operands
     ("a /\\ b", " - - - -"),
@@ -185,15 +202,30 @@ const ROWS: [(&str, &str); 42] = [
         " - [&1:4 &1:4 - ]1:9 - [&1:14 &1:14 - ]1:19 - [&1:24 &1:24 - ]1:28 -",
     ),
     ("LET x == /\\ a IN x", " - - - [&1:10 &1:10 - ]1:15 - - -"),
-    ("CASE a -> /\\ b [] c -> d", " - - - [&1:11 &1:11 - ]1:16 - - - - -"),
+    (
+        "CASE a -> /\\ b [] c -> d",
+        " - - - [&1:11 &1:11 - ]1:16 - - - - -",
+    ),
     ("CASE a -> /\\ [] c", " - - - [&1:11 &1:11 - - ]1:18 -"),
-    ("CASE /\\ a -> /\\ \\/ b [] c", " - [&1:6 &1:6 - ]1:11 - [&1:14 &1:14 [|1:17 |1:17 - ]1:22 ]1:22 - - -"),
-    ("[ /\\ a -> b ]_ /\\ c", " - [&1:3 &1:3 - ]1:8 - - - [&1:16 &1:16 - ]1:20 -"),
+    (
+        "CASE /\\ a -> /\\ \\/ b [] c",
+        " - [&1:6 &1:6 - ]1:11 - [&1:14 &1:14 [|1:17 |1:17 - ]1:22 ]1:22 - - -",
+    ),
+    (
+        "[ /\\ a -> b ]_ /\\ c",
+        " - [&1:3 &1:3 - ]1:8 - - - [&1:16 &1:16 - ]1:20 -",
+    ),
     ("( /\\ a , b )", " - [&1:3 &1:3 - ]1:8 - - - -"),
     ("{ /\\ a : b }", " - [&1:3 &1:3 - ]1:8 - - - -"),
-    ("[ /\\ a |-> /\\ b EXCEPT c ]", " - [&1:3 &1:3 - ]1:8 - [&1:12 &1:12 - ]1:17 - - - -"),
+    (
+        "[ /\\ a |-> /\\ b EXCEPT c ]",
+        " - [&1:3 &1:3 - ]1:8 - [&1:12 &1:12 - ]1:17 - - - -",
+    ),
     ("<< /\\ a >> /\\ b", " - [&1:4 &1:4 - ]1:9 - - - -"),
-    ("<< /\\ a >>_ /\\ b", " - [&1:4 &1:4 - ]1:9 - [&1:13 &1:13 - ]1:17 -"),
+    (
+        "<< /\\ a >>_ /\\ b",
+        " - [&1:4 &1:4 - ]1:9 - [&1:13 &1:13 - ]1:17 -",
+    ),
 ];
 
 #[test]
@@ -222,7 +254,12 @@ fn deep(
         add(&mut tokens, Kind::Symbol(symbol), 1, index)?;
     }
     for index in 0..count {
-        add(&mut tokens, Kind::Symbol(then), 1, count.wrapping_add(index))?;
+        add(
+            &mut tokens,
+            Kind::Symbol(then),
+            1,
+            count.wrapping_add(index),
+        )?;
     }
     ended(tokens, 2, 1)
 }
@@ -231,10 +268,25 @@ fn deep(
 fn large(rt: HostRuntime) -> Result<(), Fail> {
     let alloc = rt.alloc();
     let rows = [
-        (Symbol::And, Symbol::OpenParenthesis, Symbol::CloseParenthesis, 300001),
+        (
+            Symbol::And,
+            Symbol::OpenParenthesis,
+            Symbol::CloseParenthesis,
+            300001,
+        ),
         (Symbol::And, Symbol::Or, Symbol::Comma, 400001),
-        (Symbol::OpenBracket, Symbol::OpenParenthesis, Symbol::CloseBrace, 200001),
-        (Symbol::OpenBracket, Symbol::OpenParenthesis, Symbol::And, 400001),
+        (
+            Symbol::OpenBracket,
+            Symbol::OpenParenthesis,
+            Symbol::CloseBrace,
+            200001,
+        ),
+        (
+            Symbol::OpenBracket,
+            Symbol::OpenParenthesis,
+            Symbol::And,
+            400001,
+        ),
     ];
     for (outer, inner, then, expected) in rows {
         let tokens = deep(alloc, 100000, outer, inner, then)?;
