@@ -49,11 +49,11 @@ and_not false y h e = refl
 and_not true false h e = h
 and_not true true h e = e
 
-and_first : (x y : Bool) → (x && y) ≡ true → x ≡ true
+pub and_first : (x y : Bool) → (x && y) ≡ true → x ≡ true
 and_first true y h = refl
 and_first false y h = absurd (let q : false ≡ true = h in cc)
 
-and_second : (x y : Bool) → (x && y) ≡ true → y ≡ true
+pub and_second : (x y : Bool) → (x && y) ≡ true → y ≡ true
 and_second true y h = h
 and_second false y h = absurd (let q : false ≡ true = h in cc)
 
@@ -161,7 +161,7 @@ no_end_here true y z w s e f g h = let q : true ≡ false = e in cc
 no_end_here false y true w s e f g h = let q : true ≡ false = f in cc
 no_end_here false y false w true e f g h = let q : true ≡ false = g in cc
 
-ends_list : (operand : Bool) (t : Token) (os : Opens) (b : Bool) → some_list os ≡ b → ends operand t os ≡ true → b ≡ true
+pub ends_list : (operand : Bool) (t : Token) (os : Opens) (b : Bool) → some_list os ≡ b → ends operand t os ≡ true → b ≡ true
 ends_list operand t os true s h = refl
 ends_list operand t os false s h = absurd (no_end_here (ends_by_column t.place.col os) (is_item t os) (ends_by_closing operand t.kind os) (is_end t.kind) (some_list os) (column_list t.place.col os s) (closing_list operand t.kind os s) s h)
 

@@ -1,6 +1,6 @@
 -- When tokens are rightly marked with their junction lists: conditions on the marked list, each at one of its
 -- elements, over what the marks before it have left open.
-use Rattle.std.specs.Prelude.{◌≡◌, Bool, true, false, ◌&&◌, is_some, List, [], ◌∷◌, ◌++◌, Option, Some, None}
+use Rattle.std.specs.Prelude.{◌≡◌, ◌⊎◌, Bool, true, false, ◌&&◌, is_some, List, [], ◌∷◌, ◌++◌, Option, Some, None}
 use Rattle.trace_base.specs.declared.place.Place.{Place}
 use Rattle.tla_ast.specs.declared.laid.Bullet.{Bullet}
 use Rattle.tla_ast.specs.declared.laid.Bullet.TheVariants.{And, Or}
@@ -114,3 +114,11 @@ OneFault = (tokens : List Token) (p q : Place) → IsLeftOfList tokens p → IsL
 -- and never both
 abbrev pub NeverBoth : Type 0
 NeverBoth = (tokens : List Token) (a : List Laid) (p : Place) → IsLaid tokens a → IsLeftOfList tokens p → ⊥
+
+-- tokens are marked, or refused
+abbrev pub Decided : List Token → Type 0
+Decided tokens = ((laid : List Laid) × IsLaid tokens laid) ⊎ ((place : Place) × IsLeftOfList tokens place)
+
+-- so are all tokens of which the last, and no other, is the End
+abbrev pub AllDecided : Type 0
+AllDecided = (tokens : List Token) → EndsOnce tokens → Decided tokens

@@ -1,3 +1,4 @@
+use Rattle.tla_ast.proofs.Decided as decided
 use Rattle.tla_ast.proofs.Nesting as nesting
 use Rattle.tla_ast.proofs.Unique as unique
 use Rattle.tla_ast.proofs.laid_laws.laws_of_laid.Goals as goal
@@ -13,3 +14,6 @@ returns-clause-never c = unique.never_both
 
 pub returns-clause-nests : goal.returns-clause-nests
 returns-clause-nests c = nesting.laid_nests
+
+pub returns-clause-decided : goal.returns-clause-decided
+returns-clause-decided c = decided.decided
