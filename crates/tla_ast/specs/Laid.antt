@@ -1,5 +1,16 @@
 -- When tokens are rightly marked with their junction lists: conditions on the marked list, each at one of its
 -- elements, over what the marks before it have left open.
+--
+-- 1. Without ListOpen and ListClose, and with each ListItem as its bullet, it is the tokens (`tokens_of`).
+-- 2. Lists and constructs nest: what is open is one list, the innermost first, and behind the End nothing is
+--    (`Opens`, `opens_behind`).
+-- 3. What is inside a list stands right of its bullets (this follows, see `LaidNests`).
+-- 4. A `/\` or `\/` is an item where it has the symbol and the column of the innermost list, or where an operand is
+--    expected; in the second case alone it is the first of a new list (`is_item`, `wants_operand`).
+-- 5. The innermost list ends before a token at or left of it that is not its item, before a closing token of a
+--    construct that was opened before the list and has only lists and CASEs open after it, and before the End (`ends`).
+-- 6. No token stands at or left of a list inside which a construct other than CASE is open (`is_left`). The first
+--    that does is refused.
 use Rattle.std.specs.Prelude.{◌≡◌, ◌⊎◌, Bool, true, false, ◌&&◌, is_some, List, [], ◌∷◌, ◌++◌, Option, Some, None}
 use Rattle.trace_base.specs.declared.place.Place.{Place}
 use Rattle.tla_ast.specs.declared.laid.Bullet.{Bullet}
