@@ -238,28 +238,39 @@ fn rows(rt: HostRuntime) -> Result<(), Fail> {
     Ok(())
 }
 
-/// Tokens of two symbols in turn, then tokens of a third, on one line.
+/// A token of a large text.
+#[derive(Clone, Copy)]
+enum Fill {
+    Case,
+    Of(Symbol),
+}
+
+fn filled(fill: Fill) -> Kind
+    ensures { is_end result ≡ false }
+{
+    match fill {
+        Fill::Case => Kind::Word(Word::Case),
+        Fill::Of(symbol) => Kind::Symbol(symbol),
+    }
+}
+
+/// Two tokens in turn, and then as many of a third, on one line.
 fn deep(
     alloc: Global,
     count: u32,
-    outer: Symbol,
-    inner: Symbol,
-    then: Symbol,
+    even: Fill,
+    odd: Fill,
+    then: Fill,
 ) -> Result<Vec<Token>, AllocError>
     ensures { IfOk result (λ all. EndsOnce all.items) }
 {
     let mut tokens = Vec::new(alloc);
     for index in 0..count {
-        let symbol = if index % 2 == 0 { outer } else { inner };
-        add(&mut tokens, Kind::Symbol(symbol), 1, index)?;
+        let fill = if index % 2 == 0 { even } else { odd };
+        add(&mut tokens, filled(fill), 1, index)?;
     }
     for index in 0..count {
-        add(
-            &mut tokens,
-            Kind::Symbol(then),
-            1,
-            count.wrapping_add(index),
-        )?;
+        add(&mut tokens, filled(then), 1, count.wrapping_add(index))?;
     }
     ended(tokens, 2, 1)
 }
@@ -267,29 +278,21 @@ fn deep(
 #[test]
 fn large(rt: HostRuntime) -> Result<(), Fail> {
     let alloc = rt.alloc();
+    let bracket = Fill::Of(Symbol::OpenBracket);
+    let parenthesis = Fill::Of(Symbol::OpenParenthesis);
+    let and = Fill::Of(Symbol::And);
+    let or = Fill::Of(Symbol::Or);
+    // each of half or all of the first tokens, or of the last, is a list, with two marks more
     let rows = [
-        (
-            Symbol::And,
-            Symbol::OpenParenthesis,
-            Symbol::CloseParenthesis,
-            300001,
-        ),
-        (Symbol::And, Symbol::Or, Symbol::Comma, 400001),
-        (
-            Symbol::OpenBracket,
-            Symbol::OpenParenthesis,
-            Symbol::CloseBrace,
-            200001,
-        ),
-        (
-            Symbol::OpenBracket,
-            Symbol::OpenParenthesis,
-            Symbol::And,
-            400001,
-        ),
+        (and, parenthesis, Fill::Of(Symbol::CloseParenthesis), 300001),
+        (and, or, Fill::Of(Symbol::Comma), 400001),
+        (and, Fill::Case, Fill::Of(Symbol::Colon), 300001),
+        (Fill::Case, Fill::Case, Fill::Of(Symbol::Plus), 200001),
+        (bracket, parenthesis, Fill::Of(Symbol::CloseBrace), 200001),
+        (bracket, parenthesis, and, 400001),
     ];
-    for (outer, inner, then, expected) in rows {
-        let tokens = deep(alloc, 100000, outer, inner, then)?;
+    for (even, odd, then, expected) in rows {
+        let tokens = deep(alloc, 100000, even, odd, then)?;
         let laid = lay(alloc, tokens).map(|laid| laid.len()).unwrap_or(0);
         assert_eq!(rt; laid, expected);
     }

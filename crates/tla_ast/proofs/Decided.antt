@@ -15,11 +15,8 @@ use Rattle.tla_ast.specs.declared.construct.Open.{Open}
 use Rattle.tla_ast.specs.declared.construct.Open.TheVariants.{List as InList, Case, Inside}
 use Rattle.tla_ast.specs.Opens.{Opens, some_list, symbol_bullet, bullet_of, has_bullet, belongs, finishes, is_end, opened_by, with_opened, closed_by, reaches, is_left, is_item, ends, wants_operand, opens_behind, without_list, without_cases}
 use Rattle.tla_ast.specs.Laid.{bullet_token, symbol_of, tokens_of, next_of, Stands, Marked, EndsOnce, Decided}
+use Rattle.tla_ast.proofs.Unique.{tail, append_none}
 use Rattle.tla_ast.proofs.Nesting.{and_first, and_second, ends_list}
-
-abbrev tail : Option Token → List Token → List Token
-tail None r = []
-tail (Some t) r = t ∷ r
 
 -- a front of the tokens is marked, and all of them are, or the next is left of a list
 record Outcome (os : Opens) (operand : Bool) (ts : List Token) : Type 0 where
@@ -198,10 +195,6 @@ decide n os operand [] w end = record { laid = []; behind = None; rest = []; sam
 decide zero os operand (t ∷ ts) w end = absurd (omega (arith, w))
 decide (suc n) os operand (t ∷ ts) w end =
     step n os operand t ts (is_left t.place.col os) (ends operand t os) (is_item t os) (is_some (bullet_of t.kind) && operand) (omega (arith, w)) end (decide n) refl refl refl refl
-
-append_none : (ts : List Token) → ts ++ [] ≡ ts
-append_none [] = refl
-append_none (t ∷ ts) = ap (λ x. t ∷ x) (append_none ts)
 
 of_outcome : (tokens : List Token) (laid : List Laid) (behind : Option Token) (rest : List Token) → tokens_of laid ++ tail behind rest ≡ tokens → Marked [] true laid behind → Decided tokens
 of_outcome tokens laid None rest e m = inl (laid, record { same = sym (append_none (tokens_of laid)) ∙ e; marked = m })

@@ -124,7 +124,7 @@ module _ (os : Opens) (operand : Bool) (z : Option Token) where
   view (ListOpen And at ∷ ListItem Or p ∷ xs) h = absurd (not_other h.0)
   view (ListOpen Or at ∷ ListItem And p ∷ xs) h = absurd (not_other (sym h.0))
 
-abbrev tail : Option Token → List Token → List Token
+abbrev pub tail : Option Token → List Token → List Token
 tail None r = []
 tail (Some t) r = t ∷ r
 
@@ -201,7 +201,7 @@ same_views (suc n) os operand xs ys z w r s l (more d u us f g i j k m) (more c 
 same : (n : ℕ) (os : Opens) (operand : Bool) (xs ys : List Laid) (z w : Option Token) (r s : List Token) → length xs ≤ n → Marked os operand xs z → Marked os operand ys w → tokens_of xs ++ tail z r ≡ tokens_of ys ++ tail w s → Both xs ys z w
 same n os operand xs ys z w r s l h k e = same_views n os operand xs ys z w r s l (view os operand z xs h) (view os operand w ys k) e
 
-append_none : (ts : List Token) → ts ++ [] ≡ ts
+pub append_none : (ts : List Token) → ts ++ [] ≡ ts
 append_none [] = refl
 append_none (t ∷ ts) = ap (λ x. t ∷ x) (append_none ts)
 

@@ -79,7 +79,9 @@ opened_by (kinds.Word w) = word_opens w
 opened_by (kinds.Symbol s) = symbol_opens s
 opened_by _ = None
 
--- Closing tokens and the constructs that they belong to: THEN and ELSE to IF, IN to LET, EXCEPT to `[`,
+-- Closing tokens and the constructs that they belong to: THEN and ELSE to IF; IN to LET; `)` to `(`; `]` and `]_` to
+-- `[`; `}` to `{`; `>>` and `>>_` to `<<`; `->` to CASE and `[`; `[]` where no operand is expected to CASE; `,` to `(`,
+-- `[`, `{`, `<<` and a binder; `:` to a binder, `{` and `[`; `|->` and EXCEPT to `[`.
 abbrev pub word_belongs : Word → Open → Bool
 word_belongs words.Then (Inside If) = true
 word_belongs words.Else (Inside If) = true
@@ -87,8 +89,7 @@ word_belongs words.In (Inside Let) = true
 word_belongs words.Except (Inside Brackets) = true
 word_belongs _ _ = false
 
--- `)` to `(`, `]` and `]_` to `[`, `}` to `{`, `>>` and `>>_` to `<<`, `->` to CASE and `[`, `[]` where no operand is
--- expected to CASE, `,` to the brackets and a binder, `:` to a binder, `{` and `[`, `|->` to `[`.
+-- the symbols of these, where an operand is expected or not
 abbrev pub symbol_belongs : Bool → Symbol → Open → Bool
 symbol_belongs operand symbols.CloseParenthesis (Inside Parentheses) = true
 symbol_belongs operand symbols.CloseBracket (Inside Brackets) = true
@@ -116,7 +117,7 @@ belongs operand (kinds.Word w) o = word_belongs w o
 belongs operand (kinds.Symbol s) o = symbol_belongs operand s o
 belongs operand _ o = false
 
--- Of the closing tokens of a construct these finish it: the closing brackets, ELSE, IN, and `:` a binder.
+-- Of the closing tokens of a construct these finish it: the closing brackets; ELSE; IN; and `:`, of a binder.
 abbrev pub word_finishes : Word → Bool
 word_finishes words.Else = true
 word_finishes words.In = true
