@@ -1,0 +1,3 @@
+pub mod NoEnd
+pub mod Steps
+pub mod Summaries

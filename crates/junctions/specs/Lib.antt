@@ -1,0 +1,4 @@
+pub mod Entries
+pub mod Lays
+pub mod Steps
+pub mod Summary

@@ -1,0 +1,30 @@
+ghost use Rattle.std.specs.Prelude.{◌≡◌};
+ghost use Rattle.junctions.specs.declared.fault.LayFault.TheVariants.{NoMemory};
+
+use std::alloc::{AllocError, AllocFailed};
+use trace_base::Place;
+
+/// Why tokens have no junction lists marked.
+#[derive(Debug, Drop)]
+pub enum LayFault {
+    /// The token of this place stands at or left of the column of a list in which a bracket, IF, LET
+    /// or binder is still open.
+    LeftOfList(Place),
+    NoMemory,
+}
+
+impl From<AllocError> for LayFault {
+    ghost from_gives = { λ _ e. e ≡ NoMemory };
+
+    fn from(_e: AllocError) -> LayFault {
+        LayFault::NoMemory
+    }
+}
+
+impl<T: Drop> From<AllocFailed<T>> for LayFault {
+    ghost from_gives = { λ _ e. e ≡ NoMemory };
+
+    fn from(_e: AllocFailed<T>) -> LayFault {
+        LayFault::NoMemory
+    }
+}

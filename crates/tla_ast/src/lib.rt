@@ -1,0 +1,12 @@
+//! The syntax of TLA+ as this project's profile reads it, and what it means to be read so.
+#![tactic(auto)]
+
+mod construct;
+mod laid;
+mod laid_laws;
+mod token;
+
+pub use construct::{Construct, Open};
+pub use laid::{Bullet, Laid};
+pub use laid_laws::laws_of_laid;
+pub use token::{Foreign, Kind, Symbol, Token, Word};
