@@ -2,7 +2,9 @@
 #![tactic(auto)]
 
 mod laid;
+mod piece;
 mod token;
 
 pub use laid::{Bullet, Laid};
+pub use piece::{LexKind, Shape, one_outcome};
 pub use token::{Foreign, Kind, Symbol, Token, Word};
