@@ -1,0 +1,47 @@
+-- What the lexer's functions say of their parts.
+use Rattle.std.specs.Prelude.{◌≡◌, ℕ, ◌<◌, ◌≤◌, Bool, true, false, List, [], ◌∷◌, ◌++◌, length, drop, Option, Some, None, Result, Ok, Err, Vec}
+use Rattle.std.specs.Borrow.{Bor}
+use Rattle.std.specs.Str.{IsUtf8}
+use Rattle.std.specs.declared.alloc.Global.{Global}
+use Rattle.trace_base.specs.declared.place.Place.{Place}
+use Rattle.tla_ast.specs.declared.token.Kind.{Kind}
+use Rattle.tla_ast.specs.declared.token.Token.{Token}
+use Rattle.tla_ast.specs.Spellings.{Spelling, words, runs, signs}
+use Rattle.tla_ast.specs.Shapes.{after_quote}
+use Rattle.tla_ast.specs.Tokens.{LexedFrom, Tokens}
+use Rattle.tla_lexer.specs.declared.fault.LexFault.{LexFault}
+use Rattle.tla_lexer.specs.declared.fault.LexFault.TheVariants.{Refused, NoMemory}
+use Rattle.tla_lexer.specs.declared.strings.Quoted.{Quoted}
+use Rattle.tla_lexer.specs.declared.strings.Quoted.TheVariants.{Closed, Broken}
+use Rattle.tla_lexer.specs.declared.spellings.Table.{Table}
+use Rattle.tla_lexer.specs.declared.spellings.Table.TheVariants.{Words, Runs, Signs}
+
+abbrev pub entry_of : Option (Bor (List ℕ) × Kind) → Option Spelling
+entry_of None = None
+entry_of (Some p) = Some (record { bytes = p.0.now; kind = p.1 })
+
+abbrev pub table_of : Table → List Spelling
+table_of Words = words
+table_of Runs = runs
+table_of Signs = signs
+
+-- the bytes are the end of a text of UTF-8
+abbrev pub InUtf8 : List ℕ → Type 0
+InUtf8 text = (before : List ℕ) × IsUtf8 (before ++ text)
+
+-- what was answered is the outcome of the pieces of the text from a place on
+abbrev pub Reads : Bool → Place → List ℕ → Result (Vec Token Global) LexFault → Type 0
+Reads framed at text (Ok tokens) = LexedFrom framed at 0 text (Ok tokens.items)
+Reads framed at text (Err (Refused why place)) = LexedFrom framed at 0 text (Err (why, place))
+Reads framed at text (Err NoMemory) = Unit {0}
+
+-- what was answered is the text's outcome; or memory was wanting
+abbrev pub Lexes : Bool → ℕ → List ℕ → Result (Vec Token Global) LexFault → Type 0
+Lexes framed file text (Ok tokens) = Tokens framed file text (Ok tokens.items)
+Lexes framed file text (Err (Refused why at)) = Tokens framed file text (Err (why, at))
+Lexes framed file text (Err NoMemory) = Unit {0}
+
+-- what stands behind an opening quote, and how many bytes that takes
+abbrev pub IsQuoted : List ℕ → Quoted → Type 0
+IsQuoted text (Closed content size) = (size ≤ length text) × (after_quote text ≡ record { content = Ok content.items; rest = drop size text })
+IsQuoted text (Broken why size) = (size ≤ length text) × (after_quote text ≡ record { content = Err why; rest = drop size text })
