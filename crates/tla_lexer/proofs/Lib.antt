@@ -1,3 +1,4 @@
 pub mod Tables
 pub mod InComments
 pub mod Quotes
+pub mod Fronts

@@ -1,5 +1,5 @@
 -- What the lexer's functions say of their parts.
-use Rattle.std.specs.Prelude.{◌≡◌, ℕ, ◌<◌, ◌≤◌, Bool, true, false, List, [], ◌∷◌, ◌++◌, length, drop, Option, Some, None, Result, Ok, Err, Vec}
+use Rattle.std.specs.Prelude.{◌≡◌, ◌≢◌, ℕ, ◌≤◌, Bool, false, ◌&&◌, List, [], ◌∷◌, ◌++◌, length, drop, Option, Some, None, Result, Ok, Err, Vec}
 use Rattle.std.specs.Borrow.{Bor}
 use Rattle.std.specs.Str.{IsUtf8}
 use Rattle.std.specs.declared.alloc.Global.{Global}
@@ -7,7 +7,7 @@ use Rattle.trace_base.specs.declared.place.Place.{Place}
 use Rattle.tla_ast.specs.declared.token.Kind.{Kind}
 use Rattle.tla_ast.specs.declared.token.Token.{Token}
 use Rattle.tla_ast.specs.Spellings.{Spelling, words, runs, signs}
-use Rattle.tla_ast.specs.Shapes.{after_quote}
+use Rattle.tla_ast.specs.Shapes.{after_quote, is_blank, is_digit, is_word_start, is_base, opens_comment, begins_four}
 use Rattle.tla_ast.specs.Tokens.{LexedFrom, Tokens}
 use Rattle.tla_lexer.specs.declared.fault.LexFault.{LexFault}
 use Rattle.tla_lexer.specs.declared.fault.LexFault.TheVariants.{Refused, NoMemory}
@@ -45,3 +45,19 @@ Lexes framed file text (Err NoMemory) = Unit {0}
 abbrev pub IsQuoted : List ℕ → Quoted → Type 0
 IsQuoted text (Closed content size) = (size ≤ length text) × (after_quote text ≡ record { content = Ok content.items; rest = drop size text })
 IsQuoted text (Broken why size) = (size ≤ length text) × (after_quote text ≡ record { content = Err why; rest = drop size text })
+
+-- the first byte begins no blank, number, word or string, and is no backslash
+abbrev pub IsOther : List ℕ → Type 0
+IsOther [] = Unit {0}
+IsOther (b ∷ bs) = (is_blank b ≡ false) × (is_digit b ≡ false) × (is_word_start b ≡ false) × (b ≢ 34) × (b ≢ 92)
+
+-- no comment, dashes or equals signs begin the bytes
+pub record IsPlain (text : List ℕ) : Type 0 where
+  pub comment : opens_comment text ≡ false
+  pub dashes : begins_four 45 text ≡ false
+  pub equals : begins_four 61 text ≡ false
+
+-- b, o or h and a digit stand behind the first byte
+abbrev pub begins_base : List ℕ → Bool
+begins_base (b ∷ c ∷ d ∷ bs) = is_base c && is_digit d
+begins_base bs = false
