@@ -56,7 +56,7 @@ escapes : (c : ℕ) (bs : List ℕ) → after_quote (92 ∷ c ∷ bs) ≡ with_e
 unfolding after_quote
 escapes c bs = refl
 
-goes_on : (b : ℕ) (bs : List ℕ) → eqb b 34 ≡ false → (eqb b 10 || eqb b 13) ≡ false → eqb b 92 ≡ false → after_quote (b ∷ bs) ≡ with_character b (after_quote bs)
+pub goes_on : (b : ℕ) (bs : List ℕ) → eqb b 34 ≡ false → (eqb b 10 || eqb b 13) ≡ false → eqb b 92 ≡ false → after_quote (b ∷ bs) ≡ with_character b (after_quote bs)
 unfolding after_quote
 goes_on b [] e f g = rw e refl
 goes_on b (c ∷ bs) e f g = rw (e, f, g) refl

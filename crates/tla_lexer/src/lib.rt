@@ -12,5 +12,5 @@ mod start;
 mod strings;
 
 pub use fault::LexFault;
-// pub use lexer::{lex, lex_plain};
+pub use lexer::{lex, lex_plain};
 pub use tla_ast::LexKind;

@@ -132,7 +132,7 @@ fn sign(text: &[u8]) -> (Shape, usize)
     requires plain { IsPlain text.now }
     ensures { IsPiece text.now result.1 result.0 }
 {
-    let mut size = if text.len() < 4 { text.len() } else { 4 };
+    let mut size = text.len().min(4);
     while size > 1 {
         if let Some(kind) = kind_of(Table::Signs, &text[..size]) {
             return (Shape::Spelled(kind), size);
