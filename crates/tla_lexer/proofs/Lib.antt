@@ -6,3 +6,4 @@ pub mod Ends
 pub mod SignFronts
 pub mod RunFronts
 pub mod Starts
+pub mod Steps

@@ -5,10 +5,11 @@ use Rattle.std.specs.Str.{IsUtf8}
 use Rattle.std.specs.declared.alloc.Global.{Global}
 use Rattle.trace_base.specs.declared.place.Place.{Place}
 use Rattle.tla_ast.specs.declared.token.Kind.{Kind}
+use Rattle.tla_ast.specs.declared.token.Kind.TheVariants.{End}
 use Rattle.tla_ast.specs.declared.token.Token.{Token}
 use Rattle.tla_ast.specs.Spellings.{Spelling, words, runs, signs}
 use Rattle.tla_ast.specs.Shapes.{after_quote, is_blank, is_digit, is_word_start, is_base, opens_comment, begins_four}
-use Rattle.tla_ast.specs.Tokens.{LexedFrom, Tokens}
+use Rattle.tla_ast.specs.Tokens.{Outcome, LexedFrom, Tokens, token_at}
 use Rattle.tla_lexer.specs.declared.fault.LexFault.{LexFault}
 use Rattle.tla_lexer.specs.declared.fault.LexFault.TheVariants.{Refused, NoMemory}
 use Rattle.tla_lexer.specs.declared.strings.Quoted.{Quoted}
@@ -29,17 +30,23 @@ table_of Signs = signs
 abbrev pub InUtf8 : List ℕ → Type 0
 InUtf8 text = (before : List ℕ) × IsUtf8 (before ++ text)
 
+-- this holds of the outcome that was answered; or memory was wanting
+abbrev pub Answers : (Outcome → Type 0) → Result (Vec Token Global) LexFault → Type 0
+Answers P (Ok tokens) = P (Ok tokens.items)
+Answers P (Err (Refused why at)) = P (Err (why, at))
+Answers P (Err NoMemory) = Unit {0}
+
 -- what was answered is the outcome of the pieces of the text from a place on
 abbrev pub Reads : Bool → Place → List ℕ → Result (Vec Token Global) LexFault → Type 0
-Reads framed at text (Ok tokens) = LexedFrom framed at 0 text (Ok tokens.items)
-Reads framed at text (Err (Refused why place)) = LexedFrom framed at 0 text (Err (why, place))
-Reads framed at text (Err NoMemory) = Unit {0}
+Reads framed at text result = Answers (LexedFrom framed at 0 text) result
+
+-- what was answered is the end alone, at a place
+abbrev pub EndsAlone : Place → Result (Vec Token Global) LexFault → Type 0
+EndsAlone at result = Answers (λ o. o ≡ Ok (token_at End at ∷ [])) result
 
 -- what was answered is the text's outcome; or memory was wanting
 abbrev pub Lexes : Bool → ℕ → List ℕ → Result (Vec Token Global) LexFault → Type 0
-Lexes framed file text (Ok tokens) = Tokens framed file text (Ok tokens.items)
-Lexes framed file text (Err (Refused why at)) = Tokens framed file text (Err (why, at))
-Lexes framed file text (Err NoMemory) = Unit {0}
+Lexes framed file text result = Answers (Tokens framed file text) result
 
 -- what stands behind an opening quote, and how many bytes that takes
 abbrev pub IsQuoted : List ℕ → Quoted → Type 0

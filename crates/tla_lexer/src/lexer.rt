@@ -1,8 +1,8 @@
 //! The tokens of a whole text.
 
-ghost use Rattle.std.specs.Prelude.{◌≡◌, ◌+◌, ◌*◌, ◌^◌, ◌<◌, ◌≤◌, length, true, false};
+ghost use Rattle.std.specs.Prelude.{◌≡◌, ◌&&◌, ◌+◌, ◌*◌, ◌^◌, ◌<◌, ◌≤◌, length, true, false};
 ghost use Rattle.tla_ast.specs.Tokens.{is_equals, kind_at};
-ghost use Rattle.tla_lexer.specs.Lexer.{InUtf8, Reads, Lexes};
+ghost use Rattle.tla_lexer.specs.Lexer.{InUtf8, Reads, EndsAlone, Lexes};
 
 use crate::fault::LexFault;
 use crate::piece::piece;
@@ -16,10 +16,11 @@ use trace_base::Place;
 /// The most tokens that a text may have.
 const MOST: usize = 200000;
 
-fn is_equals(kind: &Kind) -> bool
-    ensures { result ≡ is_equals kind.now }
+/// Whether a token ends the text: of a module the first of four or more equals signs does.
+fn ends(framed: bool, kind: &Kind) -> bool
+    ensures { result ≡ (framed && is_equals kind.now) }
 {
-    matches!(kind, Kind::Equals)
+    framed && matches!(kind, Kind::Equals)
 }
 
 /// The kind of a token behind so many others: the second of a module is the word of its heading.
@@ -53,7 +54,7 @@ fn read(alloc: Global, text: &[u8], start: Place, framed: bool) -> Result<Vec<To
                 if tokens.len() == MOST {
                     return Err(LexFault::Refused(LexKind::TooManyTokens, place));
                 }
-                if framed && is_equals(&kind) {
+                if ends(framed, &kind) {
                     tokens.push(Token { kind, place })?;
                     tokens.push(Token {
                         kind: Kind::End,
@@ -77,7 +78,9 @@ fn read(alloc: Global, text: &[u8], start: Place, framed: bool) -> Result<Vec<To
 }
 
 /// The end alone, of a text without a module.
-fn end_alone(alloc: Global, place: Place) -> Result<Vec<Token>, LexFault> {
+fn end_alone(alloc: Global, place: Place) -> Result<Vec<Token>, LexFault>
+    ensures { EndsAlone place result }
+{
     let mut tokens = Vec::new(alloc);
     tokens.push(Token {
         kind: Kind::End,
