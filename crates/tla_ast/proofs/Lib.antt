@@ -1,3 +1,4 @@
 pub mod Decided
 pub mod Nesting
 pub mod Unique
+pub mod Cuts

@@ -1,0 +1,135 @@
+//! The classes of bytes, and runs of them.
+
+ghost use Rattle.std.specs.Prelude.{◌≡◌, ◌≤◌, ◌&&◌, ◌==◌, length};
+ghost use Rattle.std.specs.List.{list_any, prefix_len};
+ghost use Rattle.tla_ast.specs.Shapes.{is_blank, is_digit, is_letter, is_word_start, is_word, is_base, is_dash, is_equal, in_line, begins_fair, begins_four, opens_comment};
+ghost use Rattle.tla_ast.specs.Tokens.{is_space};
+
+pub fn is_blank(b: u8) -> bool
+    ensures { result ≡ is_blank b }
+{
+    b == b' ' || b == b'\t' || b == b'\n' || b == b'\r' || b == 12
+}
+
+pub fn is_digit(b: u8) -> bool
+    ensures { result ≡ is_digit b }
+{
+    48 <= b && b < 58
+}
+
+pub fn is_letter(b: u8) -> bool
+    ensures { result ≡ is_letter b }
+{
+    (65 <= b && b < 91) || (97 <= b && b < 123)
+}
+
+pub fn is_word_start(b: u8) -> bool
+    ensures { result ≡ is_word_start b }
+{
+    is_letter(b) || b == b'_'
+}
+
+pub fn is_word(b: u8) -> bool
+    ensures { result ≡ is_word b }
+{
+    is_word_start(b) || is_digit(b)
+}
+
+/// b, o or h in either case.
+pub fn is_base(b: u8) -> bool
+    ensures { result ≡ is_base b }
+{
+    b == b'b' || b == b'o' || b == b'h' || b == b'B' || b == b'O' || b == b'H'
+}
+
+/// How many bytes at the front are digits.
+pub fn digits(text: &[u8]) -> usize
+    ensures bound { result ≤ length text.now }
+    ensures size { result ≡ prefix_len is_digit text.now }
+{
+    text.iter().take_while(|b| is_digit(**b)).count()
+}
+
+/// How many bytes at the front are letters.
+pub fn letters(text: &[u8]) -> usize
+    ensures bound { result ≤ length text.now }
+    ensures size { result ≡ prefix_len is_letter text.now }
+{
+    text.iter().take_while(|b| is_letter(**b)).count()
+}
+
+/// How many bytes at the front belong to a word.
+pub fn words(text: &[u8]) -> usize
+    ensures bound { result ≤ length text.now }
+    ensures size { result ≡ prefix_len is_word text.now }
+{
+    text.iter().take_while(|b| is_word(**b)).count()
+}
+
+/// How many bytes stand before the end of the line.
+pub fn line(text: &[u8]) -> usize
+    ensures bound { result ≤ length text.now }
+    ensures size { result ≡ prefix_len in_line text.now }
+{
+    text.iter().take_while(|b| **b != b'\n').count()
+}
+
+/// How many bytes at the front are dashes.
+pub fn dashes(text: &[u8]) -> usize
+    ensures bound { result ≤ length text.now }
+    ensures size { result ≡ prefix_len is_dash text.now }
+{
+    text.iter().take_while(|b| **b == b'-').count()
+}
+
+/// How many bytes at the front are equals signs.
+pub fn equals(text: &[u8]) -> usize
+    ensures bound { result ≤ length text.now }
+    ensures size { result ≡ prefix_len is_equal text.now }
+{
+    text.iter().take_while(|b| **b == b'=').count()
+}
+
+/// How many bytes at the front are spaces and tabs.
+pub fn spaces(text: &[u8]) -> usize
+    ensures bound { result ≤ length text.now }
+    ensures size { result ≡ prefix_len is_space text.now }
+{
+    text.iter().take_while(|b| **b == b' ' || **b == b'\t').count()
+}
+
+pub fn has_letter(word: &[u8]) -> bool
+    ensures { result ≡ list_any is_letter word.now }
+{
+    word.iter().any(|b| is_letter(*b))
+}
+
+/// Whether `WF_` or `SF_` begins the text.
+pub fn begins_fair(text: &[u8]) -> bool
+    ensures { result ≡ begins_fair text.now }
+{
+    match text {
+        [a, b, c, ..] => (*a == b'W' || *a == b'S') && *b == b'F' && *c == b'_',
+        _ => false,
+    }
+}
+
+/// Whether this byte four times begins the text.
+pub fn begins_four(x: u8, text: &[u8]) -> bool
+    ensures { result ≡ begins_four x text.now }
+{
+    match text {
+        [a, b, c, d, ..] => *a == x && *b == x && *c == x && *d == x,
+        _ => false,
+    }
+}
+
+/// Whether `(*` begins the text.
+pub fn opens_comment(text: &[u8]) -> bool
+    ensures { result ≡ opens_comment text.now }
+{
+    match text {
+        [a, b, ..] => *a == b'(' && *b == b'*',
+        _ => false,
+    }
+}

@@ -1,0 +1,31 @@
+//! Why a text has no tokens.
+
+ghost use Rattle.std.specs.Prelude.{◌≡◌};
+ghost use Rattle.tla_lexer.specs.declared.fault.LexFault.TheVariants.{NoMemory};
+
+use std::alloc::{AllocError, AllocFailed};
+use tla_ast::LexKind;
+use trace_base::Place;
+
+/// Why a text has no tokens, and where; or memory was wanting.
+#[derive(Clone, Copy, Debug, Drop, PartialEq, Eq)]
+pub enum LexFault {
+    Refused(LexKind, Place),
+    NoMemory,
+}
+
+impl From<AllocError> for LexFault {
+    ghost from_gives = { λ _ e. e ≡ NoMemory };
+
+    fn from(_e: AllocError) -> LexFault {
+        LexFault::NoMemory
+    }
+}
+
+impl<T: Drop> From<AllocFailed<T>> for LexFault {
+    ghost from_gives = { λ _ e. e ≡ NoMemory };
+
+    fn from(_e: AllocFailed<T>) -> LexFault {
+        LexFault::NoMemory
+    }
+}

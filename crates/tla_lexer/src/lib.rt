@@ -1,0 +1,16 @@
+//! The tokens of a TLA+ text.
+#![tactic(auto)]
+
+mod bytes;
+mod comments;
+mod fault;
+mod lexer;
+mod piece;
+mod places;
+mod spellings;
+mod start;
+mod strings;
+
+pub use fault::LexFault;
+pub use lexer::{lex, lex_plain};
+pub use tla_ast::LexKind;
