@@ -1,60 +1,291 @@
-ghost use Rattle.std.specs.Prelude.{◌≡◌, ◌↔◌, IfOk, IsTrue};
-ghost use Rattle.tla_values.specs.Data.{Val, integer, int_of};
+ghost use Rattle.std.specs.Prelude.{◌≡◌, ◌↔◌, IfOk, IsTrue, Some, refl};
+ghost use Rattle.std.specs.Cmp.{partial_equiv_from_equiv};
+ghost use Rattle.std.specs.Cmp.Lexicographic.{slice_cmp};
+ghost use Rattle.std.specs.Option.{option_map};
+ghost use Rattle.tla_values.specs.Data.{model, string, integer, truth, int_of, bool_of, text_of};
+ghost use Rattle.tla_values.specs.IsValue.{IsValue};
+ghost use Rattle.tla_values.specs.Kind.{kind_of};
+ghost use Rattle.tla_values.specs.Order.{val_cmp, val_eq, kind_rank};
+ghost use Rattle.tla_values.specs.OrderLaws.{val_total, val_order, val_eq_equiv, val_same};
+ghost use Rattle.tla_values.specs.View.{entry_cmp};
 
-use std::alloc::AllocError;
+use std::alloc::{AllocError, Global};
+use std::cmp::Ordering;
 use std::marker::Model;
+use trace_base::Text;
 
-/// What a value is, in the order of values.
+/// What a value is, in the order in which values of unlike kinds stand.
 #[derive(Clone, Copy, Debug, Drop, PartialEq, Eq)]
 pub enum ValueKind {
+    Model,
+    Bool,
     Int,
+    String,
+    Set,
+    Function,
+}
+
+/// Why there is no such set or function, in the order in which it is tested.
+#[derive(Clone, Copy, Debug, Drop, PartialEq, Eq)]
+pub enum ValueFault {
+    /// A function is given one key twice.
+    KeyTwice,
+    /// More than 100,000 different members, or pairs.
+    TooLarge,
+    /// More than 32 levels.
+    TooDeep,
+    NoMemory,
 }
 
 /// A value of TLA+, seen as its tree.
+///
+/// A sequence of length n is the function with the domain `1..n`, and a record the function on its
+/// field names. `levels` is the depth of the value.
+#[cycle(value)]
 #[derive(Drop)]
 pub struct Value {
-    number: i64,
+    node: Node,
+    levels: u8,
+}
+
+/// A value by its kind. The members of a set, and the pairs of a function, stand in ascending order.
+#[cycle(value)]
+#[derive(Drop)]
+enum Node {
+    Model(Text),
+    Bool(bool),
+    Int(i64),
+    String(Text),
+    Set(Vec<Value>),
+    Function(Vec<Entry>),
+}
+
+/// A pair of a function: what it is applied to, and its value there.
+#[cycle(value)]
+#[derive(Drop)]
+struct Entry {
+    key: Value,
+    value: Value,
 }
 
 impl Model for Value {
-    ghost use Rattle.tla_values.specs.Data.{Val, integer};
+    ghost use Rattle.tla_values.specs.Data.{Val, depth};
+    ghost use Rattle.tla_values.specs.Tree.{val_code};
 
     ghost Value = { Val };
 
-    ghost view = { λ v. integer v.number };
+    ghost coded = { val_code };
+
+    ghost use Rattle.tla_values.specs.View.{node_view, IsKept};
+
+    ghost view = { λ a. node_view a.node };
+
+    ghost invariant = { λ a. IsKept a.node a.levels };
+
+    ghost size = { depth };
+
+    ghost use Rattle.tla_values.specs.Falls.{deep_le-depth};
+
+    ghost size_decreases = { λ a h. deep_le-depth a.node };
 }
 
 impl Value {
     pub fn int(n: i64) -> Value
         ensures { result ≡ integer n }
     {
-        Value { number: n }
+        Value {
+            node: Node::Int(n),
+            levels: 0,
+        }
     }
 
-    pub fn kind(&self) -> ValueKind {
-        ValueKind::Int
+    pub fn boolean(b: bool) -> Value
+        ensures { result ≡ truth b }
+    {
+        Value {
+            node: Node::Bool(b),
+            levels: 0,
+        }
+    }
+
+    pub fn string(alloc: Global, text: Text) -> Result<Value, AllocError>
+        ensures { IfOk result (λ v. v ≡ string text) }
+    {
+        let _ = alloc;
+        let _ = text.as_str();
+        Ok(Value {
+            node: Node::String(text),
+            levels: 0,
+        })
+    }
+
+    /// The model value of this name.
+    pub fn model(alloc: Global, name: Text) -> Result<Value, AllocError>
+        ensures { IfOk result (λ v. v ≡ model name) }
+    {
+        let _ = alloc;
+        let _ = name.as_str();
+        Ok(Value {
+            node: Node::Model(name),
+            levels: 0,
+        })
+    }
+
+    pub fn kind(&self) -> ValueKind
+        ensures { result ≡ kind_of self.now }
+    {
+        match &self.node {
+            Node::Model(_) => ValueKind::Model,
+            Node::Bool(_) => ValueKind::Bool,
+            Node::Int(_) => ValueKind::Int,
+            Node::String(_) => ValueKind::String,
+            Node::Set(_) => ValueKind::Set,
+            Node::Function(_) => ValueKind::Function,
+        }
     }
 
     /// The integer that it is, or none.
     pub fn as_int(&self) -> Option<i64>
         ensures { result ≡ int_of self.now }
     {
-        Some(self.number)
+        match &self.node {
+            Node::Int(n) => Some(*n),
+            _ => None,
+        }
     }
 
-    /// An equal value.
-    pub fn copy(&self) -> Result<Value, AllocError>
-        ensures { IfOk result (λ v. v ≡ self.now) }
+    /// The truth value that it is, or none.
+    pub fn as_bool(&self) -> Option<bool>
+        ensures { result ≡ bool_of self.now }
     {
-        Ok(Value {
-            number: self.number,
-        })
+        match &self.node {
+            Node::Bool(b) => Some(*b),
+            _ => None,
+        }
+    }
+
+    /// The text of a string or of a model value, or none.
+    pub fn as_text(&self) -> Option<&Text>
+        ensures { option_map (λ t. t.now) result ≡ text_of self.now }
+    {
+        match &self.node {
+            Node::Model(text) => Some(text),
+            Node::String(text) => Some(text),
+            _ => None,
+        }
+    }
+
+    /// That what is held is a value: canonical at every level, and within the limits.
+    pub fn is_value(&self)
+        ensures { IsValue self.now }
+    {
+        let _ = &self.node;
     }
 
     /// Whether both are one value.
     pub fn same(&self, other: &Value) -> bool
         ensures { IsTrue result ↔ (self.now ≡ other.now) }
     {
-        self.number == other.number
+        self == other
     }
+}
+
+impl PartialEq for Value {
+    ghost eq = { val_eq };
+
+    ghost laws = { partial_equiv_from_equiv val_eq_equiv };
+
+    fn eq(&self, other: &Value) -> bool {
+        compare(self, other).is_eq()
+    }
+}
+
+impl Eq for Value {
+    ghost laws = { val_eq_equiv };
+}
+
+impl PartialOrd for Value {
+    ghost partial_cmp = { λ a b. Some (val_cmp a b) };
+
+    ghost laws = { val_order };
+
+    fn partial_cmp(&self, other: &Value) -> Option<Ordering> {
+        Some(compare(self, other))
+    }
+}
+
+impl Ord for Value {
+    ghost cmp = { val_cmp };
+
+    ghost total = { val_total };
+
+    ghost matches_partial_cmp = { λ a b. refl };
+
+    ghost matches_eq = { λ a b. refl };
+
+    fn cmp(&self, other: &Value) -> Ordering {
+        compare(self, other)
+    }
+}
+
+/// The place of the value's kind among the six.
+fn rank(value: &Value) -> u8
+    ensures { result ≡ kind_rank value.now }
+{
+    match &value.node {
+        Node::Model(_) => 0,
+        Node::Bool(_) => 1,
+        Node::Int(_) => 2,
+        Node::String(_) => 3,
+        Node::Set(_) => 4,
+        Node::Function(_) => 5,
+    }
+}
+
+/// The order of values: by kind, then FALSE before TRUE, integers by size, texts by bytes, sets as
+/// ascending lists of members, functions as lists of pairs ascending by key.
+#[cycle(compare)]
+#[tactic(auto, unfolding(crate::specs::Order::val_cmp))]
+fn compare(a: &Value, b: &Value) -> Ordering
+    ensures { result ≡ val_cmp a.now b.now }
+{
+    match (&a.node, &b.node) {
+        (Node::Model(x), Node::Model(y)) => x.as_str().cmp(y.as_str()),
+        (Node::Bool(x), Node::Bool(y)) => x.cmp(y),
+        (Node::Int(x), Node::Int(y)) => x.cmp(y),
+        (Node::String(x), Node::String(y)) => x.as_str().cmp(y.as_str()),
+        (Node::Set(x), Node::Set(y)) => compare_items(x, y),
+        (Node::Function(x), Node::Function(y)) => compare_entries(x, y),
+        _ => rank(a).cmp(&rank(b)),
+    }
+}
+
+#[cycle(compare)]
+fn compare_items(a: &Vec<Value>, b: &Vec<Value>) -> Ordering
+    ensures { result ≡ slice_cmp val_cmp a.now.items b.now.items }
+{
+    let shared = a.len().min(b.len());
+    for i in 0..shared {
+        let order = compare(&a[i], &b[i]);
+        if order.is_ne() {
+            return order;
+        }
+    }
+    a.len().cmp(&b.len())
+}
+
+#[cycle(compare)]
+fn compare_entries(a: &Vec<Entry>, b: &Vec<Entry>) -> Ordering
+    ensures { result ≡ slice_cmp entry_cmp a.now.items b.now.items }
+{
+    let shared = a.len().min(b.len());
+    for i in 0..shared {
+        let x = &a[i];
+        let y = &b[i];
+        let order = compare(&x.key, &y.key).then(compare(&x.value, &y.value));
+        if order.is_ne() {
+            return order;
+        }
+    }
+    a.len().cmp(&b.len())
 }
