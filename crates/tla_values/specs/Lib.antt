@@ -2,7 +2,12 @@ pub mod Data
 pub mod Tree
 pub mod Order
 pub mod OrderLaws
+pub mod Ascending
 pub mod IsValue
 pub mod View
 pub mod Falls
 pub mod Kind
+pub mod Sets
+pub mod SetLaws
+pub mod Functions
+pub mod FunctionLaws

@@ -29,3 +29,7 @@ pub record IsKept (n : Node) (levels : ℕ) : Type 0 where
 -- the order of pairs of key and value: by the key, then by the value
 abbrev pub entry_cmp : Entry → Entry → Ordering
 entry_cmp d e = ordering_then (val_cmp d.key e.key) (val_cmp d.value e.value)
+
+-- the same for pairs that are not yet a function's
+abbrev pub pair_cmp : Val × Val → Val × Val → Ordering
+pair_cmp p q = ordering_then (val_cmp p.0 q.0) (val_cmp p.1 q.1)

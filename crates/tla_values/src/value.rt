@@ -1,18 +1,25 @@
-ghost use Rattle.std.specs.Prelude.{◌≡◌, ◌↔◌, IfOk, IsTrue, Some, refl};
+ghost use Rattle.std.specs.Prelude.{◌≡◌, ◌↔◌, ◌<◌, IfOk, IsTrue, List, Some, length, refl, slice_get};
 ghost use Rattle.std.specs.Cmp.{partial_equiv_from_equiv};
 ghost use Rattle.std.specs.Cmp.Lexicographic.{slice_cmp};
+ghost use Rattle.std.specs.List.Sorted.{IsBinarySearchResult, IsSearchInRange};
 ghost use Rattle.std.specs.Option.{option_map};
-ghost use Rattle.tla_values.specs.Data.{model, string, integer, truth, int_of, bool_of, text_of};
+ghost use Rattle.tla_values.specs.Data.{model, string, integer, truth, int_of, bool_of, text_of, Val};
+ghost use Rattle.tla_values.specs.Functions.{
+    Applies, DomainByPairs, FunctionsByPairs, OneValueAtKey, keys_in, values_in
+};
 ghost use Rattle.tla_values.specs.IsValue.{IsValue};
 ghost use Rattle.tla_values.specs.Kind.{kind_of};
 ghost use Rattle.tla_values.specs.Order.{val_cmp, val_eq, kind_rank};
 ghost use Rattle.tla_values.specs.OrderLaws.{val_total, val_order, val_eq_equiv, val_same};
+ghost use Rattle.tla_values.specs.Sets.{Member, SetAnswers, SetsByMembers, count_of, items_of};
 ghost use Rattle.tla_values.specs.View.{entry_cmp};
 
 use std::alloc::{AllocError, Global};
 use std::cmp::Ordering;
 use std::marker::Model;
 use trace_base::Text;
+
+mod making;
 
 /// What a value is, in the order in which values of unlike kinds stand.
 #[derive(Clone, Copy, Debug, Drop, PartialEq, Eq)]
@@ -35,6 +42,17 @@ pub enum ValueFault {
     /// More than 32 levels.
     TooDeep,
     NoMemory,
+}
+
+impl From<AllocError> for ValueFault {
+    ghost use Rattle.std.specs.Prelude.{◌≡◌};
+    ghost use Rattle.tla_values.specs.declared.value.ValueFault.TheVariants.{NoMemory};
+
+    ghost from_gives = { λ _ e. e ≡ NoMemory };
+
+    fn from(_e: AllocError) -> ValueFault {
+        ValueFault::NoMemory
+    }
 }
 
 /// A value of TLA+, seen as its tree.
@@ -182,6 +200,112 @@ impl Value {
         let _ = &self.node;
     }
 
+    /// How many members a set, or pairs a function, has, and 0 for all else.
+    pub fn len(&self) -> usize
+        ensures { result ≡ count_of self.now }
+    {
+        match &self.node {
+            Node::Set(items) => items.len(),
+            Node::Function(entries) => entries.len(),
+            _ => 0,
+        }
+    }
+
+    /// The member of a set at `i` in ascending order, from 0.
+    pub fn member_at(&self, i: usize) -> Option<&Value>
+        ensures { option_map (λ v. v.now) result ≡ slice_get (items_of self.now) i }
+    {
+        match &self.node {
+            Node::Set(items) => {
+                if i < items.len() {
+                    Some(&items[i])
+                } else {
+                    None
+                }
+            }
+            _ => None,
+        }
+    }
+
+    /// The value of a function at its key at `i` in ascending order, from 0.
+    pub fn value_at(&self, i: usize) -> Option<&Value>
+        ensures { option_map (λ v. v.now) result ≡ slice_get (values_in self.now) i }
+    {
+        match &self.node {
+            Node::Function(entries) => {
+                if i < entries.len() {
+                    let entry = &entries[i];
+                    Some(&entry.value)
+                } else {
+                    None
+                }
+            }
+            _ => None,
+        }
+    }
+
+    /// The key of a function at `i` in ascending order, from 0.
+    pub fn key_at(&self, i: usize) -> Result<Option<Value>, AllocError>
+        ensures { IfOk result (λ key. key ≡ slice_get (keys_in self.now) i) }
+    {
+        match &self.node {
+            Node::Function(entries) => {
+                if i < entries.len() {
+                    let entry = &entries[i];
+                    let key = entry.key.copy()?;
+                    Ok(Some(key))
+                } else {
+                    Ok(None)
+                }
+            }
+            _ => Ok(None),
+        }
+    }
+
+    /// Whether `v` is a member of this set.
+    pub fn contains(&self, v: &Value) -> bool
+        ensures { IsTrue result ↔ Member v.now self.now }
+    {
+        match &self.node {
+            Node::Set(items) => items.binary_search(v).is_ok(),
+            _ => false,
+        }
+    }
+
+    /// The value of this function at the key; none where it is no function, or the key is outside
+    /// its domain.
+    pub fn apply(&self, key: &Value) -> Option<&Value>
+        ensures { Applies self.now key.now (option_map (λ v. v.now) result) }
+    {
+        match &self.node {
+            Node::Function(entries) => match find(entries, key) {
+                Ok(at) => {
+                    let entry = &entries[at];
+                    Some(&entry.value)
+                }
+                Err(_) => None,
+            },
+            _ => None,
+        }
+    }
+
+    /// An equal value.
+    pub fn copy(&self) -> Result<Value, AllocError>
+        ensures { IfOk result (λ v. v ≡ self.now) }
+    {
+        copy_value(self)
+    }
+
+    /// What determines a set, and a function.
+    pub fn laws()
+        ensures sets { SetsByMembers }
+        ensures functions { FunctionsByPairs }
+        ensures one_value { OneValueAtKey }
+        ensures domain { DomainByPairs }
+        ensures set_answers { (xs : List Val) → SetAnswers xs }
+    {
+    }
+
     /// Whether both are one value.
     pub fn same(&self, other: &Value) -> bool
         ensures { IsTrue result ↔ (self.now ≡ other.now) }
@@ -288,4 +412,52 @@ fn compare_entries(a: &Vec<Entry>, b: &Vec<Entry>) -> Ordering
         }
     }
     a.len().cmp(&b.len())
+}
+
+/// Where the pair of this key stands among pairs in ascending order.
+fn find(entries: &Vec<Entry>, key: &Value) -> Result<usize, usize>
+    ensures range { IsSearchInRange result (length entries.now.items) }
+    ensures place { IsBinarySearchResult (λ e. val_cmp e.key key.now) entries.now.items result }
+{
+    entries.binary_search_by(|entry| entry.key.cmp(key))
+}
+
+#[cycle(copy)]
+fn copy_value(value: &Value) -> Result<Value, AllocError>
+    ensures { IfOk result (λ v. v ≡ value.now) }
+{
+    let levels = value.levels;
+    let node = match &value.node {
+        Node::Model(name) => Node::Model(name.copy()?),
+        Node::Bool(b) => Node::Bool(*b),
+        Node::Int(n) => Node::Int(*n),
+        Node::String(text) => Node::String(text.copy()?),
+        Node::Set(items) => Node::Set(copy_items(items)?),
+        Node::Function(entries) => Node::Function(copy_entries(entries)?),
+    };
+    Ok(Value { node, levels })
+}
+
+#[cycle(copy)]
+fn copy_items(items: &Vec<Value>) -> Result<Vec<Value>, AllocError>
+    ensures { IfOk result (λ v. v.items ≡ items.now.items) }
+{
+    let mut copies = Vec::with_capacity(*items.allocator(), items.len())?;
+    for item in items {
+        copies.push(copy_value(item)?)?;
+    }
+    Ok(copies)
+}
+
+#[cycle(copy)]
+fn copy_entries(entries: &Vec<Entry>) -> Result<Vec<Entry>, AllocError>
+    ensures { IfOk result (λ v. v.items ≡ entries.now.items) }
+{
+    let mut copies = Vec::with_capacity(*entries.allocator(), entries.len())?;
+    for entry in entries {
+        let key = copy_value(&entry.key)?;
+        let value = copy_value(&entry.value)?;
+        copies.push(Entry { key, value })?;
+    }
+    Ok(copies)
 }

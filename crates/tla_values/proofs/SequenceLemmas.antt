@@ -1,0 +1,53 @@
+-- The pairs of a sequence.
+use Rattle.std.proofs.Common.{◌≡◌, ℕ, zero, suc, ◌+◌, ◌<◌, ◌≤◌, max, List, [], ◌∷◌, ◌++◌, length, map, ap, sym, ◌∙◌, refl, arith, pos}
+use Rattle.std.specs.declared.cmp.Ordering.TheVariants.{Less}
+use Rattle.std.specs.Ordering.{nat_cmp, int_cmp}
+use Rattle.std.specs.Int.{w64}
+use Rattle.std.specs.Prelude.{FitsSigned}
+use Rattle.std.specs.List.{AllByRecursion}
+use Rattle.std.specs.List.Sorted.{IsStrictlySortedBy}
+use Rattle.std.proofs.lemmas.Int.{ints}
+use Rattle.std.proofs.lemmas.Bool.Decides.{nat_tests}
+use Rattle.tla_values.specs.Data.{Val, integer, pairs_of, depth, pairs_depth, vals_of, vals_depth}
+use Rattle.tla_values.specs.IsValue.{IsValue, IsCanonical, HaveCanonical, AreCanonical}
+use Rattle.tla_values.specs.Order.{val_cmp}
+use Rattle.tla_values.specs.Functions.{numbered_from, sequence_of}
+use Rattle.tla_values.proofs.FunctionLemmas.{valid_function}
+
+pub length-numbered : (n : ℕ) (vs : List Val) → length (numbered_from n vs) ≡ length vs
+length-numbered n [] = refl
+length-numbered n (v ∷ vs) = ap suc (length-numbered (suc n) vs)
+
+pub depth-numbered : (n : ℕ) (vs : List Val) → pairs_depth (pairs_of (numbered_from n vs)) ≡ vals_depth (vals_of vs)
+depth-numbered n [] = refl
+depth-numbered n (v ∷ vs) = omega (arith, depth-numbered (suc n) vs)
+
+pub numbered-push : (n : ℕ) (vs : List Val) (v : Val) → numbered_from n (vs ++ v ∷ []) ≡ numbered_from n vs ++ (integer (pos (n + length vs)), v) ∷ []
+numbered-push n [] v = let e : n ≡ n + 0 = omega arith in ap (λ m. (integer (pos m), v) ∷ []) e
+numbered-push n (u ∷ us) v =
+    let e : suc n + length us ≡ n + suc (length us) = omega arith in
+    ap (λ ps. (integer (pos n), u) ∷ ps) (numbered-push (suc n) us v ∙ ap (λ m. numbered_from (suc n) us ++ (integer (pos m), v) ∷ []) e)
+
+less : (m n : ℕ) → m < n → val_cmp (integer (pos m)) (integer (pos n)) ≡ Less
+unfolding val_cmp
+less m n h = grind (arith, nat_tests)
+
+all_above : (m n : ℕ) (vs : List Val) → m < n → AllByRecursion (λ j. val_cmp (integer (pos m)) j ≡ Less) (map (λ p. p.0) (numbered_from n vs))
+all_above m n [] h = tt
+all_above m n (v ∷ vs) h = (less m n h, all_above m (suc n) vs (omega arith))
+
+ascending-numbered : (n : ℕ) (vs : List Val) → IsStrictlySortedBy val_cmp (map (λ p. p.0) (numbered_from n vs))
+unfolding IsStrictlySortedBy
+ascending-numbered n [] = tt
+ascending-numbered n (v ∷ vs) = (all_above n (suc n) vs (omega arith), ascending-numbered (suc n) vs)
+
+fits : (n : ℕ) → n ≤ 200000 → FitsSigned w64 (pos n)
+fits n h = omega (arith, ints)
+
+canonical-numbered : (n : ℕ) (vs : List Val) → n + length vs ≤ 200000 → AreCanonical (vals_of vs) → HaveCanonical (pairs_of (numbered_from n vs))
+canonical-numbered n [] h k = tt
+canonical-numbered n (v ∷ vs) h k = (fits n (omega arith), k.0, canonical-numbered (suc n) vs (omega arith) k.1)
+
+pub valid_sequence : (vs : List Val) → length vs ≤ 100000 → AreCanonical (vals_of vs) → vals_depth (vals_of vs) < 32 → IsValue (sequence_of vs)
+valid_sequence vs l k d =
+    valid_function (numbered_from 1 vs) (ascending-numbered 1 vs) (omega (arith, length-numbered 1 vs)) (canonical-numbered 1 vs (omega arith) k) (omega (arith, depth-numbered 1 vs))
