@@ -5,3 +5,4 @@ pub mod Entries
 pub mod SetLemmas
 pub mod FunctionLemmas
 pub mod SequenceLemmas
+pub mod Hashing

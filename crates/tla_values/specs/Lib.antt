@@ -11,3 +11,4 @@ pub mod Sets
 pub mod SetLaws
 pub mod Functions
 pub mod FunctionLaws
+pub mod HashInput

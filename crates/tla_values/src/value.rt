@@ -19,6 +19,7 @@ use std::cmp::Ordering;
 use std::marker::Model;
 use trace_base::Text;
 
+mod hash;
 mod making;
 
 /// What a value is, in the order in which values of unlike kinds stand.
