@@ -2,7 +2,7 @@
 ///
 /// `file` is a number, from 0, in the program's list of file names; `line` and `col` count from 1,
 /// the column in characters.
-#[derive(Clone, Copy, Debug, Drop, PartialEq, Eq)]
+#[derive(Clone, Copy, Debug, Drop, PartialEq, Eq, PartialOrd, Ord, Hash)]
 pub struct Place {
     pub file: u32,
     pub line: u32,
@@ -10,7 +10,7 @@ pub struct Place {
 }
 
 /// A line of a log. `file` counts the logs from 1, `line` the lines of that log from 1.
-#[derive(Clone, Copy, Debug, Drop, PartialEq, Eq)]
+#[derive(Clone, Copy, Debug, Drop, PartialEq, Eq, PartialOrd, Ord, Hash)]
 pub struct LineAt {
     pub file: u32,
     pub line: u32,

@@ -1,0 +1,63 @@
+ghost use Rattle.std.specs.Prelude.{◌≡◌, ◌≤◌, None, vec_len, IfOk, IsErrOf};
+ghost use Rattle.trace_base.specs.Device.{Rose, Lacks, IsWhole, IsLonger};
+
+use crate::device::{Files, OpenFault};
+use std::alloc::Global;
+
+/// How many bytes are asked for at a time.
+const ROOM: usize = 16_384;
+
+/// Why a file was not read.
+#[derive(Clone, Copy, Debug, Drop, PartialEq, Eq)]
+pub enum ReadFault {
+    /// There is no file of that name.
+    Missing,
+    /// It was not opened, or a read failed.
+    Failed,
+    /// It has more bytes than the limit.
+    TooLong,
+    /// Want of memory.
+    NoMemory,
+}
+
+/// All bytes of the named file, of which there are at most `limit`. After a refusal some file may
+/// be open, but for `Missing`.
+pub fn read_file<F: Files>(
+    alloc: Global,
+    files: &mut F,
+    name: &str,
+    limit: usize,
+) -> Result<Vec<u8>, ReadFault>
+    ensures whole { IfOk result (λ v. IsWhole name.now (F.holds files.old) v.items) }
+    ensures within { IfOk result (λ v. vec_len v ≤ limit) }
+    ensures too_long { IsErrOf result ReadFault.TooLong → IsLonger name.now (F.holds files.old) limit }
+    ensures missing { IsErrOf result ReadFault.Missing → Lacks name.now (F.holds files.old) (F.faults files.old) (F.faults files.new) }
+    ensures failed { IsErrOf result ReadFault.Failed → Rose (F.faults files.old) (F.faults files.new) }
+    ensures closed { IsErrOf result ReadFault.Missing → F.at files.new ≡ None }
+    ensures same { F.holds files.new ≡ F.holds files.old }
+    ensures later { F.faults files.old ≤ F.faults files.new }
+{
+    if let Err(fault) = files.open(name) {
+        return Err(match fault {
+            OpenFault::Missing => ReadFault::Missing,
+            OpenFault::Failed => ReadFault::Failed,
+            OpenFault::NoMemory => ReadFault::NoMemory,
+        });
+    }
+    let mut bytes = Vec::new(alloc);
+    let mut room = [0u8; ROOM];
+    loop {
+        let Ok(count) = files.next(&mut room) else {
+            return Err(ReadFault::Failed);
+        };
+        if count == 0 {
+            return Ok(bytes);
+        }
+        if count > limit - bytes.len() {
+            return Err(ReadFault::TooLong);
+        }
+        if bytes.extend_from_slice(&room[..count]).is_err() {
+            return Err(ReadFault::NoMemory);
+        }
+    }
+}
