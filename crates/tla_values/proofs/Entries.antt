@@ -87,8 +87,8 @@ no_key es key i s b p h = none (rw keys_view at h)
         let there : (get_or es g.0 d).key ≡ key = sym (get_or-map (λ (e : Entry). e.key) es g.0 d key within) ∙ g.2 in
         let same : val_cmp (get_or es g.0 d).key key ≡ Equal = rw there (tied_itself val_total key) in
         elim (cases_lt g.0 i) [
-          inl l ↦ let e : val_cmp (get_or es g.0 d).key key ≡ Less = parts.0 g.0 d (omega arith) l in cc
-        | inr l ↦ let e : val_cmp (get_or es g.0 d).key key ≡ Greater = parts.1 g.0 d l within in cc
+          | inl l ↦ let e : val_cmp (get_or es g.0 d).key key ≡ Less = parts.0 g.0 d (omega arith) l in cc
+          | inr l ↦ let e : val_cmp (get_or es g.0 d).key key ≡ Greater = parts.1 g.0 d l within in cc
         ]
 
 -- one more pair at the end

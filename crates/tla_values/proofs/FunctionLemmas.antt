@@ -125,9 +125,9 @@ key_twice_before xs ps perm t = record {
 pub pair_depth_in : (ps : List (Val × Val)) (p : Val × Val) → Contains ps p → max (depth p.0) (depth p.1) ≤ pairs_depth (pairs_of ps)
 pair_depth_in [] p h = absurd (none_in p h)
 pair_depth_in (q ∷ qs) p h = elim (cons_cases q qs p h) [
-      inl e ↦ let a : depth q.0 ≡ depth p.0 = ap (λ (w : Val × Val). depth w.0) e in let b : depth q.1 ≡ depth p.1 = ap (λ (w : Val × Val). depth w.1) e in omega arith
-    | inr g ↦ let d = pair_depth_in qs p g in omega (arith, d)
-    ]
+  | inl e ↦ let a : depth q.0 ≡ depth p.0 = ap (λ (w : Val × Val). depth w.0) e in let b : depth q.1 ≡ depth p.1 = ap (λ (w : Val × Val). depth w.1) e in omega arith
+  | inr g ↦ let d = pair_depth_in qs p g in omega (arith, d)
+]
 
 pub pair_depth_all : (ps : List (Val × Val)) (n : ℕ) → ((p : Val × Val) → Contains ps p → max (depth p.0) (depth p.1) ≤ n) → pairs_depth (pairs_of ps) ≤ n
 pair_depth_all [] n f = omega arith

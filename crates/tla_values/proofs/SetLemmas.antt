@@ -45,8 +45,8 @@ contains_by_search ks v (Err i) s b p = (λ t. cc, λ h. absurd (none h))
         let parts = p (searchable_from_sorted val_total (λ x. x) ks v (sorted_from_strict ks s)) in
         let same : val_cmp (get_or ks h.0 v) v ≡ Equal = rw h.2 (tied_itself val_total v) in
         elim (cases_lt h.0 i) [
-          inl l ↦ let e : val_cmp (get_or ks h.0 v) v ≡ Less = parts.0 h.0 v (omega arith) l in cc
-        | inr l ↦ let e : val_cmp (get_or ks h.0 v) v ≡ Greater = parts.1 h.0 v l h.1 in cc
+          | inl l ↦ let e : val_cmp (get_or ks h.0 v) v ≡ Less = parts.0 h.0 v (omega arith) l in cc
+          | inr l ↦ let e : val_cmp (get_or ks h.0 v) v ≡ Greater = parts.1 h.0 v l h.1 in cc
         ]
 
 pub valid_set : (xs ks : List Val) → IsAscendingOf xs ks → length ks ≤ 100000 → AreCanonical (vals_of ks) → vals_depth (vals_of ks) < 32 → IsValue (set (vals_of ks))

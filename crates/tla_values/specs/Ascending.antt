@@ -39,19 +39,19 @@ module _ {X : Type 0} (R : X → X → Ordering) (o : IsTotalOrder R) where
       → ((v : X) → Contains (k ∷ ks) v ↔ Contains (l ∷ ls) v) → k ≡ l
   heads k l ks ls s t same =
       elim (cons_cases l ls k ((same k).0 (head_in k ks))) [
-        inl e ↦ sym e
-      | inr h ↦ elim (cons_cases k ks l ((same l).1 (head_in l ls))) [
-          inl e ↦ e
-        | inr g ↦ absurd (not_both l k (below l ls k t h) (below k ks l s g))
+        | inl e ↦ sym e
+        | inr h ↦ elim (cons_cases k ks l ((same l).1 (head_in l ls))) [
+          | inl e ↦ e
+          | inr g ↦ absurd (not_both l k (below l ls k t h) (below k ks l s g))
         ]
       ]
 
   tails : (k l : X) (ks ls : List X) → IsStrictlySortedBy R (k ∷ ks) → k ≡ l
       → ((v : X) → Contains (k ∷ ks) v → Contains (l ∷ ls) v) → (v : X) → Contains ks v → Contains ls v
   tails k l ks ls s e f v h = elim (cons_cases l ls v (f v (tail_in k ks v h))) [
-        inl g ↦ absurd (not_itself k v (e ∙ g) (below k ks v s h))
-      | inr g ↦ g
-      ]
+    | inl g ↦ absurd (not_itself k v (e ∙ g) (below k ks v s h))
+    | inr g ↦ g
+  ]
 
   pub ascending_unique : (ks ls : List X) → IsStrictlySortedBy R ks → IsStrictlySortedBy R ls → ((v : X) → Contains ks v ↔ Contains ls v) → ks ≡ ls
   ascending_unique [] [] s t same = refl
@@ -60,5 +60,5 @@ module _ {X : Type 0} (R : X → X → Ordering) (o : IsTotalOrder R) where
   ascending_unique (k ∷ ks) (l ∷ ls) s t same =
       let e = heads k l ks ls s t same in
       let rest : ks ≡ ls = ascending_unique ks ls (sorted_tail R k ks s) (sorted_tail R l ls t)
-          (λ v. (tails k l ks ls s e (λ w. (same w).0) v, tails l k ls ks t (sym e) (λ w. (same w).1) v)) in
+      (λ v. (tails k l ks ls s e (λ w. (same w).0) v, tails l k ls ks t (sym e) (λ w. (same w).1) v)) in
       λ i. e i ∷ rest i

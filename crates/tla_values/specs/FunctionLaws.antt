@@ -76,13 +76,13 @@ pub one_pair : (ps : List (Val × Val)) (p q : Val × Val) → IsStrictlySortedB
 one_pair [] p q s e h g = absurd (none_in p h)
 one_pair (r ∷ rs) p q s e h g =
     elim (cons_cases r rs p h) [
-      inl a ↦ elim (cons_cases r rs q g) [
-        inl b ↦ sym a ∙ b
-      | inr b ↦ absurd (not_itself val_cmp val_total r.0 q.0 (ap (λ (w : Val × Val). w.0) a ∙ e) (below key_cmp key_total r rs q s b))
+      | inl a ↦ elim (cons_cases r rs q g) [
+        | inl b ↦ sym a ∙ b
+        | inr b ↦ absurd (not_itself val_cmp val_total r.0 q.0 (ap (λ (w : Val × Val). w.0) a ∙ e) (below key_cmp key_total r rs q s b))
       ]
-    | inr a ↦ elim (cons_cases r rs q g) [
-        inl b ↦ absurd (not_itself val_cmp val_total r.0 p.0 (ap (λ (w : Val × Val). w.0) b ∙ sym e) (below key_cmp key_total r rs p s a))
-      | inr b ↦ one_pair rs p q (sorted_tail key_cmp r rs s) e a b
+      | inr a ↦ elim (cons_cases r rs q g) [
+        | inl b ↦ absurd (not_itself val_cmp val_total r.0 p.0 (ap (λ (w : Val × Val). w.0) b ∙ sym e) (below key_cmp key_total r rs p s a))
+        | inr b ↦ one_pair rs p q (sorted_tail key_cmp r rs s) e a b
       ]
     ]
 
@@ -111,16 +111,16 @@ pub key_in : (ps : List (Val × Val)) (key : Val) → Contains (map (λ p. p.0) 
 key_in [] key h = absurd (none_in key h)
 key_in (p ∷ ps) key h =
     elim (cons_cases p.0 (map (λ r. r.0) ps) key h) [
-      inl e ↦ (p.1, subst (λ (k : Val). Contains (p ∷ ps) (k, p.1)) e (head_in p ps))
-    | inr g ↦ let found = key_in ps key g in (found.0, tail_in p ps (key, found.0) found.1)
+      | inl e ↦ (p.1, subst (λ (k : Val). Contains (p ∷ ps) (k, p.1)) e (head_in p ps))
+      | inr g ↦ let found = key_in ps key g in (found.0, tail_in p ps (key, found.0) found.1)
     ]
 
 pub in_keys : (ps : List (Val × Val)) (r : Val × Val) → Contains ps r → Contains (map (λ p. p.0) ps) r.0
 in_keys [] r h = absurd (none_in r h)
 in_keys (p ∷ ps) r h =
     elim (cons_cases p ps r h) [
-      inl e ↦ subst (λ (w : Val × Val). Contains (p.0 ∷ map (λ q. q.0) ps) w.0) e (head_in p.0 (map (λ q. q.0) ps))
-    | inr g ↦ tail_in p.0 (map (λ q. q.0) ps) r.0 (in_keys ps r g)
+      | inl e ↦ subst (λ (w : Val × Val). Contains (p.0 ∷ map (λ q. q.0) ps) w.0) e (head_in p.0 (map (λ q. q.0) ps))
+      | inr g ↦ tail_in p.0 (map (λ q. q.0) ps) r.0 (in_keys ps r g)
     ]
 
 pub domain_by_pairs : DomainByPairs

@@ -56,7 +56,7 @@ not_deep xs s o t =
 pub not_large_and_deep : (xs : List Val) → IsTooLarge xs → IsTooDeep xs → ⊥
 not_large_and_deep xs l d =
     let e : l.keys ≡ d.keys = ascending_unique val_cmp val_total l.keys d.keys l.lists.ascending d.lists.ascending
-        (λ v. (λ h. (d.lists.same v).1 ((l.lists.same v).0 h), λ h. (l.lists.same v).1 ((d.lists.same v).0 h))) in
+    (λ v. (λ h. (d.lists.same v).1 ((l.lists.same v).0 h), λ h. (l.lists.same v).1 ((d.lists.same v).0 h))) in
     omega (arith, ap (length {A = Val}) e, l.large, d.few)
 
 pub set_answers : (xs : List Val) → SetAnswers xs

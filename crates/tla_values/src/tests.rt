@@ -116,7 +116,12 @@ fn functions_are_one_however_made(rt: HostRuntime) {
 fn records_are_functions_on_strings(rt: HostRuntime) -> Result<(), Fail> {
     let alloc = rt.alloc();
     let name = string(alloc, "a")?;
-    assert!(rt; alike(record(alloc, "a", Value::int(1)), function(alloc, name, Value::int(1))));
+    assert!(rt;
+        alike(
+            record(alloc, "a", Value::int(1)),
+            function(alloc, name, Value::int(1))
+        )
+    );
     assert!(rt; alike(Value::record(alloc, Vec::new(alloc)), tuple(alloc, &[])));
     let key = key_of_five(alloc)?;
     assert!(rt; is_int(key.as_ref(), 1));
@@ -126,8 +131,18 @@ fn records_are_functions_on_strings(rt: HostRuntime) -> Result<(), Fail> {
 #[test]
 fn limits_hold(rt: HostRuntime) -> Result<(), Fail> {
     let alloc = rt.alloc();
-    assert!(rt; is_refused(Value::make_set(alloc, counted(alloc, 100_001)?), ValueFault::TooLarge));
-    assert!(rt; is_refused(Value::sequence(alloc, counted(alloc, 100_001)?), ValueFault::TooLarge));
+    assert!(rt;
+        is_refused(
+            Value::make_set(alloc, counted(alloc, 100_001)?),
+            ValueFault::TooLarge
+        )
+    );
+    assert!(rt;
+        is_refused(
+            Value::sequence(alloc, counted(alloc, 100_001)?),
+            ValueFault::TooLarge
+        )
+    );
     assert!(rt; is_refused(nested(alloc, 33), ValueFault::TooDeep));
     assert!(rt; alike(nested(alloc, 32), nested(alloc, 32)));
     let deep = nested(alloc, 32)?;

@@ -5,7 +5,12 @@ ghost use Rattle.std.specs.List.Sorted.{IsBinarySearchResult, IsSearchInRange};
 ghost use Rattle.std.specs.Option.{option_map};
 ghost use Rattle.tla_values.specs.Data.{model, string, integer, truth, int_of, bool_of, text_of, Val};
 ghost use Rattle.tla_values.specs.Functions.{
-    Applies, DomainByPairs, FunctionsByPairs, OneValueAtKey, keys_in, values_in
+  Applies,
+  DomainByPairs,
+  FunctionsByPairs,
+  OneValueAtKey,
+  keys_in,
+  values_in,
 };
 ghost use Rattle.tla_values.specs.IsValue.{IsValue};
 ghost use Rattle.tla_values.specs.Kind.{kind_of};
@@ -304,8 +309,7 @@ impl Value {
         ensures one_value { OneValueAtKey }
         ensures domain { DomainByPairs }
         ensures set_answers { (xs : List Val) → SetAnswers xs }
-    {
-    }
+    {}
 
     /// Whether both are one value.
     pub fn same(&self, other: &Value) -> bool

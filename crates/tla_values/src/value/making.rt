@@ -2,7 +2,11 @@ ghost use Rattle.std.specs.Prelude.{◌≡◌, ◌≤◌, IfOk, List, MatchBool,
 ghost use Rattle.std.specs.List.Sorted.{IsSorted, IsStrictlySortedBy};
 ghost use Rattle.tla_values.specs.Data.{depth, pairs_depth, pairs_of, vals_depth, vals_of};
 ghost use Rattle.tla_values.specs.Functions.{
-    HasKeyTwice, MakesFunction, MakesSequence, fields_as_pairs, numbered_from
+  HasKeyTwice,
+  MakesFunction,
+  MakesSequence,
+  fields_as_pairs,
+  numbered_from,
 };
 ghost use Rattle.tla_values.specs.IsValue.{AreCanonical, HaveCanonical, IsCanonical};
 ghost use Rattle.tla_values.specs.Order.{val_cmp};

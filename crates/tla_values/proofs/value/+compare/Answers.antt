@@ -11,12 +11,12 @@ use Rattle.tla_values.proofs.value.+compare.Goals.{compare-in_default-via-in-Mod
 pub compare-returns-in_default : goal.compare-returns-in_default
 compare-returns-in_default t c =
     c.cmp-in_default.ensures ∙ elim c.in_default.branch [
-      compare-in_default-via-in-Model+in_default w ↦ rw (c.rank.ensures, c.rank-in_default.ensures, ← c.a.view_is, ← c.b.view_is, w.in_default.is-0) (unlike_model c.b.inside.node w.in_default.field-0-0 w.in_default.not-Model-1)
-    | compare-in_default-via-in-Bool+in_default w ↦ rw (c.rank.ensures, c.rank-in_default.ensures, ← c.a.view_is, ← c.b.view_is, w.in_default.is-0) (unlike_truth c.b.inside.node w.in_default.field-0-0 w.in_default.not-Bool-1)
-    | compare-in_default-via-in-Int+in_default w ↦ rw (c.rank.ensures, c.rank-in_default.ensures, ← c.a.view_is, ← c.b.view_is, w.in_default.is-0) (unlike_integer c.b.inside.node w.in_default.field-0-0 w.in_default.not-Int-1)
-    | compare-in_default-via-in-String+in_default w ↦ rw (c.rank.ensures, c.rank-in_default.ensures, ← c.a.view_is, ← c.b.view_is, w.in_default.is-0) (unlike_string c.b.inside.node w.in_default.field-0-0 w.in_default.not-String-1)
-    | compare-in_default-via-in-Set+in_default w ↦ rw (c.rank.ensures, c.rank-in_default.ensures, ← c.a.view_is, ← c.b.view_is, w.in_default.is-0) (unlike_set c.b.inside.node (vals_of w.in_default.field-0-0.items) w.in_default.not-Set-1)
-    | compare-in_default-via-in-Function+in_default w ↦ rw (c.rank.ensures, c.rank-in_default.ensures, ← c.a.view_is, ← c.b.view_is, w.in_default.is-0) (unlike_function c.b.inside.node (entries_view w.in_default.field-0-0.items) w.in_default.not-Function-1)
+      | compare-in_default-via-in-Model+in_default w ↦ rw (c.rank.ensures, c.rank-in_default.ensures, ← c.a.view_is, ← c.b.view_is, w.in_default.is-0) (unlike_model c.b.inside.node w.in_default.field-0-0 w.in_default.not-Model-1)
+      | compare-in_default-via-in-Bool+in_default w ↦ rw (c.rank.ensures, c.rank-in_default.ensures, ← c.a.view_is, ← c.b.view_is, w.in_default.is-0) (unlike_truth c.b.inside.node w.in_default.field-0-0 w.in_default.not-Bool-1)
+      | compare-in_default-via-in-Int+in_default w ↦ rw (c.rank.ensures, c.rank-in_default.ensures, ← c.a.view_is, ← c.b.view_is, w.in_default.is-0) (unlike_integer c.b.inside.node w.in_default.field-0-0 w.in_default.not-Int-1)
+      | compare-in_default-via-in-String+in_default w ↦ rw (c.rank.ensures, c.rank-in_default.ensures, ← c.a.view_is, ← c.b.view_is, w.in_default.is-0) (unlike_string c.b.inside.node w.in_default.field-0-0 w.in_default.not-String-1)
+      | compare-in_default-via-in-Set+in_default w ↦ rw (c.rank.ensures, c.rank-in_default.ensures, ← c.a.view_is, ← c.b.view_is, w.in_default.is-0) (unlike_set c.b.inside.node (vals_of w.in_default.field-0-0.items) w.in_default.not-Set-1)
+      | compare-in_default-via-in-Function+in_default w ↦ rw (c.rank.ensures, c.rank-in_default.ensures, ← c.a.view_is, ← c.b.view_is, w.in_default.is-0) (unlike_function c.b.inside.node (entries_view w.in_default.field-0-0.items) w.in_default.not-Function-1)
     ]
 
 pub compare-returns-in-Set-Set : goal.compare-returns-in-Set-Set
@@ -55,4 +55,3 @@ compare_entries-returns t c =
     (omega arith) (omega arith) (omega arith) (omega arith) (omega arith)
     c.cmp.ensures
     c.loop-i.invariant
-

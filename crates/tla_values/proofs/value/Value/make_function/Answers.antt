@@ -36,8 +36,7 @@ invariant_of-result c =
 pub returns : goal.returns
 returns c =
     let sorted = c.sort_unstable.new.self.items in
-    let valid : IsValue (function (pairs_of sorted)) = valid_function sorted c.if-has_key_twice.ensures (omega arith) c.deepest_pair-deepest.ensures.canonical (omega arith) in
-    (
+    let valid : IsValue (function (pairs_of sorted)) = valid_function sorted c.if-has_key_twice.ensures (omega arith) c.deepest_pair-deepest.ensures.canonical (omega arith) in (
       no_key_twice c.args.pairs.items sorted c.sort_unstable.ensures.permutation c.if-has_key_twice.ensures,
       subst (λ (ps : Pairs). IsFunctionOf c.args.pairs.items (function ps)) (sym c.in_ok-entries.ensures) (function_of c.args.pairs.items sorted c.sort_unstable.ensures.permutation valid),
     )

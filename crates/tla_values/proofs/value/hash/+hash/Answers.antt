@@ -15,16 +15,16 @@ feed-returns-in-Set g t c =
     let n : c.len.result ≡ length c.in-Set.items.items = omega arith in
     rw (← c.value.view_is, c.in-Set.is, members-vals_of)
     (fed_then g.H.Hasher.write _ _ _ (fed.u8 4) (fed.usize (length c.in-Set.items.items) ++ members_input (vals_of c.in-Set.items.items)) c.write_u8-in-Set.ensures
-      (fed_then g.H.Hasher.write _ _ _ (fed.usize (length c.in-Set.items.items)) (members_input (vals_of c.in-Set.items.items))
-        (fed_along g.H.Hasher.write _ _ (ap (λ (m : ℕ). fed.usize m) n) c.write_usize.ensures) c.feed_members.ensures))
+    (fed_then g.H.Hasher.write _ _ _ (fed.usize (length c.in-Set.items.items)) (members_input (vals_of c.in-Set.items.items))
+    (fed_along g.H.Hasher.write _ _ (ap (λ (m : ℕ). fed.usize m) n) c.write_usize.ensures) c.feed_members.ensures))
 
 pub feed-returns-in-Function : goal.feed-returns-in-Function
 feed-returns-in-Function g t c =
     let n : c.len-in-Function.result ≡ length c.in-Function.entries.items = omega arith in
     rw (← c.value.view_is, c.in-Function.is, length-entries)
     (fed_then g.H.Hasher.write _ _ _ (fed.u8 5) (fed.usize (length c.in-Function.entries.items) ++ pairs_input (entries_view c.in-Function.entries.items)) c.write_u8-in-Function.ensures
-      (fed_then g.H.Hasher.write _ _ _ (fed.usize (length c.in-Function.entries.items)) (pairs_input (entries_view c.in-Function.entries.items))
-        (fed_along g.H.Hasher.write _ _ (ap (λ (m : ℕ). fed.usize m) n) c.write_usize-in-Function.ensures) c.feed_pairs.ensures))
+    (fed_then g.H.Hasher.write _ _ _ (fed.usize (length c.in-Function.entries.items)) (pairs_input (entries_view c.in-Function.entries.items))
+    (fed_along g.H.Hasher.write _ _ (ap (λ (m : ℕ). fed.usize m) n) c.write_usize-in-Function.ensures) c.feed_pairs.ensures))
 
 pub feed_members-feed-requires : goal.feed_members-feed-requires
 feed_members-feed-requires g t c κs within =
@@ -52,4 +52,4 @@ feed_pairs-loop-entry-preserved g t c =
     let below : c.loop-entry.entry-index < length c.deref-entry-items.result.now = omega arith in
     fed_along g.H.Hasher.write _ _ (pairs_more c.deref-entry-items.result.now c.loop-entry.entry-index c.entry-item.result below c.entry-item.is)
     (fed_then g.H.Hasher.write _ _ _ (pairs_input (entries_view (take c.loop-entry.entry-index c.deref-entry-items.result.now))) (hash_input c.entry-item.result.key ++ hash_input c.entry-item.result.value) c.loop-entry.invariant
-      (fed_then g.H.Hasher.write _ _ _ (hash_input c.entry-item.result.key) (hash_input c.entry-item.result.value) c.feed.ensures c.feed-in-loop-entry.ensures))
+    (fed_then g.H.Hasher.write _ _ _ (hash_input c.entry-item.result.key) (hash_input c.entry-item.result.value) c.feed.ensures c.feed-in-loop-entry.ensures))

@@ -27,12 +27,12 @@ last ps i h p q d e l ep eq s n =
 
 pub loop-i-preserved : goal.loop-i-preserved
 loop-i-preserved c = λ k j d e l. elim (either j (omega arith)) [
-      inl h ↦ c.loop-i.invariant k j d e h
-    | inr h ↦
-        let at : k ≡ c.loop-i.i - 1 = omega arith in
-        rw (at, h) (last c.args.pairs.now.items c.loop-i.i (c.loop-i.i - 1) c.index-before.result.now c.index-here.result.now d (omega arith) (omega arith) c.index-before.ensures c.index-here.ensures
-            (c.requires (c.loop-i.i - 1) d (omega arith) (omega arith)) (sym c.eq.ensures ∙ c.if-eq.false))
-    ]
+  | inl h ↦ c.loop-i.invariant k j d e h
+  | inr h ↦
+      let at : k ≡ c.loop-i.i - 1 = omega arith in
+      rw (at, h) (last c.args.pairs.now.items c.loop-i.i (c.loop-i.i - 1) c.index-before.result.now c.index-here.result.now d (omega arith) (omega arith) c.index-before.ensures c.index-here.ensures
+      (c.requires (c.loop-i.i - 1) d (omega arith) (omega arith)) (sym c.eq.ensures ∙ c.if-eq.false))
+]
   where
     either : (j : ℕ) → j < c.loop-i.i + 1 → (j < c.loop-i.i) ⊎ (j ≡ c.loop-i.i)
     either j h = grind arith

@@ -16,5 +16,5 @@ loop-value-preserved c =
       few = let left : c.next.new.self.rest.len + 1 ≡ c.loop-value.value-iterator.rest.len = c.in-Some.ensures.steps.1 in omega arith;
       place = omega (arith, length-append ys (v ∷ []));
       pairs = one_more c.loop-value.entries.items _ (numbered_from 1 ys) (record { key = c.int.result; value = v }) c.in_ok-push.ensures.items c.loop-value.invariant.pairs
-        ∙ ap (λ (k : Val). pairs_of (numbered_from 1 ys ++ (k, v) ∷ [])) here ∙ sym (ap pairs_of (numbered-push 1 ys v));
+          ∙ ap (λ (k : Val). pairs_of (numbered_from 1 ys ++ (k, v) ∷ [])) here ∙ sym (ap pairs_of (numbered-push 1 ys v));
     }
