@@ -1,11 +1,11 @@
 -- `val_cmp` at sets and functions as an order of lists, and at unlike kinds.
-use Rattle.std.proofs.Common.{◌≡◌, ℕ, ℤ, Bool as Truth, Vec, Global, List, [], ◌∷◌, refl, ap, ◌∙◌, arith}
+use Rattle.std.proofs.Common.{◌≡◌, ℕ, ℤ, Bool as Truth, Vec, Global, List, [], ◌∷◌, refl, ap, ◌∙◌}
 use Rattle.std.specs.declared.cmp.Ordering.{Ordering}
 use Rattle.std.specs.declared.cmp.Ordering.TheVariants.{Less, Equal, Greater}
 use Rattle.std.specs.Ordering.{ordering_then, nat_cmp}
 use Rattle.std.specs.Cmp.Lexicographic.{slice_cmp}
 use Rattle.tla_values.specs.Data.{Val, model, truth, integer, string, set, function, vals_of, Vals, Pairs}
-use Rattle.tla_values.specs.Order.{val_cmp, vals_cmp, pairs_cmp, kind_rank}
+use Rattle.tla_values.specs.Order.{val_cmp, kind_rank}
 use Rattle.tla_values.specs.declared.value.Entry.{Entry}
 use Rattle.tla_values.specs.declared.value.Node.{Node}
 use Rattle.tla_values.specs.declared.value.Node.TheVariants.{Model, Bool, Int, String, Set, Function}

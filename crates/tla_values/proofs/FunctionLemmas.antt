@@ -1,20 +1,18 @@
 -- Pairs that are sorted, and keys that come twice.
-use Rattle.std.proofs.Common.{◌≡◌, ◌⊎◌, inl, inr, ℕ, zero, suc, ◌+◌, ◌*◌, ◌<◌, ◌≤◌, max, List, [], ◌∷◌, ◌++◌, length, map, get_or, ap, sym, ◌∙◌, subst, refl, arith, true, false, Bool, cond, pos, IsTrue}
+use Rattle.std.proofs.Common.{◌≡◌, inl, inr, ℕ, zero, suc, ◌+◌, ◌<◌, ◌≤◌, max, List, [], ◌∷◌, length, map, get_or, ap, sym, ◌∙◌, subst, refl, arith, true, false, Bool, cond}
 use Rattle.std.specs.declared.cmp.Ordering.{Ordering}
 use Rattle.std.specs.declared.cmp.Ordering.TheVariants.{Less, Equal, Greater}
-use Rattle.std.specs.Ordering.{is_lt, is_eq, ordering_reverse, ordering_then, int_cmp}
-use Rattle.std.specs.Cmp.{Equal-is}
+use Rattle.std.specs.Ordering.{is_lt, is_eq, ordering_reverse, ordering_then}
 use Rattle.std.specs.List.{Contains, count_by, AllByRecursion}
-use Rattle.std.specs.List.Sorted.{IsStrictlySortedBy, IsPermutation, IsSorted}
-use Rattle.std.proofs.lemmas.Cmp.{tied_itself}
-use Rattle.std.proofs.lemmas.List.Sorted.{sum_by-IsPermutation, Contains-permutation, IsPermutation-sym, length_permutation}
+use Rattle.std.specs.List.Sorted.{IsStrictlySortedBy, IsPermutation}
+use Rattle.std.proofs.lemmas.List.Sorted.{sum_by-IsPermutation, Contains-permutation, IsPermutation-sym}
 use Rattle.std.proofs.lemmas.List.Sums.{sum_by-cons}
-use Rattle.tla_values.specs.Data.{Val, integer, function, pairs_of, entries, depth, pairs_depth, vals_of, vals_depth}
-use Rattle.tla_values.specs.IsValue.{IsValue, IsCanonical, HaveCanonical, AreCanonical}
+use Rattle.tla_values.specs.Data.{Val, function, pairs_of, depth, pairs_depth}
+use Rattle.tla_values.specs.IsValue.{IsValue, HaveCanonical}
 use Rattle.tla_values.specs.Order.{val_cmp, val_eq}
-use Rattle.tla_values.specs.OrderLaws.{val_total, val_ties, val_same, val_eq_equiv}
+use Rattle.tla_values.specs.OrderLaws.{val_total, val_same, val_eq_equiv}
 use Rattle.tla_values.specs.Ascending.{cons_cases, head_in, tail_in, none_in, below, not_itself}
-use Rattle.tla_values.specs.Functions.{HasKeyTwice, IsFunctionOf, numbered_from, pairs_in}
+use Rattle.tla_values.specs.Functions.{HasKeyTwice, IsFunctionOf}
 use Rattle.tla_values.specs.FunctionLaws.{key_cmp, key_total, pairs_ascending, entries-pairs_of}
 use Rattle.tla_values.specs.View.{pair_cmp}
 

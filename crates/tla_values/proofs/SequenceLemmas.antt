@@ -1,15 +1,14 @@
 -- The pairs of a sequence.
-use Rattle.std.proofs.Common.{◌≡◌, ℕ, zero, suc, ◌+◌, ◌<◌, ◌≤◌, max, List, [], ◌∷◌, ◌++◌, length, map, ap, sym, ◌∙◌, refl, arith, pos}
+use Rattle.std.proofs.Common.{◌≡◌, ℕ, suc, ◌+◌, ◌<◌, ◌≤◌, List, [], ◌∷◌, ◌++◌, length, map, ap, ◌∙◌, refl, arith, pos}
 use Rattle.std.specs.declared.cmp.Ordering.TheVariants.{Less}
-use Rattle.std.specs.Ordering.{nat_cmp, int_cmp}
 use Rattle.std.specs.Int.{w64}
 use Rattle.std.specs.Prelude.{FitsSigned}
 use Rattle.std.specs.List.{AllByRecursion}
 use Rattle.std.specs.List.Sorted.{IsStrictlySortedBy}
 use Rattle.std.proofs.lemmas.Int.{ints}
 use Rattle.std.proofs.lemmas.Bool.Decides.{nat_tests}
-use Rattle.tla_values.specs.Data.{Val, integer, pairs_of, depth, pairs_depth, vals_of, vals_depth}
-use Rattle.tla_values.specs.IsValue.{IsValue, IsCanonical, HaveCanonical, AreCanonical}
+use Rattle.tla_values.specs.Data.{Val, integer, pairs_of, pairs_depth, vals_of, vals_depth}
+use Rattle.tla_values.specs.IsValue.{IsValue, HaveCanonical, AreCanonical}
 use Rattle.tla_values.specs.Order.{val_cmp}
 use Rattle.tla_values.specs.Functions.{numbered_from, sequence_of}
 use Rattle.tla_values.proofs.FunctionLemmas.{valid_function}

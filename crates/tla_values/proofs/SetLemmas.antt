@@ -1,8 +1,7 @@
 -- Sets made of lists, and membership by search.
-use Rattle.std.proofs.Common.{◌≡◌, ◌↔◌, ℕ, zero, suc, ◌+◌, ◌<◌, ◌≤◌, List, [], ◌∷◌, length, get_or, ap, sym, ◌∙◌, refl, arith, true, false, Bool, Ok, Err, Result, is_ok, IsTrue, ◌⊎◌, inl, inr}
-use Rattle.std.specs.declared.cmp.Ordering.{Ordering}
+use Rattle.std.proofs.Common.{◌≡◌, ◌↔◌, ℕ, ◌+◌, ◌<◌, ◌≤◌, List, [], length, get_or, ap, ◌∙◌, refl, arith, Ok, Err, Result, is_ok, IsTrue, inl, inr}
 use Rattle.std.specs.declared.cmp.Ordering.TheVariants.{Less, Equal, Greater}
-use Rattle.std.specs.Ordering.{is_lt, is_eq, ordering_reverse}
+use Rattle.std.specs.Ordering.{is_lt, ordering_reverse}
 use Rattle.std.specs.Cmp.{Equal-is}
 use Rattle.std.specs.List.{Contains, dedup}
 use Rattle.std.specs.List.Retain.{IsFiltered, DiffersFromLast}
@@ -13,7 +12,7 @@ use Rattle.std.proofs.lemmas.List.Kept.{IsStrictlySortedBy-dedup, Contains-dedup
 use Rattle.std.proofs.lemmas.List.Filters.{dedup_is}
 use Rattle.std.proofs.lemmas.List.Sorted.{Contains-permutation, IsPermutation-sym, searchable_from_sorted}
 use Rattle.std.proofs.lemmas.Map.Keys.{Less-from_sorted}
-use Rattle.tla_values.specs.Data.{Val, set, vals_of, members, depth, vals_depth}
+use Rattle.tla_values.specs.Data.{Val, set, vals_of, vals_depth}
 use Rattle.tla_values.specs.IsValue.{IsValue, AreCanonical}
 use Rattle.tla_values.specs.Order.{val_cmp, val_eq}
 use Rattle.tla_values.specs.OrderLaws.{val_total, val_ties, val_eq_equiv}

@@ -1,5 +1,5 @@
 -- Each value inside a value is less deep.
-use Rattle.std.specs.Prelude.{List, ◌≤◌, [], ◌∷◌, ℕ, max, ◌+◌, suc}
+use Rattle.std.specs.Prelude.{List, ◌≤◌, [], ◌∷◌, max, ◌+◌, suc}
 use Rattle.std.proofs.Common.{arith}
 use denote.Param.Weighed.{most}
 use Rattle.tla_values.specs.Data.{Val, vals_of, depth, vals_depth, pairs_depth}

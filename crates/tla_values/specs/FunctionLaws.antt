@@ -1,19 +1,18 @@
 -- Two functions with the same pairs are equal, and what follows.
-use Rattle.std.specs.Prelude.{◌≡◌, ◌↔◌, ◌⊎◌, ℕ, zero, suc, ◌+◌, ◌<◌, ◌≤◌, ℤ, pos, max, List, [], ◌∷◌, length, map, refl, Contains, true, false, IsTrue, count_by, cond}
-use Rattle.std.proofs.Common.{ap, sym, ◌∙◌, subst, arith, inl, inr}
+use Rattle.std.specs.Prelude.{◌≡◌, List, [], ◌∷◌, map, refl, Contains}
+use Rattle.std.proofs.Common.{ap, sym, ◌∙◌, subst, inl, inr}
 use Rattle.std.specs.declared.cmp.Ordering.{Ordering}
-use Rattle.std.specs.declared.cmp.Ordering.TheVariants.{Less, Equal, Greater}
+use Rattle.std.specs.declared.cmp.Ordering.TheVariants.{Less}
 use Rattle.std.specs.Cmp.{IsTotalOrder}
 use Rattle.std.specs.List.{AllByRecursion}
-use Rattle.std.specs.List.Sorted.{IsStrictlySortedBy, IsPermutation}
-use Rattle.std.proofs.lemmas.List.Sorted.{sum_by-IsPermutation}
+use Rattle.std.specs.List.Sorted.{IsStrictlySortedBy}
 use Rattle.std.proofs.lemmas.Map.Keys.{sorted_tail}
-use Rattle.tla_values.specs.Data.{Val, model, truth, integer, string, set, function, Pairs, no_pairs, more_pairs, pairs_of, entries, depth, pairs_depth}
-use Rattle.tla_values.specs.Order.{val_cmp, val_eq}
-use Rattle.tla_values.specs.OrderLaws.{val_total, val_ties, val_same}
+use Rattle.tla_values.specs.Data.{Val, model, truth, integer, string, set, function, Pairs, no_pairs, more_pairs, pairs_of, entries}
+use Rattle.tla_values.specs.Order.{val_cmp}
+use Rattle.tla_values.specs.OrderLaws.{val_total}
 use Rattle.tla_values.specs.Ascending.{cons_cases, head_in, tail_in, none_in, below, not_itself, ascending_unique}
 use Rattle.tla_values.specs.IsValue.{IsValue, IsOrdered}
-use Rattle.tla_values.specs.Functions.{IsFunction, pairs_in, keys_in, HasPair, InDomain, HasKeyTwice, FunctionsByPairs, OneValueAtKey, DomainByPairs}
+use Rattle.tla_values.specs.Functions.{IsFunction, pairs_in, keys_in, FunctionsByPairs, OneValueAtKey, DomainByPairs}
 
 pub pairs_of-entries : (ps : Pairs) → pairs_of (entries ps) ≡ ps
 pairs_of-entries no_pairs = refl

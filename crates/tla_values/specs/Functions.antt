@@ -1,6 +1,6 @@
 -- Functions by their pairs.
 use Rattle.std.specs.Prelude.{◌≡◌, ℕ, suc, ◌<◌, ◌≤◌, ◌↔◌, List, [], ◌∷◌, length, map, count_by, Contains, Option, Some, None, Result, Ok, Err, pos}
-use Rattle.tla_values.specs.Data.{Val, model, truth, integer, string, set, function, Pairs, no_pairs, more_pairs, pairs_of, entries, depth}
+use Rattle.tla_values.specs.Data.{Val, integer, string, function, pairs_of, entries, depth}
 use Rattle.tla_values.specs.Order.{val_eq}
 use Rattle.tla_values.specs.IsValue.{IsValue, max_members, max_depth}
 use Rattle.tla_values.specs.declared.value.ValueFault.{ValueFault}

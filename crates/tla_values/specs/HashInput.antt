@@ -1,6 +1,6 @@
 -- What a value feeds to a hasher: the place of its kind among the six, and then all that it holds,
 -- the members of a set and the pairs of a function after their number.
-use Rattle.std.specs.Prelude.{ℕ, List, [], ◌++◌, length}
+use Rattle.std.specs.Prelude.{[], ◌++◌, length}
 use Rattle.std.specs.Hash as fed
 use Rattle.std.specs.Hash.{HashWrites}
 use Rattle.tla_values.specs.Data.{Val, model, truth, integer, string, set, function, Vals, no_vals, more_vals, Pairs, no_pairs, more_pairs, members, entries}

@@ -1,5 +1,5 @@
 -- Which trees are values.
-use Rattle.std.specs.Prelude.{ℕ, ◌≤◌, ℤ, List, length, map, IsUtf8, FitsSigned}
+use Rattle.std.specs.Prelude.{ℕ, ◌≤◌, List, length, map, IsUtf8, FitsSigned}
 use Rattle.std.specs.Int.{w64}
 use Rattle.std.specs.List.Sorted.{IsStrictlySortedBy}
 use Rattle.tla_values.specs.Data.{Val, model, truth, integer, string, set, function, Vals, no_vals, more_vals, Pairs, no_pairs, more_pairs, members, entries, depth}

@@ -1,12 +1,11 @@
 -- Two sets with the same members are equal, and what follows.
-use Rattle.std.specs.Prelude.{◌≡◌, ◌↔◌, ◌⊎◌, ℕ, zero, suc, ◌+◌, ◌<◌, ◌≤◌, List, [], ◌∷◌, ◌++◌, length, refl, Contains}
-use Rattle.std.proofs.Common.{ap, sym, ◌∙◌, subst, arith}
-use Rattle.std.specs.List.Sorted.{IsStrictlySortedBy}
+use Rattle.std.specs.Prelude.{◌≡◌, ◌↔◌, ℕ, zero, suc, ◌≤◌, List, [], ◌∷◌, length, refl, Contains}
+use Rattle.std.proofs.Common.{ap, sym, ◌∙◌, arith}
 use Rattle.tla_values.specs.Data.{Val, model, truth, integer, string, set, function, Vals, no_vals, more_vals, vals_of, members, depth, vals_depth}
 use Rattle.tla_values.specs.Order.{val_cmp}
 use Rattle.tla_values.specs.OrderLaws.{val_total}
 use Rattle.tla_values.specs.Ascending.{head_in, tail_in, ascending_unique}
-use Rattle.tla_values.specs.IsValue.{IsValue, IsOrdered, AreCanonical, IsCanonical}
+use Rattle.tla_values.specs.IsValue.{IsValue, IsOrdered}
 use Rattle.tla_values.specs.Sets.{Member, IsAscendingOf, IsSet, items_of, count_of, IsSetOf, IsTooLarge, IsTooDeep, SetAnswers}
 
 pub vals_of-members : (vs : Vals) → vals_of (members vs) ≡ vs

@@ -1,7 +1,7 @@
 -- Sets by their members.
-use Rattle.std.specs.Prelude.{◌≡◌, ◌⊎◌, ℕ, ◌<◌, ◌≤◌, ◌↔◌, List, [], length, Contains, Result, Ok, Err}
+use Rattle.std.specs.Prelude.{◌≡◌, ℕ, ◌<◌, ◌≤◌, ◌↔◌, List, [], length, Contains, Result, Ok, Err}
 use Rattle.std.specs.List.Sorted.{IsStrictlySortedBy}
-use Rattle.tla_values.specs.Data.{Val, model, truth, integer, string, set, function, vals_of, members, entries, depth}
+use Rattle.tla_values.specs.Data.{Val, set, function, vals_of, members, entries, depth}
 use Rattle.tla_values.specs.Order.{val_cmp}
 use Rattle.tla_values.specs.IsValue.{IsValue, max_members, max_depth}
 use Rattle.tla_values.specs.declared.value.ValueFault.{ValueFault}

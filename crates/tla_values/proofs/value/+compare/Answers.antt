@@ -1,6 +1,6 @@
-use Rattle.std.proofs.Common.{refl, nat_cmp, ◌<◌, ◌≤◌, ◌≡◌, ◌⊎◌, inl, inr, min, max, length, arith, ap, sym, ◌∙◌, List}
+use Rattle.std.proofs.Common.{refl, ◌<◌, length, arith, sym, ◌∙◌}
 use Rattle.tla_values.specs.Order.{val_cmp}
-use Rattle.tla_values.specs.View.{entries_view, node_view, entry_cmp}
+use Rattle.tla_values.specs.View.{entries_view, entry_cmp}
 use Rattle.tla_values.specs.Data.{vals_of}
 use Rattle.tla_values.proofs.Lexicographic.{went_through}
 use Rattle.tla_values.proofs.Comparing.{items_cmp, entries_cmp, unlike_model, unlike_truth, unlike_integer, unlike_string, unlike_set, unlike_function}

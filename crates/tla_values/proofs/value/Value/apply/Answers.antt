@@ -1,8 +1,6 @@
-use Rattle.std.proofs.Common.{◌≡◌, ◌<◌, map, length, ap, sym, ◌∙◌, subst, arith, Err, Equal, ℕ}
+use Rattle.std.proofs.Common.{◌≡◌, subst, Equal}
 use Rattle.std.specs.List.{Contains}
-use Rattle.std.specs.List.Sorted.{IsStrictlySortedBy, IsBinarySearchResult}
 use Rattle.tla_values.specs.Data.{Val, function, entries}
-use Rattle.tla_values.specs.Functions.{InDomain, pairs_in}
 use Rattle.tla_values.specs.IsValue.{IsValue}
 use Rattle.tla_values.specs.Order.{val_cmp}
 use Rattle.tla_values.specs.OrderLaws.{val_ties}

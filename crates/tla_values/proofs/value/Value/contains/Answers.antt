@@ -1,11 +1,8 @@
-use Rattle.std.proofs.Common.{◌≡◌, ◌↔◌, IsTrue, subst, sym, ap, ◌∙◌, List, length}
-use Rattle.std.specs.List.{Contains}
+use Rattle.std.proofs.Common.{length}
 use Rattle.std.specs.List.Sorted.{IsStrictlySortedBy, IsSearchInRange, IsBinarySearchResult}
-use Rattle.tla_values.specs.Data.{Val, set, vals_of}
+use Rattle.tla_values.specs.Data.{set, vals_of}
 use Rattle.tla_values.specs.Order.{val_cmp}
 use Rattle.tla_values.specs.IsValue.{IsValue}
-use Rattle.tla_values.specs.Sets.{Member}
-use Rattle.tla_values.specs.View.{node_view}
 use Rattle.tla_values.proofs.SetLemmas.{contains_by_search}
 use Rattle.tla_values.specs.SetLaws.{members-vals_of}
 use Rattle.tla_values.proofs.value.Value.contains.Goals as goal

@@ -1,10 +1,8 @@
-use Rattle.std.proofs.Common.{◌≡◌, ◌<◌, ◌≤◌, map, length, arith, ap, sym, subst}
-use Rattle.std.specs.List.Sorted.{IsStrictlySortedBy}
+use Rattle.std.proofs.Common.{arith, ap, sym, subst}
 use Rattle.std.proofs.lemmas.List.Sorted.{length_permutation}
-use Rattle.tla_values.specs.Data.{Val, function, Pairs, pairs_of, pairs_depth, depth}
+use Rattle.tla_values.specs.Data.{function, Pairs, pairs_of, pairs_depth}
 use Rattle.tla_values.specs.IsValue.{IsValue}
 use Rattle.tla_values.specs.Functions.{IsFunctionOf}
-use Rattle.tla_values.specs.Order.{val_cmp}
 use Rattle.tla_values.proofs.FunctionLemmas.{key_twice_before, no_key_twice, depth_permutation, valid_function, function_of}
 use Rattle.tla_values.proofs.value.Value.make_function.Goals as goal
 

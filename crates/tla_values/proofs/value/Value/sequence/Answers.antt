@@ -1,5 +1,5 @@
-use Rattle.std.proofs.Common.{◌≡◌, ◌<◌, ◌≤◌, length, arith, ap, sym, subst}
-use Rattle.tla_values.specs.Data.{Val, function, Pairs, pairs_of, pairs_depth, depth}
+use Rattle.std.proofs.Common.{arith, ap, sym, subst}
+use Rattle.tla_values.specs.Data.{function, Pairs, pairs_depth}
 use Rattle.tla_values.specs.IsValue.{IsValue}
 use Rattle.tla_values.specs.Functions.{sequence_of}
 use Rattle.tla_values.proofs.SequenceLemmas.{depth-numbered, valid_sequence}

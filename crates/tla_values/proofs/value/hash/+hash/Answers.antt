@@ -1,7 +1,7 @@
-use Rattle.std.proofs.Common.{◌≡◌, ◌<◌, length, arith, ap, sym, ◌++◌, take, ℕ}
+use Rattle.std.proofs.Common.{◌≡◌, ◌<◌, length, arith, ap, ◌++◌, take, ℕ}
 use Rattle.std.specs.Hash as fed
-use Rattle.std.specs.Hash.{fed_then, fed_along, HashWrites}
-use Rattle.tla_values.specs.Data.{Val, vals_of}
+use Rattle.std.specs.Hash.{fed_then, fed_along}
+use Rattle.tla_values.specs.Data.{vals_of}
 use Rattle.tla_values.specs.HashInput.{hash_input, members_input, pairs_input}
 use Rattle.tla_values.specs.SetLaws.{members-vals_of}
 use Rattle.tla_values.specs.View.{entries_view}

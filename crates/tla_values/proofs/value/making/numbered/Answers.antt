@@ -1,8 +1,7 @@
-use Rattle.std.proofs.Common.{◌≡◌, ◌+◌, ◌++◌, ◌∷◌, [], List, length, arith, length-append, ap, sym, ◌∙◌, pos, ℕ, suc}
+use Rattle.std.proofs.Common.{◌≡◌, ◌+◌, ◌++◌, ◌∷◌, [], length, arith, length-append, ap, sym, ◌∙◌, pos}
 use Rattle.std.proofs.lemmas.Int.{ints}
 use Rattle.tla_values.specs.Data.{Val, integer, pairs_of}
 use Rattle.tla_values.specs.Functions.{numbered_from}
-use Rattle.tla_values.specs.View.{entries_view}
 use Rattle.tla_values.proofs.Entries.{one_more}
 use Rattle.tla_values.proofs.SequenceLemmas.{numbered-push}
 use Rattle.tla_values.proofs.value.making.numbered.Goals as goal
