@@ -66,6 +66,10 @@ numbered_from n (v ∷ vs) = (integer (pos n), v) ∷ numbered_from (suc n) vs
 abbrev pub sequence_of : List Val → Val
 sequence_of vs = function (pairs_of (numbered_from 1 vs))
 
+-- f is a sequence: its keys are 1 to the number of its values
+abbrev pub IsSequence : Val → Type 0
+IsSequence f = f ≡ sequence_of (values_in f)
+
 -- What making a sequence answers: the function on 1 to the number of the values, unless they are too
 -- many, or too deep. No key can be given twice.
 abbrev pub MakesSequence : List Val → Result Val ValueFault → Type 0

@@ -12,3 +12,6 @@ pub mod SetLaws
 pub mod Functions
 pub mod FunctionLaws
 pub mod HashInput
+pub mod Integers
+pub mod SetOperations
+pub mod FunctionOperations

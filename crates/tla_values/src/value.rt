@@ -1,23 +1,16 @@
-ghost use Rattle.std.specs.Prelude.{◌≡◌, ◌↔◌, ◌<◌, IfOk, IsTrue, List, Some, length, refl, slice_get};
+ghost use Rattle.std.specs.Prelude.{◌≡◌, ◌↔◌, ◌+◌, ◌<◌, pos, IfOk, IsTrue, List, Some, length, refl, slice_get};
 ghost use Rattle.std.specs.Cmp.{partial_equiv_from_equiv};
 ghost use Rattle.std.specs.Cmp.Lexicographic.{slice_cmp};
 ghost use Rattle.std.specs.List.Sorted.{IsBinarySearchResult, IsSearchInRange};
 ghost use Rattle.std.specs.Option.{option_map};
-ghost use Rattle.tla_values.specs.Data.{model, string, integer, truth, int_of, bool_of, text_of, Val};
-ghost use Rattle.tla_values.specs.Functions.{
-  Applies,
-  DomainByPairs,
-  FunctionsByPairs,
-  OneValueAtKey,
-  keys_in,
-  values_in,
-};
+ghost use Rattle.tla_values.specs.Data.{model, string, integer, truth, function, int_of, bool_of, text_of, Val};
+ghost use Rattle.tla_values.specs.Functions.{Applies, DomainByPairs, FunctionsByPairs, IsSequence, OneValueAtKey, keys_in, sequence_of, values_in};
 ghost use Rattle.tla_values.specs.IsValue.{IsValue};
 ghost use Rattle.tla_values.specs.Kind.{kind_of};
 ghost use Rattle.tla_values.specs.Order.{val_cmp, val_eq, kind_rank};
 ghost use Rattle.tla_values.specs.OrderLaws.{val_total, val_order, val_eq_equiv, val_same};
 ghost use Rattle.tla_values.specs.Sets.{Member, SetAnswers, SetsByMembers, count_of, items_of};
-ghost use Rattle.tla_values.specs.View.{entry_cmp};
+ghost use Rattle.tla_values.specs.View.{entries_view, entry_cmp};
 
 use std::alloc::{AllocError, Global};
 use std::cmp::Ordering;
@@ -233,6 +226,26 @@ impl Value {
         }
     }
 
+    /// The members of a set in ascending order, and none where it is no set.
+    pub fn members(&self) -> &[Value]
+        ensures { result.now ≡ items_of self.now }
+    {
+        match &self.node {
+            Node::Set(items) => items.as_slice(),
+            _ => &[],
+        }
+    }
+
+    /// Whether it is a sequence: a function on 1 to some number.
+    pub fn is_sequence(&self) -> bool
+        ensures { IsTrue result ↔ IsSequence self.now }
+    {
+        match &self.node {
+            Node::Function(entries) => are_numbered(entries),
+            _ => false,
+        }
+    }
+
     /// The value of a function at its key at `i` in ascending order, from 0.
     pub fn value_at(&self, i: usize) -> Option<&Value>
         ensures { option_map (λ v. v.now) result ≡ slice_get (values_in self.now) i }
@@ -417,6 +430,29 @@ fn compare_entries(a: &Vec<Entry>, b: &Vec<Entry>) -> Ordering
         }
     }
     a.len().cmp(&b.len())
+}
+
+/// Whether the keys are 1 to the number of the pairs.
+fn are_numbered(entries: &Vec<Entry>) -> bool
+    ensures { IsTrue result ↔ IsSequence (function (entries_view entries.now.items)) }
+{
+    for i in 0..entries.len() {
+        let entry = &entries[i];
+        if !is_place(&entry.key, i) {
+            return false;
+        }
+    }
+    true
+}
+
+/// Whether the key is the number of the place at `i`, which counts from 0.
+fn is_place(key: &Value, i: usize) -> bool
+    ensures { IsTrue result ↔ (key.now ≡ integer (pos (i + 1))) }
+{
+    match key.as_int() {
+        Some(n) => n > 0 && (n - 1) as usize == i,
+        None => false,
+    }
 }
 
 /// Where the pair of this key stands among pairs in ascending order.
