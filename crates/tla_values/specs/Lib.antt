@@ -1,1 +1,17 @@
 pub mod Data
+pub mod Tree
+pub mod Order
+pub mod OrderLaws
+pub mod Ascending
+pub mod IsValue
+pub mod View
+pub mod Falls
+pub mod Kind
+pub mod Sets
+pub mod SetLaws
+pub mod Functions
+pub mod FunctionLaws
+pub mod HashInput
+pub mod Integers
+pub mod SetOperations
+pub mod FunctionOperations

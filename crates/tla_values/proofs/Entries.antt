@@ -1,0 +1,107 @@
+-- The pairs of a function as they are held.
+use Rattle.std.proofs.Common.{◌≡◌, inl, inr, ℕ, zero, suc, ◌+◌, ◌<◌, ◌≤◌, List, [], ◌∷◌, ◌++◌, length, map, get_or, ap, sym, ◌∙◌, subst, refl, arith, Some, None, Err}
+use Rattle.std.specs.declared.cmp.Ordering.TheVariants.{Less, Equal, Greater}
+use Rattle.std.specs.Ordering.{is_lt, ordering_reverse}
+use Rattle.std.specs.List.{Contains, slice_get}
+use Rattle.std.specs.List.Sorted.{IsStrictlySortedBy, IsSortedBy, IsBinarySearchResult}
+use Rattle.std.proofs.lemmas.Bool.{cases_lt}
+use Rattle.std.proofs.lemmas.Cmp.{tied_itself}
+use Rattle.std.proofs.lemmas.List.{get_or-map}
+use Rattle.std.proofs.lemmas.List.Sorted.{searchable_from_sorted}
+use Rattle.std.proofs.lemmas.Map.Keys.{Less-from_sorted}
+use Rattle.tla_values.specs.Data.{Val, Pairs, no_pairs, more_pairs, pairs_of, entries}
+use Rattle.tla_values.specs.Order.{val_cmp}
+use Rattle.tla_values.specs.OrderLaws.{val_total}
+use Rattle.tla_values.specs.Ascending.{head_in, tail_in}
+use Rattle.tla_values.specs.declared.value.Entry.{Entry}
+use Rattle.tla_values.specs.View.{entries_view}
+
+pub length-entries : (es : List Entry) → length (entries (entries_view es)) ≡ length es
+length-entries [] = refl
+length-entries (e ∷ es) = omega (arith, length-entries es)
+
+pub value_read : (es : List Entry) (i : ℕ) (e : Entry) → i < length es → e ≡ get_or es i e → slice_get (map (λ p. p.1) (entries (entries_view es))) i ≡ Some e.value
+value_read [] i e h is = absurd (omega arith)
+value_read (d ∷ ds) zero e h is = ap (λ (w : Entry). Some w.value) (sym is)
+value_read (d ∷ ds) (suc i) e h is = value_read ds i e (omega arith) is
+
+pub value_past : (es : List Entry) (i : ℕ) → length es ≤ i → slice_get (map (λ p. p.1) (entries (entries_view es))) i ≡ None
+value_past [] i h = refl
+value_past (d ∷ ds) zero h = absurd (omega arith)
+value_past (d ∷ ds) (suc i) h = value_past ds i (omega arith)
+
+pub key_read : (es : List Entry) (i : ℕ) (e : Entry) → i < length es → e ≡ get_or es i e → slice_get (map (λ p. p.0) (entries (entries_view es))) i ≡ Some e.key
+key_read [] i e h is = absurd (omega arith)
+key_read (d ∷ ds) zero e h is = ap (λ (w : Entry). Some w.key) (sym is)
+key_read (d ∷ ds) (suc i) e h is = key_read ds i e (omega arith) is
+
+pub key_past : (es : List Entry) (i : ℕ) → length es ≤ i → slice_get (map (λ p. p.0) (entries (entries_view es))) i ≡ None
+key_past [] i h = refl
+key_past (d ∷ ds) zero h = absurd (omega arith)
+key_past (d ∷ ds) (suc i) h = key_past ds i (omega arith)
+
+-- the pair at a place is one of the function's
+pub pair_at : (es : List Entry) (i : ℕ) (e : Entry) → i < length es → e ≡ get_or es i e → Contains (entries (entries_view es)) (e.key, e.value)
+pair_at [] i e h is = absurd (omega arith)
+pair_at (d ∷ ds) zero e h is = subst (λ (w : Entry). Contains ((d.key, d.value) ∷ entries (entries_view ds)) (w.key, w.value)) (sym is) (head_in (d.key, d.value) (entries (entries_view ds)))
+pair_at (d ∷ ds) (suc i) e h is = tail_in (d.key, d.value) (entries (entries_view ds)) (e.key, e.value) (pair_at ds i e (omega arith) is)
+
+keys_view : (es : List Entry) → map (λ p. p.0) (entries (entries_view es)) ≡ map (λ e. e.key) es
+keys_view [] = refl
+keys_view (e ∷ es) = ap (λ ks. e.key ∷ ks) (keys_view es)
+
+-- entries whose keys ascend are sorted by key
+sorted_by_key : (es : List Entry) → IsStrictlySortedBy val_cmp (map (λ e. e.key) es) → IsSortedBy (λ (a b : Entry). is_lt (val_cmp a.key b.key)) es
+sorted_by_key es s k d h g =
+    let up : val_cmp (get_or (map (λ (e : Entry). e.key) es) k d.key) (get_or (map (λ (e : Entry). e.key) es) (k + 1) d.key) ≡ Less = Less-from_sorted val_cmp (map (λ (e : Entry). e.key) es) k (k + 1) d.key s (omega arith) (longer es k g) in
+    let a : get_or (map (λ (e : Entry). e.key) es) k d.key ≡ (get_or es k d).key = get_or-map (λ (e : Entry). e.key) es k d d.key (omega arith) in
+    let b : get_or (map (λ (e : Entry). e.key) es) (k + 1) d.key ≡ (get_or es (k + 1) d).key = get_or-map (λ (e : Entry). e.key) es (k + 1) d d.key (omega arith) in
+    let up' : val_cmp (get_or es k d).key (get_or es (k + 1) d).key ≡ Less = rw (← a, ← b) up in
+    ap is_lt (val_total.antisymm (get_or es (k + 1) d).key (get_or es k d).key ∙ ap ordering_reverse up')
+  where
+    longer : (es : List Entry) (k : ℕ) → k + 1 < length es → k + 1 < length (map (λ (e : Entry). e.key) es)
+    longer [] k h = absurd (omega arith)
+    longer (e ∷ []) zero h = absurd (omega arith)
+    longer (e ∷ f ∷ es) zero h = omega arith
+    longer (e ∷ es) (suc k) h = omega (arith, longer es k (omega arith))
+
+-- where a search by the key fails, no pair has the key
+pub no_key : (es : List Entry) (key : Val) (i : ℕ) → IsStrictlySortedBy val_cmp (map (λ p. p.0) (entries (entries_view es))) → i ≤ length es
+    → IsBinarySearchResult (λ (e : Entry). val_cmp e.key key) es (Err i) → Contains (map (λ p. p.0) (entries (entries_view es))) key → ⊥
+no_key es key i s b p h = none (rw keys_view at h)
+  where
+    shorter : (es : List Entry) → length (map (λ (e : Entry). e.key) es) ≤ length es
+    shorter [] = omega arith
+    shorter (e ∷ es) = omega (arith, shorter es)
+
+    some : (es : List Entry) (j : ℕ) → j < length es → Entry
+    some [] j h = absurd (omega arith)
+    some (e ∷ es) j h = e
+
+    none : Contains (map (λ (e : Entry). e.key) es) key → ⊥
+    none g =
+        let within : g.0 < length es = omega (arith, g.1, shorter es) in
+        let d = some es g.0 within in
+        let parts = p (searchable_from_sorted val_total (λ (e : Entry). e.key) es key (sorted_by_key es (rw keys_view at s))) in
+        let there : (get_or es g.0 d).key ≡ key = sym (get_or-map (λ (e : Entry). e.key) es g.0 d key within) ∙ g.2 in
+        let same : val_cmp (get_or es g.0 d).key key ≡ Equal = rw there (tied_itself val_total key) in
+        elim (cases_lt g.0 i) [
+          | inl l ↦ let e : val_cmp (get_or es g.0 d).key key ≡ Less = parts.0 g.0 d (omega arith) l in cc
+          | inr l ↦ let e : val_cmp (get_or es g.0 d).key key ≡ Greater = parts.1 g.0 d l within in cc
+        ]
+
+-- one more pair at the end
+abbrev after : Pairs → Val → Val → Pairs
+after no_pairs k v = more_pairs k v no_pairs
+after (more_pairs l w ps) k v = more_pairs l w (after ps k v)
+
+entries_after : (es : List Entry) (e : Entry) → entries_view (es ++ e ∷ []) ≡ after (entries_view es) e.key e.value
+entries_after [] e = refl
+entries_after (d ∷ ds) e = ap (more_pairs d.key d.value) (entries_after ds e)
+
+pairs_after : (ps : List (Val × Val)) (k v : Val) → pairs_of (ps ++ (k, v) ∷ []) ≡ after (pairs_of ps) k v
+pairs_after [] k v = refl
+pairs_after (p ∷ ps) k v = ap (more_pairs p.0 p.1) (pairs_after ps k v)
+
+pub one_more : (es ds : List Entry) (ps : List (Val × Val)) (e : Entry) → ds ≡ es ++ e ∷ [] → entries_view es ≡ pairs_of ps → entries_view ds ≡ pairs_of (ps ++ (e.key, e.value) ∷ [])
+one_more es ds ps e is h = ap entries_view is ∙ entries_after es e ∙ ap (λ qs. after qs e.key e.value) h ∙ sym (pairs_after ps e.key e.value)

@@ -1,0 +1,12 @@
+use Rattle.tla_values.specs.SetLaws.{same_members, set_answers}
+use Rattle.tla_values.specs.FunctionLaws.{functions_by_pairs, one_value_at_key, domain_by_pairs}
+use Rattle.tla_values.proofs.value.Value.laws.Goals as goal
+
+pub returns : goal.returns
+returns c = record {
+  sets = same_members;
+  functions = functions_by_pairs;
+  one_value = one_value_at_key;
+  domain = domain_by_pairs;
+  set_answers = set_answers;
+}

@@ -1,0 +1,40 @@
+use Rattle.std.proofs.Common.{arith, ap, sym, subst}
+use Rattle.std.proofs.lemmas.List.Sorted.{length_permutation}
+use Rattle.tla_values.specs.Data.{function, Pairs, pairs_of, pairs_depth}
+use Rattle.tla_values.specs.IsValue.{IsValue}
+use Rattle.tla_values.specs.Functions.{IsFunctionOf}
+use Rattle.tla_values.proofs.FunctionLemmas.{key_twice_before, no_key_twice, depth_permutation, valid_function, function_of}
+use Rattle.tla_values.proofs.value.Value.make_function.Goals as goal
+
+pub returns-then-has_key_twice : goal.returns-then-has_key_twice
+returns-then-has_key_twice c = key_twice_before c.args.pairs.items c.sort_unstable.new.self.items c.sort_unstable.ensures.permutation c.if-has_key_twice.ensures
+
+pub returns-then-len-gt-MAX_MEMBERS : goal.returns-then-len-gt-MAX_MEMBERS
+returns-then-len-gt-MAX_MEMBERS c = (
+  no_key_twice c.args.pairs.items c.sort_unstable.new.self.items c.sort_unstable.ensures.permutation c.if-has_key_twice.ensures,
+  omega (arith, length_permutation c.args.pairs.items c.sort_unstable.new.self.items c.sort_unstable.ensures.permutation),
+)
+
+pub returns-then-deepest-ge-MAX_DEPTH : goal.returns-then-deepest-ge-MAX_DEPTH
+returns-then-deepest-ge-MAX_DEPTH c = (
+  no_key_twice c.args.pairs.items c.sort_unstable.new.self.items c.sort_unstable.ensures.permutation c.if-has_key_twice.ensures,
+  omega (arith, length_permutation c.args.pairs.items c.sort_unstable.new.self.items c.sort_unstable.ensures.permutation),
+  omega (arith, depth_permutation c.args.pairs.items c.sort_unstable.new.self.items c.sort_unstable.ensures.permutation),
+)
+
+pub invariant_of-result : goal.invariant_of-result
+invariant_of-result c =
+    let sorted = c.sort_unstable.new.self.items in
+    let valid : IsValue (function (pairs_of sorted)) = valid_function sorted c.if-has_key_twice.ensures (omega arith) c.deepest_pair-deepest.ensures.canonical (omega arith) in
+    record {
+      valid = subst (λ (ps : Pairs). IsValue (function ps)) (sym c.in_ok-entries.ensures) valid;
+      levels_is = omega (arith, ap pairs_depth c.in_ok-entries.ensures);
+    }
+
+pub returns : goal.returns
+returns c =
+    let sorted = c.sort_unstable.new.self.items in
+    let valid : IsValue (function (pairs_of sorted)) = valid_function sorted c.if-has_key_twice.ensures (omega arith) c.deepest_pair-deepest.ensures.canonical (omega arith) in (
+      no_key_twice c.args.pairs.items sorted c.sort_unstable.ensures.permutation c.if-has_key_twice.ensures,
+      subst (λ (ps : Pairs). IsFunctionOf c.args.pairs.items (function ps)) (sym c.in_ok-entries.ensures) (function_of c.args.pairs.items sorted c.sort_unstable.ensures.permutation valid),
+    )

@@ -1,0 +1,10 @@
+use Rattle.std.proofs.Common.{sym, arith}
+use Rattle.tla_values.proofs.Entries.{value_read, value_past}
+use Rattle.tla_values.proofs.value.Value.value_at.Goals as goal
+
+pub returns-then-i-len : goal.returns-then-i-len
+returns-then-i-len c =
+    rw (← c.self.view_is, c.in-Function.is) (sym (value_read c.in-Function.entries.items c.args.i c.index-entry.result.now (omega arith) c.index-entry.ensures))
+
+pub returns-else-i-len : goal.returns-else-i-len
+returns-else-i-len c = rw (← c.self.view_is, c.in-Function.is) (sym (value_past c.in-Function.entries.items c.args.i (omega arith)))

@@ -1,0 +1,21 @@
+use Rattle.std.proofs.Common.{◌≡◌, ℕ, ◌+◌, ◌<◌, ◌≤◌, length, get_or, pos, refl, ap, sym, ◌∙◌, arith, true, false}
+use Rattle.tla_values.specs.Data.{Val, integer, function, Pairs, no_pairs}
+use Rattle.tla_values.specs.declared.value.Entry.{Entry}
+use Rattle.tla_values.proofs.SequenceLemmas.{numbered_by_places, places_of_numbered, tree_of_sequence}
+use Rattle.tla_values.proofs.value.are_numbered.Goals as goal
+
+pub returns : goal.returns
+returns c = (
+  λ t. ap function (numbered_by_places 1 c.args.entries.now.items (λ k m d is l. c.loop-i.invariant k d (omega arith) ∙ ap (λ j. integer (pos j)) (let z : k + 1 ≡ m = omega arith in z))),
+  λ e. refl,
+)
+
+pub returns-then-not-is_place : goal.returns-then-not-is_place
+returns-then-not-is_place c = (
+  λ t. cc,
+  λ e.
+      let there : (get_or c.args.entries.now.items c.loop-i.i c.index-entry.result.now).key ≡ integer (pos (c.loop-i.i + 1)) =
+      places_of_numbered 1 c.args.entries.now.items _ c.loop-i.i (c.loop-i.i + 1) c.index-entry.result.now (omega arith) (tree_of_sequence _ _ e) (omega arith) in
+      let here : c.index-entry.result.now.key ≡ integer (pos (c.loop-i.i + 1)) = ap (λ (x : Entry). x.key) c.index-entry.ensures ∙ there in
+      c.if-not-is_place.ensures.1 here,
+)

@@ -1,0 +1,26 @@
+-- Each value inside a value is less deep.
+use Rattle.std.specs.Prelude.{List, ◌≤◌, [], ◌∷◌, max, ◌+◌, suc}
+use Rattle.std.proofs.Common.{arith}
+use denote.Param.Weighed.{most}
+use Rattle.tla_values.specs.Data.{Val, vals_of, depth, vals_depth, pairs_depth}
+use Rattle.tla_values.specs.declared.value.Entry.{Entry}
+use Rattle.tla_values.specs.declared.value.Node.{Node}
+use Rattle.tla_values.specs.declared.value.Node.TheVariants.{Model, Bool, Int, String, Set, Function}
+use Rattle.tla_values.specs.declared.value.Value.TheDeep.{deep-Node, deep-Entry}
+use Rattle.tla_values.specs.View.{node_view, entries_view}
+
+most_vals : (vs : List Val) → most (λ v. depth v + 1) vs ≤ suc (vals_depth (vals_of vs))
+most_vals [] = omega arith
+most_vals (v ∷ vs) = omega (arith, most_vals vs)
+
+most_entries : (es : List Entry) → most deep-Entry es ≤ suc (pairs_depth (entries_view es))
+most_entries [] = omega arith
+most_entries (e ∷ es) = omega (arith, most_entries es)
+
+pub deep_le-depth : (n : Node) → max (deep-Node n) 0 ≤ depth (node_view n)
+deep_le-depth (Model t) = omega arith
+deep_le-depth (Bool b) = omega arith
+deep_le-depth (Int z) = omega arith
+deep_le-depth (String t) = omega arith
+deep_le-depth (Set v) = omega (arith, most_vals v.items)
+deep_le-depth (Function v) = omega (arith, most_entries v.items)

@@ -1,0 +1,10 @@
+//! The operations of TLA+ on values. Each fault names the operand that is at fault, from 0, or the
+//! whole term.
+#![tactic(auto)]
+
+mod integers;
+
+pub use integers::{add, at_most, div, division_law, less, modulo, mul, negate, sub};
+
+/// In a fault, the number that stands for the whole term in place of an operand.
+const THE_TERM: u8 = 255;
