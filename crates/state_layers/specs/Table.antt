@@ -1,5 +1,5 @@
 -- A table of edges, whose system the tests search.
-use Rattle.std.specs.Prelude.{◌≡◌, ◌⊎◌, ℕ, Bool, true, false, List, [], Contains, get_or, Option, Some, None, Result, Ok, Err}
+use Rattle.std.specs.Prelude.{◌≡◌, ◌⊎◌, ℕ, Bool, true, false, List, [], Contains, get_or, Option, Some, None, Result, Ok, Err, refl}
 use Rattle.trace_base.specs.declared.place.LineAt.{LineAt}
 use Rattle.trace_base.specs.declared.place.Place.{Place}
 use Rattle.tla_core.specs.States.{Values}
@@ -12,6 +12,9 @@ use Rattle.state_layers.specs.Found.{AddsNew, states_of}
 use Rattle.state_layers.specs.declared.layer.Found.{Found}
 use Rattle.state_layers.specs.declared.steps.StepFault.{StepFault}
 use Rattle.state_layers.specs.declared.steps.StepFault.TheVariants.{Eval, TooMany, NoMemory}
+use Rattle.std.specs.Coded.{Coded, code_by, coded×, coded_bool}
+use Rattle.tla_core.specs.Codes.{mark_code}
+use Rattle.tla_core.specs.StateCodes.{values_code}
 
 -- A step of this kind leads from a state to a state, or faults there. A first state is reached from the empty one.
 pub record Edge : Type 0 where
@@ -19,6 +22,12 @@ pub record Edge : Type 0 where
   pub from : Values
   pub to : Values
   pub faults : Bool
+
+-- how edges are told apart by a proof
+abbrev pub edge_code : Coded Edge
+edge_code =
+    code_by ((Mark × Values) × (Values × Bool)) (coded× (coded× mark_code values_code) (coded× values_code coded_bool))
+    (λ e. ((e.mark, e.from), (e.to, e.faults))) (λ p. record { mark = p.0.0; from = p.0.1; to = p.1.0; faults = p.1.1 }) (λ _. refl)
 
 -- The edge is of this kind, from s.
 abbrev pub IsEdge : Edge → Mark → Values → Type 0

@@ -21,8 +21,11 @@ pub struct Frontier {
 impl Model for Frontier {
     ghost use Rattle.std.specs.Prelude.{List};
     ghost use Rattle.state_layers.specs.declared.layer.Found.{Found};
+    ghost use Rattle.state_layers.specs.FoundCode.{found_code};
 
     ghost Value = { List Found };
+
+    ghost coded = { found_code };
 
     ghost view = { λ b. b.items.items };
 }

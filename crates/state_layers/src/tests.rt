@@ -22,9 +22,11 @@ struct Edge {
 }
 
 impl Model for Edge {
-    ghost use Rattle.state_layers.specs.Table.{Edge};
+    ghost use Rattle.state_layers.specs.Table.{Edge, edge_code};
 
     ghost Value = { Edge };
+
+    ghost coded = { edge_code };
 
     ghost view = { λ e. record { mark = e.mark; from = e.from; to = e.to; faults = e.faults } };
 }

@@ -1,4 +1,6 @@
 pub mod States
+pub mod StateCodes
+pub mod Codes
 pub mod System
 pub mod Sets
 pub mod Runs

@@ -14,8 +14,11 @@ pub struct State {
 impl Model for State {
     ghost use Rattle.std.specs.Prelude.{List};
     ghost use Rattle.tla_values.specs.Data.{Val};
+    ghost use Rattle.tla_core.specs.StateCodes.{values_code};
 
     ghost Value = { List Val };
+
+    ghost coded = { values_code };
 
     ghost view = { λ s. s.values.items };
 }
@@ -91,8 +94,11 @@ pub struct Behaviour {
 impl Model for Behaviour {
     ghost use Rattle.std.specs.Prelude.{List};
     ghost use Rattle.tla_core.specs.declared.state.Shown.{Shown};
+    ghost use Rattle.tla_core.specs.Codes.{behaviour_code};
 
     ghost Value = { List Shown };
+
+    ghost coded = { behaviour_code };
 
     ghost view = { λ b. b.items.items };
 }
@@ -151,8 +157,11 @@ pub struct StateList {
 impl Model for StateList {
     ghost use Rattle.std.specs.Prelude.{List};
     ghost use Rattle.tla_values.specs.Data.{Val};
+    ghost use Rattle.tla_core.specs.StateCodes.{states_code};
 
     ghost Value = { List (List Val) };
+
+    ghost coded = { states_code };
 
     ghost view = { λ b. b.items.items };
 }

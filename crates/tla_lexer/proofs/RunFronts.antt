@@ -125,9 +125,9 @@ base_longer c d bs e f (suc (suc (suc zero))) k w = absurd (omega arith)
 base_longer c d [] e f (suc (suc (suc (suc n)))) k w = absurd (omega arith)
 base_longer c d (x ∷ bs) e f (suc (suc (suc (suc n)))) k w =
     letter_is c (d ∷ x ∷ take n bs) e (no_one (is_base c)) ∙ run_none _ _ (digit_ends c d (x ∷ take n bs) f) where
-  no_one : (b : Bool) → (b && false) ≡ false
-  no_one true = refl
-  no_one false = refl
+      no_one : (b : Bool) → (b && false) ≡ false
+      no_one true = refl
+      no_one false = refl
 
 base_run : (c d : ℕ) (bs : List ℕ) → is_digit d ≡ true → (n : ℕ) → 3 ≤ n → is_run (take n (92 ∷ c ∷ d ∷ bs)) ≡ false
 base_run c d bs e zero h = absurd (omega arith)
@@ -217,9 +217,9 @@ module _ (c : ℕ) (cs : List ℕ) (letter : is_letter c ≡ true) (plain : begi
   exact =
       rest_of (is_run (92 ∷ c ∷ take (prefix_len is_letter cs) cs) && begins_letter (drop (prefix_len is_letter cs) cs)) _ _ (second_false _ _ (no_letter_behind cs))
       ∙ shape_is (prefix_len is_letter cs) ∙ ap (λ b. run_shape b (kind_in runs (c ∷ take (prefix_len is_letter cs) cs))) (first_of (is_letter c) _ _ letter ∙ each_run is_letter cs) where
-    second_false : (x y : Bool) → y ≡ false → (x && y) ≡ false
-    second_false true y e = e
-    second_false false y e = refl
+        second_false : (x y : Bool) → y ≡ false → (x && y) ≡ false
+        second_false true y e = e
+        second_false false y e = refl
 
   beyond : (n : ℕ) → prefix_len is_letter cs < n → n ≤ length cs → front_shape (92 ∷ c ∷ cs) (suc (suc n)) ≡ None
   beyond n h k =

@@ -64,7 +64,7 @@ tail_by : (b : ℕ) (xs : List ℕ) (r : Bool) → begins_module xs ≡ r → is
 tail_by b xs true h e f =
     let four : begins_four 45 (b ∷ xs) ≡ true = one_dash_more b xs e (and_first (begins_four 45 xs) _ h) in
     let rest : begins_heading (without_front is_space (without_front is_dash (b ∷ xs))) ≡ true =
-        ap (λ t. begins_heading (without_front is_space t)) (first_of (is_dash b) (without_front is_dash xs) (b ∷ xs) e) ∙ and_second (begins_four 45 xs) _ h
+    ap (λ t. begins_heading (without_front is_space t)) (first_of (is_dash b) (without_front is_dash xs) (b ∷ xs) e) ∙ and_second (begins_four 45 xs) _ h
     in
     let all : begins_module (b ∷ xs) ≡ true = ap (λ x. x && begins_heading (without_front is_space (without_front is_dash (b ∷ xs)))) four ∙ rest in
     cc

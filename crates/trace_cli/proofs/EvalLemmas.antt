@@ -29,10 +29,10 @@ pub added : (s : Values) (e : Term) (a b : Atom) (at : Place) (y z : ℤ) (o : O
     → r ≡ in_range o at → AtomIs s a y → AtomIs s b z → SomeIff o (FitsSigned w64 (y +ℤ z)) (y +ℤ z) → Evaluates s e (Some r)
 added s e a b at y z o r is gives p q range =
     subst (λ (t : Term). Evaluates s t (Some r)) (sym is)
-      (subst (λ (x : Result ℤ Fault). Evaluates s (Add a b at) (Some x)) (sym gives) (sum s a b at y z o p q range))
+    (subst (λ (x : Result ℤ Fault). Evaluates s (Add a b at) (Some x)) (sym gives) (sum s a b at y z o p q range))
 
 pub subtracted : (s : Values) (e : Term) (a b : Atom) (at : Place) (y z : ℤ) (o : Option ℤ) (r : Result ℤ Fault) → e ≡ Subtract a b at
     → r ≡ in_range o at → AtomIs s a y → AtomIs s b z → SomeIff o (FitsSigned w64 (y -ℤ z)) (y -ℤ z) → Evaluates s e (Some r)
 subtracted s e a b at y z o r is gives p q range =
     subst (λ (t : Term). Evaluates s t (Some r)) (sym is)
-      (subst (λ (x : Result ℤ Fault). Evaluates s (Subtract a b at) (Some x)) (sym gives) (difference s a b at y z o p q range))
+    (subst (λ (x : Result ℤ Fault). Evaluates s (Subtract a b at) (Some x)) (sym gives) (difference s a b at y z o p q range))

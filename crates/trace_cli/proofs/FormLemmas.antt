@@ -57,18 +57,18 @@ pub list_one : {A : Type 0} (P : A → Type 0) (x : A) → P x → ((y : A) → 
 list_one P x p only = record {
   are = record {
     distinct = λ i j d lt under. absurd (omega (arith, lt, under));
-    members = λ y h. subst P (in_one x y h) p
+    members = λ y h. subst P (in_one x y h) p;
   };
-  all = λ y q. (0, omega arith, sym (only y q))
+  all = λ y q. (0, omega arith, sym (only y q));
 }
 
 pub list_none : {A : Type 0} (P : A → Type 0) → ((y : A) → P y → ⊥) → IsList P []
 list_none P never = record {
   are = record {
     distinct = λ i j d lt under. absurd (omega (arith, lt, under));
-    members = λ y h. absurd (omega (arith, h.1))
+    members = λ y h. absurd (omega (arith, h.1));
   };
-  all = λ y q. absurd (never y q)
+  all = λ y q. absurd (never y q);
 }
 
 -- a line that leads to the state with this value
@@ -76,19 +76,19 @@ pub step_seen : (spec : Spec) (lines : List Line) (n : ℕ) (s t : Values) (z : 
     → TermIs s spec.next z → t ≡ integer z ∷ [] → IsSeen line t → IsList (StepOf spec lines n s) (t ∷ [])
 step_seen spec lines n s t z line at is same seen =
     list_one (StepOf spec lines n s) t (record { line = line; is = at; next = (z, is, same); seen = seen })
-      (λ u step. next_one spec s u z is step.next ∙ sym same)
+    (λ u step. next_one spec s u z is step.next ∙ sym same)
 
 -- a line that the only next state does not agree with
 pub step_unseen : (spec : Spec) (lines : List Line) (n : ℕ) (s t : Values) (z : ℤ) (line : Line) → slice_get lines n ≡ Some line
     → TermIs s spec.next z → t ≡ integer z ∷ [] → (IsSeen line t → ⊥) → IsList (StepOf spec lines n s) []
 step_unseen spec lines n s t z line at is same unseen =
     list_none (StepOf spec lines n s) (λ u step.
-      let there : u ≡ t = next_one spec s u z is step.next ∙ sym same in
-      let line_is : step.line ≡ line = some_same step.line line (sym step.is ∙ at) in
-      unseen (subst (λ (l : Line). IsSeen l t) line_is (subst (λ (v : Values). IsSeen step.line v) there step.seen)))
+    let there : u ≡ t = next_one spec s u z is step.next ∙ sym same in
+    let line_is : step.line ≡ line = some_same step.line line (sym step.is ∙ at) in
+    unseen (subst (λ (l : Line). IsSeen l t) line_is (subst (λ (v : Values). IsSeen step.line v) there step.seen)))
   where
-  some_same : (a b : Line) → ◌≡◌ {A = _} (Some a) (Some b) → a ≡ b
-  some_same a b e = cc
+    some_same : (a b : Line) → ◌≡◌ {A = _} (Some a) (Some b) → a ≡ b
+    some_same a b e = cc
 
 -- no next state, where the term has no value
 pub step_none : (spec : Spec) (lines : List Line) (n : ℕ) (s : Values) → ((z : ℤ) → ¬ TermIs s spec.next z) → IsList (StepOf spec lines n s) []
@@ -104,5 +104,5 @@ silent_none spec s never = list_none (NextHolds spec s) (λ u next. never next.0
 pub some_state : IsState (integer (pos 0) ∷ [])
 some_state = (pos 0, refl, fits)
   where
-  fits : FitsSigned w64 (pos 0)
-  fits = search rules
+    fits : FitsSigned w64 (pos 0)
+    fits = search rules

@@ -67,7 +67,7 @@ calls_earlier words holds now_holds a b n (Err x) le same calls = tt
 
 pub says_answered : (r : Result Judged Stop) (spec : Spec) (file log text : List ℕ) (lines : List Line) → LogSays spec.variable (pieces_of text) lines
     → IfOk r (λ j. (a : Answer) × IsAnswer (first_form spec lines) a × (j.status ≡ status_of a)
-      × (string_bytes j.report ≡ answer_text file log (length lines) spec.variable a))
+    × (string_bytes j.report ≡ answer_text file log (length lines) spec.variable a))
     → IfOk r (λ j. Says spec file log text j.status (string_bytes j.report))
 says_answered (Ok j) spec file log text lines says a = rw (a.2, a.3) (answered lines a.0 says a.1)
 says_answered (Err x) spec file log text lines says a = tt

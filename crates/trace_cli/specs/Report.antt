@@ -76,7 +76,7 @@ layer_text after silent = codes " after=" ++ decimal after ++ codes " silent=" +
 -- the longest behaviour, of all lines
 abbrev pub explained_text : ℕ → List ℕ → List Shown → ℕ → List ℕ
 explained_text lines x w widest =
-  codes "EXPLAINED lines=" ++ decimal lines ++ codes " widest=" ++ decimal widest ++ codes "\n" ++ states_text x w
+    codes "EXPLAINED lines=" ++ decimal lines ++ codes " widest=" ++ decimal widest ++ codes "\n" ++ states_text x w
 
 -- the line of the log that comes next
 abbrev pub next_text : List ℕ → ℕ → List ℕ
@@ -85,7 +85,7 @@ next_text log line = codes " next=" ++ log ++ codes ":" ++ decimal line ++ codes
 -- the longest behaviour, of some of the lines
 abbrev pub not_explained_text : List ℕ → List ℕ → ℕ → ℕ → ℕ → List Shown → List ℕ
 not_explained_text log x prefix all line w =
-  codes "NOT EXPLAINED prefix=" ++ decimal prefix ++ codes " of=" ++ decimal all ++ next_text log line ++ states_text x w
+    codes "NOT EXPLAINED prefix=" ++ decimal prefix ++ codes " of=" ++ decimal all ++ next_text log line ++ states_text x w
 
 -- what went wrong in an evaluation, and where
 abbrev pub fault_text : List ℕ → EvalKind → Place → List ℕ
@@ -98,7 +98,7 @@ answer_text file log lines x (NotExplained prefix all next w) = not_explained_te
 answer_text file log lines x NoInitial = codes "NO INITIAL STATE\n"
 answer_text file log lines x (InitFault kind at) = codes "FAULT " ++ fault_text file kind at ++ codes " in init\n"
 answer_text file log lines x (Fault after silent s kind at) =
-  codes "FAULT " ++ fault_text file kind at ++ layer_text after silent ++ faulty_text x s
+    codes "FAULT " ++ fault_text file kind at ++ layer_text after silent ++ faulty_text x s
 answer_text file log lines x (AssumeFault kind at) = codes "ASSUME FAULT " ++ fault_text file kind at ++ codes "\n"
 answer_text file log lines x (AssumeFalse at) = codes "ASSUME FALSE at " ++ place_text file at ++ codes "\n"
 answer_text file log lines x (LayerLimit after silent) = codes "LAYER LIMIT 10000" ++ layer_text after silent

@@ -7,7 +7,11 @@ use tla_values::Value;
 use trace_base::{LineAt, Place};
 
 /// Adds the lines of states.
-pub fn push_states(text: &mut String, variable: &str, behaviour: &Behaviour) -> Result<(), AllocError>
+pub fn push_states(
+    text: &mut String,
+    variable: &str,
+    behaviour: &Behaviour,
+) -> Result<(), AllocError>
     ensures { OnOk result (string_bytes text.new ≡ string_bytes text.old ++ states_text variable.now behaviour.now) }
 {
     for shown in behaviour.items() {

@@ -56,7 +56,13 @@ impl<'a> Steps for Form<'a> {
         Ok(states)
     }
 
-    fn successors(&self, alloc: Global, line: u32, state: &State, _bound: u32) -> Result<StateList, StepFault> {
+    fn successors(
+        &self,
+        alloc: Global,
+        line: u32,
+        state: &State,
+        _bound: u32,
+    ) -> Result<StateList, StepFault> {
         let mut states = StateList::new(alloc);
         match evaluate(self.spec.next, state) {
             Some(Ok(value)) => {
@@ -85,8 +91,8 @@ impl<'a> Steps for Form<'a> {
     }
 
     ghost plain = { λ form. record {
-        state = λ s. refl;
-        line = λ n s t u v. refl;
-        expected = λ n s t u. refl
+      state = λ s. refl;
+      line = λ n s t u v. refl;
+      expected = λ n s t u. refl;
     } };
 }

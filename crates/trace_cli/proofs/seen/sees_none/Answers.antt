@@ -21,6 +21,7 @@ empty_test (x ∷ xs) b e = (λ yes. absurd (grind (arith, nat_tests, e, yes)), 
 
 pub returns : goal.returns
 returns c =
-    let test = empty_test c.args.sees.now c.is_empty.result c.is_empty.ensures in
-    (λ yes. all_of c.args.state.now c.args.sees.now (test.0 yes),
-     λ all. test.1 (empty_of c.args.state.now c.args.sees.now c.requires all))
+    let test = empty_test c.args.sees.now c.is_empty.result c.is_empty.ensures in (
+      λ yes. all_of c.args.state.now c.args.sees.now (test.0 yes),
+      λ all. test.1 (empty_of c.args.state.now c.args.sees.now c.requires all),
+    )

@@ -1,0 +1,11 @@
+-- How states are told apart by a proof: as lists of values.
+use Rattle.std.specs.Prelude.{List}
+use Rattle.std.specs.Coded.{Coded, coded_list}
+use Rattle.tla_values.specs.Data.{Val}
+use Rattle.tla_values.specs.Tree.{val_code}
+
+abbrev pub values_code : Coded (List Val)
+values_code = coded_list val_code
+
+abbrev pub states_code : Coded (List (List Val))
+states_code = coded_list values_code
