@@ -1,17 +1,15 @@
 -- Strings and comments, at the front of a text.
-use Rattle.std.proofs.Common.{◌≡◌, ◌≢◌, ℕ, zero, suc, ◌+◌, ◌-◌, ◌<◌, ◌≤◌, ◌⊎◌, inl, inr, Bool, true, false, ◌||◌, ◌&&◌, cond, eqb, List, [], ◌∷◌, ◌++◌, length, get_or, take, drop, Option, Some, None, Result, Ok, Err, refl, sym, ap, subst, ◌∙◌, arith, append_assoc, length-append, length-drop, length-take}
+use Rattle.std.proofs.Common.{◌≡◌, ℕ, zero, suc, ◌+◌, ◌-◌, ◌<◌, ◌≤◌, ◌⊎◌, inl, inr, Bool, true, false, ◌||◌, ◌&&◌, cond, eqb, List, [], ◌∷◌, ◌++◌, length, get_or, take, drop, Option, Some, None, Result, Ok, Err, refl, sym, ap, subst, ◌∙◌, arith, append_assoc, length-append, length-drop}
 use Rattle.std.proofs.lemmas.Bool.Decides.{nat_tests}
-use Rattle.std.proofs.lemmas.List.{take_at, drop_at, take-append-drop}
+use Rattle.std.proofs.lemmas.List.{take_at}
 use Rattle.std.proofs.lemmas.Str.{IsUtf8-take, IsUtf8-drop, IsUtf8-append, IsUtf8-nil, IsUtf8-from_ascii, IsCharBoundary-before_ascii, IsCharBoundary-after_ascii}
 use Rattle.std.proofs.lemmas.Str.Ascii.{IsAscii-nil, IsAscii-cons}
 use Rattle.std.specs.Str.{IsUtf8}
 use Rattle.std.specs.Prelude.{nat_lt}
-use Rattle.std.specs.List.{prefix_len}
 use Rattle.tla_ast.specs.declared.piece.LexKind.{LexKind}
-use Rattle.tla_ast.specs.declared.piece.LexKind.TheVariants.{OpenString, BadCharacter, OpenComment}
-use Rattle.tla_ast.specs.declared.piece.Shape.{Shape}
+use Rattle.tla_ast.specs.declared.piece.LexKind.TheVariants.{OpenString, OpenComment}
 use Rattle.tla_ast.specs.declared.piece.Shape.TheVariants.{Blank, Bad}
-use Rattle.tla_ast.specs.Shapes.{IsPiece, shape_of, only_if, is_empty, Quoted, after_quote, escaped, with_character, with_byte, with_escape, closed, broken, content_shape, string_shape, opens_comment, closes_comment, after_comment, comment_shape}
+use Rattle.tla_ast.specs.Shapes.{IsPiece, shape_of, is_empty, Quoted, after_quote, escaped, with_character, with_byte, with_escape, closed, broken, content_shape, string_shape, opens_comment, after_comment, comment_shape}
 use Rattle.tla_lexer.proofs.Fronts.{made, no_run, first_of, rest_of, only_if_false, and_first, and_second}
 use Rattle.tla_lexer.proofs.Quotes.{goes_on}
 use Rattle.tla_lexer.specs.Lexer.{InUtf8}
@@ -82,16 +80,16 @@ string_front used rest content l h =
     made (34 ∷ (used ++ rest)) (suc (length used)) _ (omega arith) (omega (arith, length-append used rest)) (no_run 34 _ refl)
     (ap (λ t. string_shape (after_quote t)) (take_past used rest (length used) (omega arith)) ∙ ap string_shape (h (take (length used - length used) rest)) ∙ whole used rest content)
     (longer used rest content h) where
-  whole : (used rest : List ℕ) (content : Result (List ℕ) LexKind) → string_shape (record { content = content; rest = take (length used - length used) rest }) ≡ Some (content_shape content)
-  whole used rest content =
-      let e : length used - length used ≡ 0 = omega arith in
-      ap (λ n. string_shape (record { content = content; rest = take n rest })) e
+      whole : (used rest : List ℕ) (content : Result (List ℕ) LexKind) → string_shape (record { content = content; rest = take (length used - length used) rest }) ≡ Some (content_shape content)
+      whole used rest content =
+          let e : length used - length used ≡ 0 = omega arith in
+          ap (λ n. string_shape (record { content = content; rest = take n rest })) e
 
-  longer : (used rest : List ℕ) (content : Result (List ℕ) LexKind) → ((more : List ℕ) → after_quote (used ++ more) ≡ record { content = content; rest = more }) → (more : ℕ) → suc (length used) < more → more ≤ length (34 ∷ (used ++ rest)) → shape_of (take more (34 ∷ (used ++ rest))) ≡ None
-  longer used rest content h zero k w = absurd (omega arith)
-  longer used rest content h (suc m) k w =
-      ap (λ t. string_shape (after_quote t)) (take_past used rest m (omega arith)) ∙ ap string_shape (h (take (m - length used) rest))
-      ∙ shape_none _ (not_empty (m - length used) rest (omega arith) (omega (arith, length-append used rest)))
+      longer : (used rest : List ℕ) (content : Result (List ℕ) LexKind) → ((more : List ℕ) → after_quote (used ++ more) ≡ record { content = content; rest = more }) → (more : ℕ) → suc (length used) < more → more ≤ length (34 ∷ (used ++ rest)) → shape_of (take more (34 ∷ (used ++ rest))) ≡ None
+      longer used rest content h zero k w = absurd (omega arith)
+      longer used rest content h (suc m) k w =
+          ap (λ t. string_shape (after_quote t)) (take_past used rest m (omega arith)) ∙ ap string_shape (h (take (m - length used) rest))
+          ∙ shape_none _ (not_empty (m - length used) rest (omega arith) (omega (arith, length-append used rest)))
 
 take_all : (xs : List ℕ) → take (length xs) xs ≡ xs
 take_all [] = refl
@@ -137,9 +135,9 @@ before_ascii pre cs b h u =
     let g : get_or (pre ++ b ∷ cs) (length pre) 0 ≡ b = at_seam pre b cs in
     let p = IsUtf8-take (pre ++ b ∷ cs) (length pre) u (IsCharBoundary-before_ascii (pre ++ b ∷ cs) (length pre) n (omega (arith, g))) in
     subst IsUtf8 (take_at pre (b ∷ cs) (length pre) refl) p where
-  at_seam : (pre : List ℕ) (b : ℕ) (cs : List ℕ) → get_or (pre ++ b ∷ cs) (length pre) 0 ≡ b
-  at_seam [] b cs = refl
-  at_seam (p ∷ pre) b cs = at_seam pre b cs
+      at_seam : (pre : List ℕ) (b : ℕ) (cs : List ℕ) → get_or (pre ++ b ∷ cs) (length pre) 0 ≡ b
+      at_seam [] b cs = refl
+      at_seam (p ∷ pre) b cs = at_seam pre b cs
 
 pub behind_ascii : (pre cs : List ℕ) (b : ℕ) → b < 128 → IsUtf8 (pre ++ b ∷ cs) → IsUtf8 cs
 behind_ascii pre cs b h u =
@@ -147,16 +145,16 @@ behind_ascii pre cs b h u =
     let g : get_or (pre ++ b ∷ cs) (length pre) 0 ≡ b = at_seam pre b cs in
     let p = IsUtf8-drop (pre ++ b ∷ cs) (length pre + 1) u (IsCharBoundary-after_ascii (pre ++ b ∷ cs) (length pre) u n (omega (arith, g))) in
     subst IsUtf8 (after pre b cs) p where
-  at_seam : (pre : List ℕ) (b : ℕ) (cs : List ℕ) → get_or (pre ++ b ∷ cs) (length pre) 0 ≡ b
-  at_seam [] b cs = refl
-  at_seam (p ∷ pre) b cs = at_seam pre b cs
+      at_seam : (pre : List ℕ) (b : ℕ) (cs : List ℕ) → get_or (pre ++ b ∷ cs) (length pre) 0 ≡ b
+      at_seam [] b cs = refl
+      at_seam (p ∷ pre) b cs = at_seam pre b cs
 
-  one_more : (n : ℕ) → suc n + 1 ≡ suc (n + 1)
-  one_more n = omega arith
+      one_more : (n : ℕ) → suc n + 1 ≡ suc (n + 1)
+      one_more n = omega arith
 
-  after : (pre : List ℕ) (b : ℕ) (cs : List ℕ) → drop (length pre + 1) (pre ++ b ∷ cs) ≡ cs
-  after [] b cs = refl
-  after (p ∷ pre) b cs = ap (λ n. drop n (p ∷ pre ++ b ∷ cs)) (one_more (length pre)) ∙ after pre b cs
+      after : (pre : List ℕ) (b : ℕ) (cs : List ℕ) → drop (length pre + 1) (pre ++ b ∷ cs) ≡ cs
+      after [] b cs = refl
+      after (p ∷ pre) b cs = ap (λ n. drop n (p ∷ pre ++ b ∷ cs)) (one_more (length pre)) ∙ after pre b cs
 
 one_ascii : (c : ℕ) → c < 128 → IsUtf8 (c ∷ [])
 one_ascii c h = IsUtf8-from_ascii (c ∷ []) (IsAscii-cons c [] h IsAscii-nil)
@@ -261,15 +259,15 @@ comment_front used rest h =
     made (40 ∷ 42 ∷ (used ++ rest)) (suc (suc (length used))) _ (omega arith) (omega (arith, length-append used rest)) (no_run 40 _ refl)
     (ap (λ t. comment_shape (after_comment 1 t)) (take_past used rest (length used) (omega arith)) ∙ ap comment_shape (h (take (length used - length used) rest)) ∙ whole used rest)
     (longer used rest h) where
-  whole : (used rest : List ℕ) → comment_shape (Some (take (length used - length used) rest)) ≡ Some Blank
-  whole used rest = let e : length used - length used ≡ 0 = omega arith in ap (λ n. comment_shape (Some (take n rest))) e
+      whole : (used rest : List ℕ) → comment_shape (Some (take (length used - length used) rest)) ≡ Some Blank
+      whole used rest = let e : length used - length used ≡ 0 = omega arith in ap (λ n. comment_shape (Some (take n rest))) e
 
-  longer : (used rest : List ℕ) → ((more : List ℕ) → after_comment 1 (used ++ more) ≡ Some more) → (more : ℕ) → suc (suc (length used)) < more → more ≤ length (40 ∷ 42 ∷ (used ++ rest)) → shape_of (take more (40 ∷ 42 ∷ (used ++ rest))) ≡ None
-  longer used rest h zero k w = absurd (omega arith)
-  longer used rest h (suc zero) k w = absurd (omega arith)
-  longer used rest h (suc (suc m)) k w =
-      ap (λ t. comment_shape (after_comment 1 t)) (take_past used rest m (omega arith))
-      ∙ comment_none _ (m - length used) rest (h (take (m - length used) rest)) (omega arith) (omega (arith, length-append used rest))
+      longer : (used rest : List ℕ) → ((more : List ℕ) → after_comment 1 (used ++ more) ≡ Some more) → (more : ℕ) → suc (suc (length used)) < more → more ≤ length (40 ∷ 42 ∷ (used ++ rest)) → shape_of (take more (40 ∷ 42 ∷ (used ++ rest))) ≡ None
+      longer used rest h zero k w = absurd (omega arith)
+      longer used rest h (suc zero) k w = absurd (omega arith)
+      longer used rest h (suc (suc m)) k w =
+          ap (λ t. comment_shape (after_comment 1 t)) (take_past used rest m (omega arith))
+          ∙ comment_none _ (m - length used) rest (h (take (m - length used) rest)) (omega arith) (omega (arith, length-append used rest))
 
 is_eq : (a b : ℕ) → eqb a b ≡ true → a ≡ b
 is_eq a b e = grind (arith, nat_tests)
@@ -296,9 +294,9 @@ open_piece (b ∷ []) rest o r e = cc
 open_piece (b ∷ c ∷ bs) rest o r e =
     let f : after_comment 1 bs ≡ None = ap (after_comment 1) (sym r) ∙ e in
     let p : IsPiece (40 ∷ 42 ∷ bs) (length (40 ∷ 42 ∷ bs)) (Bad OpenComment) =
-        made (40 ∷ 42 ∷ bs) (length (40 ∷ 42 ∷ bs)) _ (omega arith) (omega arith) (no_run 40 _ refl)
-        (ap (λ t. comment_shape (after_comment 1 t)) (take_all bs) ∙ ap comment_shape f)
-        (λ more k w. absurd (omega arith))
+    made (40 ∷ 42 ∷ bs) (length (40 ∷ 42 ∷ bs)) _ (omega arith) (omega arith) (no_run 40 _ refl)
+    (ap (λ t. comment_shape (after_comment 1 t)) (take_all bs) ∙ ap comment_shape f)
+    (λ more k w. absurd (omega arith))
     in
     subst (λ x. IsPiece x (length x) (Bad OpenComment)) (opening b c bs o) p
 

@@ -1,5 +1,5 @@
 -- Pieces that are one byte or a run, at the front of a text.
-use Rattle.std.proofs.Common.{◌≡◌, ◌≢◌, ℕ, zero, suc, ◌+◌, ◌-◌, ◌*◌, ◌^◌, ◌<◌, ◌≤◌, Bool, true, false, ◌||◌, ◌&&◌, cond, eqb, List, [], ◌∷◌, ◌++◌, length, get_or, take, drop, Option, Some, None, refl, sym, ap, subst, ◌∙◌, arith, zero-add, length-append, length-drop}
+use Rattle.std.proofs.Common.{◌≡◌, ℕ, zero, suc, ◌+◌, ◌-◌, ◌*◌, ◌^◌, ◌<◌, ◌≤◌, Bool, true, false, ◌||◌, ◌&&◌, cond, eqb, List, [], ◌∷◌, ◌++◌, length, get_or, take, drop, Option, Some, None, refl, sym, ap, subst, ◌∙◌, arith, zero-add, length-append}
 use Rattle.std.specs.List.{prefix_len}
 use Rattle.std.proofs.lemmas.Bool.Decides.{nat_tests}
 use Rattle.std.proofs.lemmas.List.{at_drop_more}
@@ -12,7 +12,7 @@ use Rattle.tla_ast.specs.declared.piece.LexKind.TheVariants.{NumberTooLarge}
 use Rattle.tla_ast.specs.declared.piece.Shape.{Shape}
 use Rattle.tla_ast.specs.declared.piece.Shape.TheVariants.{Blank, Spelled, Bad}
 use Rattle.tla_ast.specs.Spellings.{words, kind_in}
-use Rattle.tla_ast.specs.Shapes.{IsPiece, front_shape, shape_of, is_run, begins_letter, only_if, each, is_blank, is_digit, is_letter, is_word_start, is_word, is_dash, is_equal, in_line, number_from, number_shape, named_shape, word_shape, begins_fair, begins_four}
+use Rattle.tla_ast.specs.Shapes.{IsPiece, front_shape, shape_of, is_run, begins_letter, only_if, each, is_blank, is_digit, is_letter, is_word_start, is_word, is_dash, is_equal, number_from, number_shape, named_shape, word_shape, begins_fair, begins_four}
 
 -- what a choice of choices is
 pub first_of : {X : Type 0} (x : Bool) (a b : X) → x ≡ true → cond x a b ≡ a
@@ -122,10 +122,10 @@ run_piece p f y front xs n h =
     made (y ∷ front ++ xs) (length (y ∷ front) + prefix_len p xs) _ (omega arith) (omega (arith, prefix_len-le-length p xs, length-append (y ∷ front) xs)) n
     (ap shape_of (take_behind (y ∷ front) xs (prefix_len p xs)) ∙ h (take (prefix_len p xs) xs) ∙ only_if_true _ _ (each_run p xs))
     (λ more l k.
-        let m = more - length (y ∷ front) in
-        let e : more ≡ length (y ∷ front) + m = omega arith in
-        let q : m ≤ length xs = omega (arith, length-append (y ∷ front) xs) in
-        ap (λ n. shape_of (take n (y ∷ front ++ xs))) e ∙ ap shape_of (take_behind (y ∷ front) xs m) ∙ h (take m xs) ∙ only_if_false _ _ (each_over p xs m (omega arith) q))
+    let m = more - length (y ∷ front) in
+    let e : more ≡ length (y ∷ front) + m = omega arith in
+    let q : m ≤ length xs = omega (arith, length-append (y ∷ front) xs) in
+    ap (λ n. shape_of (take n (y ∷ front ++ xs))) e ∙ ap shape_of (take_behind (y ∷ front) xs m) ∙ h (take m xs) ∙ only_if_false _ _ (each_over p xs m (omega arith) q))
 
 prefix_more : (p : ℕ → Bool) (b : ℕ) (bs : List ℕ) → p b ≡ true → prefix_len p (b ∷ bs) ≡ 1 + prefix_len p bs
 prefix_more p b bs e = first_of (p b) _ _ e
@@ -226,9 +226,9 @@ word_piece (b ∷ bs) size shape h e f n s =
     let k : size ≡ suc (prefix_len is_word bs) = n ∙ prefix_more is_word b bs (word_start b e) ∙ one_more _ in
     let front = b ∷ take (prefix_len is_word bs) bs in
     let q : IsPiece (b ∷ bs) (suc (prefix_len is_word bs)) (named_shape (kind_in words front) front) =
-        made (b ∷ bs) (suc (prefix_len is_word bs)) _ (omega arith) (omega (arith, prefix_len-le-length is_word bs)) (no_run b bs (start_no_backslash b e))
-        (word_is b _ e ∙ first_of (each is_word (take (prefix_len is_word bs) bs)) _ _ (each_run is_word bs) ∙ rest_of (begins_fair front) _ _ (begins_fair-take (suc (prefix_len is_word bs)) (b ∷ bs) f))
-        (word_longer b bs e)
+    made (b ∷ bs) (suc (prefix_len is_word bs)) _ (omega arith) (omega (arith, prefix_len-le-length is_word bs)) (no_run b bs (start_no_backslash b e))
+    (word_is b _ e ∙ first_of (each is_word (take (prefix_len is_word bs) bs)) _ _ (each_run is_word bs) ∙ rest_of (begins_fair front) _ _ (begins_fair-take (suc (prefix_len is_word bs)) (b ∷ bs) f))
+    (word_longer b bs e)
     in
     let t : take size (b ∷ bs) ≡ front = ap (λ m. take m (b ∷ bs)) k in
     subst (λ m. IsPiece (b ∷ bs) m shape) (sym k) (subst (λ r. IsPiece (b ∷ bs) (suc (prefix_len is_word bs)) r) (sym (s ∙ ap (λ w. named_shape (kind_in words w) w) t)) q)

@@ -1,5 +1,5 @@
 -- What a backslash begins, at the front of a text.
-use Rattle.std.proofs.Common.{◌≡◌, ◌≢◌, ℕ, zero, suc, ◌+◌, ◌-◌, ◌<◌, ◌≤◌, ◌⊎◌, inl, inr, Bool, true, false, ◌&&◌, cond, eqb, List, [], ◌∷◌, length, get_or, take, drop, Option, Some, None, refl, sym, ap, subst, ◌∙◌, arith, length-take}
+use Rattle.std.proofs.Common.{◌≡◌, ◌≢◌, ℕ, zero, suc, ◌+◌, ◌<◌, ◌≤◌, ◌⊎◌, inl, inr, Bool, true, false, ◌&&◌, cond, eqb, List, [], ◌∷◌, length, get_or, take, drop, Option, Some, None, refl, sym, ap, subst, ◌∙◌, arith}
 use Rattle.std.specs.List.{prefix_len}
 use Rattle.std.proofs.lemmas.Bool.Decides.{nat_tests}
 use Rattle.std.proofs.lemmas.List.Sums.{prefix_len-le-length}
@@ -10,9 +10,9 @@ use Rattle.tla_ast.specs.declared.piece.LexKind.TheVariants.{BadCharacter}
 use Rattle.tla_ast.specs.declared.piece.Shape.{Shape}
 use Rattle.tla_ast.specs.declared.piece.Shape.TheVariants.{Blank, Spelled, Bad}
 use Rattle.tla_ast.specs.Spellings.{runs, kind_in}
-use Rattle.tla_ast.specs.Shapes.{IsPiece, front_shape, shape_of, backslash_shape, run_shape, is_run, begins_letter, is_one_digit, each, is_digit, is_letter, is_base, in_line}
+use Rattle.tla_ast.specs.Shapes.{IsPiece, front_shape, shape_of, run_shape, is_run, begins_letter, is_one_digit, each, is_digit, is_letter, is_base, in_line}
 use Rattle.tla_lexer.specs.Lexer.{begins_base}
-use Rattle.tla_lexer.proofs.Fronts.{NoRun, made, no_run_sign, run_piece, front_is, first_of, rest_of, and_false, and_first, and_second, each_run, each_over}
+use Rattle.tla_lexer.proofs.Fronts.{NoRun, made, no_run_sign, run_piece, front_is, first_of, rest_of, and_false, and_second, each_run, each_over}
 
 abbrev alone : Shape
 alone = Spelled (kinds.Symbol symbol.Difference)
@@ -125,9 +125,9 @@ base_longer c d bs e f (suc (suc (suc zero))) k w = absurd (omega arith)
 base_longer c d [] e f (suc (suc (suc (suc n)))) k w = absurd (omega arith)
 base_longer c d (x ∷ bs) e f (suc (suc (suc (suc n)))) k w =
     letter_is c (d ∷ x ∷ take n bs) e (no_one (is_base c)) ∙ run_none _ _ (digit_ends c d (x ∷ take n bs) f) where
-  no_one : (b : Bool) → (b && false) ≡ false
-  no_one true = refl
-  no_one false = refl
+      no_one : (b : Bool) → (b && false) ≡ false
+      no_one true = refl
+      no_one false = refl
 
 base_run : (c d : ℕ) (bs : List ℕ) → is_digit d ≡ true → (n : ℕ) → 3 ≤ n → is_run (take n (92 ∷ c ∷ d ∷ bs)) ≡ false
 base_run c d bs e zero h = absurd (omega arith)
@@ -217,9 +217,9 @@ module _ (c : ℕ) (cs : List ℕ) (letter : is_letter c ≡ true) (plain : begi
   exact =
       rest_of (is_run (92 ∷ c ∷ take (prefix_len is_letter cs) cs) && begins_letter (drop (prefix_len is_letter cs) cs)) _ _ (second_false _ _ (no_letter_behind cs))
       ∙ shape_is (prefix_len is_letter cs) ∙ ap (λ b. run_shape b (kind_in runs (c ∷ take (prefix_len is_letter cs) cs))) (first_of (is_letter c) _ _ letter ∙ each_run is_letter cs) where
-    second_false : (x y : Bool) → y ≡ false → (x && y) ≡ false
-    second_false true y e = e
-    second_false false y e = refl
+        second_false : (x y : Bool) → y ≡ false → (x && y) ≡ false
+        second_false true y e = e
+        second_false false y e = refl
 
   beyond : (n : ℕ) → prefix_len is_letter cs < n → n ≤ length cs → front_shape (92 ∷ c ∷ cs) (suc (suc n)) ≡ None
   beyond n h k =

@@ -1,7 +1,6 @@
 -- Where a module begins.
-use Rattle.std.proofs.Common.{◌≡◌, ℕ, zero, suc, ◌+◌, ◌-◌, ◌<◌, ◌≤◌, ◌⊎◌, inl, inr, max, Bool, true, false, ◌&&◌, cond, eqb, List, [], ◌∷◌, length, take, drop, Option, Some, None, refl, sym, ap, subst, ◌∙◌, arith, length-drop}
+use Rattle.std.proofs.Common.{◌≡◌, ℕ, zero, suc, ◌+◌, ◌<◌, ◌≤◌, ◌⊎◌, inl, inr, max, Bool, true, false, ◌&&◌, cond, eqb, List, [], ◌∷◌, length, drop, Option, Some, None, refl, sym, ap, ◌∙◌, arith, length-drop}
 use Rattle.std.specs.List.{prefix_len}
-use Rattle.std.proofs.lemmas.Bool.Decides.{nat_tests}
 use Rattle.tla_ast.specs.Shapes.{is_dash, begins_four}
 use Rattle.tla_ast.specs.Tokens.{module_start, begins_module, begins_heading, one_further, without_front, is_space}
 use Rattle.tla_lexer.proofs.Fronts.{first_of, rest_of, and_false, and_first, and_second}
@@ -64,7 +63,7 @@ tail_by : (b : ℕ) (xs : List ℕ) (r : Bool) → begins_module xs ≡ r → is
 tail_by b xs true h e f =
     let four : begins_four 45 (b ∷ xs) ≡ true = one_dash_more b xs e (and_first (begins_four 45 xs) _ h) in
     let rest : begins_heading (without_front is_space (without_front is_dash (b ∷ xs))) ≡ true =
-        ap (λ t. begins_heading (without_front is_space t)) (first_of (is_dash b) (without_front is_dash xs) (b ∷ xs) e) ∙ and_second (begins_four 45 xs) _ h
+    ap (λ t. begins_heading (without_front is_space t)) (first_of (is_dash b) (without_front is_dash xs) (b ∷ xs) e) ∙ and_second (begins_four 45 xs) _ h
     in
     let all : begins_module (b ∷ xs) ≡ true = ap (λ x. x && begins_heading (without_front is_space (without_front is_dash (b ∷ xs)))) four ∙ rest in
     cc

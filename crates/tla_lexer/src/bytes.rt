@@ -95,7 +95,9 @@ pub fn spaces(text: &[u8]) -> usize
     ensures bound { result ≤ length text.now }
     ensures size { result ≡ prefix_len is_space text.now }
 {
-    text.iter().take_while(|b| **b == b' ' || **b == b'\t').count()
+    text.iter()
+        .take_while(|b| **b == b' ' || **b == b'\t')
+        .count()
 }
 
 pub fn has_letter(word: &[u8]) -> bool

@@ -23,7 +23,13 @@ fn begins_heading(text: &[u8]) -> bool
 {
     match text {
         [a, b, c, d, e, f, rest @ ..] => {
-            *a == b'M' && *b == b'O' && *c == b'D' && *d == b'U' && *e == b'L' && *f == b'E' && !begins_word(rest)
+            *a == b'M'
+                && *b == b'O'
+                && *c == b'D'
+                && *d == b'U'
+                && *e == b'L'
+                && *f == b'E'
+                && !begins_word(rest)
         }
         _ => false,
     }

@@ -14,7 +14,7 @@ pub returns-in_ok-text-in-Closed : goal.returns-in_ok-text-in-Closed
 returns-in_ok-text-in-Closed c =
     let q = rw c.in-Closed.is at c.in_ok-content.ensures in
     let p : IsPiece c.args.text.now (c.in-Closed.size + 1) (Spelled (Str c.in-Closed.content.items)) =
-        string_piece c.args.text.now _ _ (Ok c.in-Closed.content.items) c.requires.some c.requires.first (after_one c.args.text.now) q.0 q.1
+    string_piece c.args.text.now _ _ (Ok c.in-Closed.content.items) c.requires.some c.requires.first (after_one c.args.text.now) q.0 q.1
     in
     subst (λ t. IsPiece c.args.text.now (c.in-Closed.size + 1) (Spelled (Str t))) (sym (c.in_ok-text-in-Closed.ensures ∙ c.deref.ensures.value)) p
 
