@@ -1,20 +1,15 @@
 -- A text is cut into pieces in one way.
-use Rattle.std.proofs.Common.{◌≡◌, ◌≢◌, ℕ, zero, suc, ◌+◌, ◌<◌, ◌≤◌, ◌⊎◌, inl, inr, Bool, true, false, ◌&&◌, List, [], ◌∷◌, ◌++◌, length, take, drop, Option, Some, None, Ok, Err, refl, sym, ap, subst, ◌∙◌, cond, eqb, arith, append_assoc, length-append, length-take, length-drop}
+use Rattle.std.proofs.Common.{◌≡◌, ℕ, zero, suc, ◌<◌, ◌≤◌, ◌⊎◌, inl, inr, Bool, true, false, List, [], ◌∷◌, ◌++◌, length, take, drop, Option, Some, None, Ok, refl, sym, ap, subst, ◌∙◌, cond, eqb, arith, length-append, length-take, length-drop}
 use Rattle.std.proofs.lemmas.List.{take_at, drop_at, take-append-drop}
-use Rattle.std.proofs.lemmas.Bool.Decides.{nat_tests}
 use Rattle.std.specs.Prelude.{MatchBool, MatchOption}
 use Rattle.std.specs.Str.{is_utf8}
 use Rattle.trace_base.specs.declared.place.Place.{Place}
 use Rattle.tla_ast.specs.declared.token.Kind.{Kind}
 use Rattle.tla_ast.specs.declared.token.Kind.TheVariants.{End}
-use Rattle.tla_ast.specs.declared.token.Token.{Token}
-use Rattle.tla_ast.specs.declared.piece.LexKind.{LexKind}
-use Rattle.tla_ast.specs.declared.piece.LexKind.TheVariants.{TooManyTokens, NotUtf8}
 use Rattle.tla_ast.specs.declared.piece.Shape.{Shape}
-use Rattle.tla_ast.specs.declared.piece.Shape.TheVariants.{Blank, Spelled, Bad}
-use Rattle.tla_ast.specs.Spellings.{signs, words, kind_in}
+use Rattle.tla_ast.specs.Spellings.{signs, kind_in}
 use Rattle.tla_ast.specs.Shapes.{IsPiece, front_shape, shape_of, sign_shape, after_quote, is_blank, is_digit, is_word_start}
-use Rattle.tla_ast.specs.Tokens.{Piece, text_of, ArePieces, Outcome, outcome_of, LexedFrom, LexedModule, LexedText, Tokens, with_front, with_all, place_behind, start_of, token_at, kind_at, is_equals, module_start}
+use Rattle.tla_ast.specs.Tokens.{Piece, text_of, ArePieces, Outcome, outcome_of, LexedFrom, LexedText, Tokens, place_behind, start_of, token_at, module_start}
 
 -- two pieces at the front of one text are one
 no_longer : (text : List ℕ) (m n : ℕ) (a b : Shape) → IsPiece text m a → IsPiece text n b → m < n → ⊥

@@ -1,5 +1,5 @@
 -- How the tokens of TLA+ are spelled.
-use Rattle.std.specs.Prelude.{ℕ, Bool, if◌then◌else◌, List, [], ◌∷◌, Option, Some, None, nat_eq, codes}
+use Rattle.std.specs.Prelude.{ℕ, if◌then◌else◌, List, [], ◌∷◌, Option, Some, None, nat_eq, codes}
 use Rattle.std.specs.Cmp.Lexicographic.{pointwise}
 use Prim.Native.String.{String}
 use Rattle.tla_ast.specs.declared.token.Kind.{Kind}

@@ -1,17 +1,15 @@
 -- Strings and comments, at the front of a text.
-use Rattle.std.proofs.Common.{◌≡◌, ◌≢◌, ℕ, zero, suc, ◌+◌, ◌-◌, ◌<◌, ◌≤◌, ◌⊎◌, inl, inr, Bool, true, false, ◌||◌, ◌&&◌, cond, eqb, List, [], ◌∷◌, ◌++◌, length, get_or, take, drop, Option, Some, None, Result, Ok, Err, refl, sym, ap, subst, ◌∙◌, arith, append_assoc, length-append, length-drop, length-take}
+use Rattle.std.proofs.Common.{◌≡◌, ℕ, zero, suc, ◌+◌, ◌-◌, ◌<◌, ◌≤◌, ◌⊎◌, inl, inr, Bool, true, false, ◌||◌, ◌&&◌, cond, eqb, List, [], ◌∷◌, ◌++◌, length, get_or, take, drop, Option, Some, None, Result, Ok, Err, refl, sym, ap, subst, ◌∙◌, arith, append_assoc, length-append, length-drop}
 use Rattle.std.proofs.lemmas.Bool.Decides.{nat_tests}
-use Rattle.std.proofs.lemmas.List.{take_at, drop_at, take-append-drop}
+use Rattle.std.proofs.lemmas.List.{take_at}
 use Rattle.std.proofs.lemmas.Str.{IsUtf8-take, IsUtf8-drop, IsUtf8-append, IsUtf8-nil, IsUtf8-from_ascii, IsCharBoundary-before_ascii, IsCharBoundary-after_ascii}
 use Rattle.std.proofs.lemmas.Str.Ascii.{IsAscii-nil, IsAscii-cons}
 use Rattle.std.specs.Str.{IsUtf8}
 use Rattle.std.specs.Prelude.{nat_lt}
-use Rattle.std.specs.List.{prefix_len}
 use Rattle.tla_ast.specs.declared.piece.LexKind.{LexKind}
-use Rattle.tla_ast.specs.declared.piece.LexKind.TheVariants.{OpenString, BadCharacter, OpenComment}
-use Rattle.tla_ast.specs.declared.piece.Shape.{Shape}
+use Rattle.tla_ast.specs.declared.piece.LexKind.TheVariants.{OpenString, OpenComment}
 use Rattle.tla_ast.specs.declared.piece.Shape.TheVariants.{Blank, Bad}
-use Rattle.tla_ast.specs.Shapes.{IsPiece, shape_of, only_if, is_empty, Quoted, after_quote, escaped, with_character, with_byte, with_escape, closed, broken, content_shape, string_shape, opens_comment, closes_comment, after_comment, comment_shape}
+use Rattle.tla_ast.specs.Shapes.{IsPiece, shape_of, is_empty, Quoted, after_quote, escaped, with_character, with_byte, with_escape, closed, broken, content_shape, string_shape, opens_comment, after_comment, comment_shape}
 use Rattle.tla_lexer.proofs.Fronts.{made, no_run, first_of, rest_of, only_if_false, and_first, and_second}
 use Rattle.tla_lexer.proofs.Quotes.{goes_on}
 use Rattle.tla_lexer.specs.Lexer.{InUtf8}

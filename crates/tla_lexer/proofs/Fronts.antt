@@ -1,5 +1,5 @@
 -- Pieces that are one byte or a run, at the front of a text.
-use Rattle.std.proofs.Common.{◌≡◌, ◌≢◌, ℕ, zero, suc, ◌+◌, ◌-◌, ◌*◌, ◌^◌, ◌<◌, ◌≤◌, Bool, true, false, ◌||◌, ◌&&◌, cond, eqb, List, [], ◌∷◌, ◌++◌, length, get_or, take, drop, Option, Some, None, refl, sym, ap, subst, ◌∙◌, arith, zero-add, length-append, length-drop}
+use Rattle.std.proofs.Common.{◌≡◌, ℕ, zero, suc, ◌+◌, ◌-◌, ◌*◌, ◌^◌, ◌<◌, ◌≤◌, Bool, true, false, ◌||◌, ◌&&◌, cond, eqb, List, [], ◌∷◌, ◌++◌, length, get_or, take, drop, Option, Some, None, refl, sym, ap, subst, ◌∙◌, arith, zero-add, length-append}
 use Rattle.std.specs.List.{prefix_len}
 use Rattle.std.proofs.lemmas.Bool.Decides.{nat_tests}
 use Rattle.std.proofs.lemmas.List.{at_drop_more}
@@ -12,7 +12,7 @@ use Rattle.tla_ast.specs.declared.piece.LexKind.TheVariants.{NumberTooLarge}
 use Rattle.tla_ast.specs.declared.piece.Shape.{Shape}
 use Rattle.tla_ast.specs.declared.piece.Shape.TheVariants.{Blank, Spelled, Bad}
 use Rattle.tla_ast.specs.Spellings.{words, kind_in}
-use Rattle.tla_ast.specs.Shapes.{IsPiece, front_shape, shape_of, is_run, begins_letter, only_if, each, is_blank, is_digit, is_letter, is_word_start, is_word, is_dash, is_equal, in_line, number_from, number_shape, named_shape, word_shape, begins_fair, begins_four}
+use Rattle.tla_ast.specs.Shapes.{IsPiece, front_shape, shape_of, is_run, begins_letter, only_if, each, is_blank, is_digit, is_letter, is_word_start, is_word, is_dash, is_equal, number_from, number_shape, named_shape, word_shape, begins_fair, begins_four}
 
 -- what a choice of choices is
 pub first_of : {X : Type 0} (x : Bool) (a b : X) → x ≡ true → cond x a b ≡ a

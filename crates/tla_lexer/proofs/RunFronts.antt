@@ -1,5 +1,5 @@
 -- What a backslash begins, at the front of a text.
-use Rattle.std.proofs.Common.{◌≡◌, ◌≢◌, ℕ, zero, suc, ◌+◌, ◌-◌, ◌<◌, ◌≤◌, ◌⊎◌, inl, inr, Bool, true, false, ◌&&◌, cond, eqb, List, [], ◌∷◌, length, get_or, take, drop, Option, Some, None, refl, sym, ap, subst, ◌∙◌, arith, length-take}
+use Rattle.std.proofs.Common.{◌≡◌, ◌≢◌, ℕ, zero, suc, ◌+◌, ◌<◌, ◌≤◌, ◌⊎◌, inl, inr, Bool, true, false, ◌&&◌, cond, eqb, List, [], ◌∷◌, length, get_or, take, drop, Option, Some, None, refl, sym, ap, subst, ◌∙◌, arith}
 use Rattle.std.specs.List.{prefix_len}
 use Rattle.std.proofs.lemmas.Bool.Decides.{nat_tests}
 use Rattle.std.proofs.lemmas.List.Sums.{prefix_len-le-length}
@@ -10,9 +10,9 @@ use Rattle.tla_ast.specs.declared.piece.LexKind.TheVariants.{BadCharacter}
 use Rattle.tla_ast.specs.declared.piece.Shape.{Shape}
 use Rattle.tla_ast.specs.declared.piece.Shape.TheVariants.{Blank, Spelled, Bad}
 use Rattle.tla_ast.specs.Spellings.{runs, kind_in}
-use Rattle.tla_ast.specs.Shapes.{IsPiece, front_shape, shape_of, backslash_shape, run_shape, is_run, begins_letter, is_one_digit, each, is_digit, is_letter, is_base, in_line}
+use Rattle.tla_ast.specs.Shapes.{IsPiece, front_shape, shape_of, run_shape, is_run, begins_letter, is_one_digit, each, is_digit, is_letter, is_base, in_line}
 use Rattle.tla_lexer.specs.Lexer.{begins_base}
-use Rattle.tla_lexer.proofs.Fronts.{NoRun, made, no_run_sign, run_piece, front_is, first_of, rest_of, and_false, and_first, and_second, each_run, each_over}
+use Rattle.tla_lexer.proofs.Fronts.{NoRun, made, no_run_sign, run_piece, front_is, first_of, rest_of, and_false, and_second, each_run, each_over}
 
 abbrev alone : Shape
 alone = Spelled (kinds.Symbol symbol.Difference)

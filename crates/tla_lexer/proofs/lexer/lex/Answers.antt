@@ -1,6 +1,6 @@
-use Rattle.std.proofs.Common.{◌≡◌, ◌∙◌, ap, refl, take, true}
-use Rattle.tla_ast.specs.Tokens.{Tokens, LexedFrom, place_behind}
-use Rattle.tla_lexer.proofs.Steps.{answers_by, tokens_utf8, tokens_not_utf8, module_found, module_missing, utf8_split}
+use Rattle.std.proofs.Common.{◌∙◌, ap, refl, take, true}
+use Rattle.tla_ast.specs.Tokens.{Tokens, place_behind}
+use Rattle.tla_lexer.proofs.Steps.{answers_by, tokens_utf8, tokens_not_utf8, module_found, module_missing}
 use Rattle.tla_lexer.proofs.lexer.lex.Goals as goal
 
 pub returns-in-Err : goal.returns-in-Err

@@ -1,4 +1,4 @@
-use Rattle.std.proofs.Common.{◌<◌, ◌≤◌, length, arith}
+use Rattle.std.proofs.Common.{arith}
 use Rattle.tla_lexer.proofs.SignFronts.{above_start, sign_piece, no_sign_piece}
 use Rattle.tla_lexer.proofs.piece.sign.Goals as goal
 

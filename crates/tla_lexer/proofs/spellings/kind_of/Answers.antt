@@ -1,4 +1,4 @@
-use Rattle.std.proofs.Common.{◌<◌, ◌≤◌, ◌∙◌, sym, length, arith}
+use Rattle.std.proofs.Common.{◌<◌, ◌∙◌, sym, length, arith}
 use Rattle.tla_lexer.specs.Lexer.{table_of}
 use Rattle.tla_lexer.proofs.Tables.{few_entries, entry_within, entry_found, entry_passed, kind_in-past}
 use Rattle.tla_lexer.proofs.spellings.kind_of.Goals as goal

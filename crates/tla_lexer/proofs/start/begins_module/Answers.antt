@@ -1,4 +1,4 @@
-use Rattle.std.proofs.Common.{sym, ◌∙◌, false}
+use Rattle.std.proofs.Common.{sym, ◌∙◌}
 use Rattle.std.proofs.lemmas.List.{take_rest}
 use Rattle.tla_lexer.proofs.Starts.{heading_is}
 use Rattle.tla_lexer.proofs.start.begins_module.Goals as goal

@@ -1,4 +1,4 @@
-use Rattle.std.proofs.Common.{sym, ap, ◌∙◌, drop, length, length-drop, max, arith}
+use Rattle.std.proofs.Common.{sym, ap, ◌∙◌, length, length-drop, max, arith}
 use Rattle.std.specs.List.{prefix_len}
 use Rattle.std.proofs.lemmas.List.{take_rest}
 use Rattle.tla_ast.specs.Shapes.{is_dash}

@@ -1,5 +1,5 @@
-use Rattle.std.proofs.Common.{◌≡◌, ◌++◌, [], ◌∷◌, ◌∙◌, sym, ap, arith}
-use Rattle.tla_lexer.proofs.Quotes.{with_none, string_closes, string_breaks, string_cut, string_bad, string_escape, string_goes, string_past}
+use Rattle.std.proofs.Common.{◌∙◌, sym, arith}
+use Rattle.tla_lexer.proofs.Quotes.{string_closes, string_breaks, string_cut, string_bad, string_escape, string_goes, string_past}
 use Rattle.tla_lexer.proofs.strings.unquote.Goals as goal
 
 pub returns-then-b-eq34 : goal.returns-then-b-eq34
