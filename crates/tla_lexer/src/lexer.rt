@@ -110,8 +110,8 @@ pub fn lex(alloc: Global, file: u32, bytes: &[u8]) -> Result<Vec<Token>, LexFaul
     }
 }
 
-/// The tokens of a whole text, the last being `End`: it has no module's heading and none of the signs
-/// ends it.
+/// The tokens of a whole text, the last being `End`. There is no module's frame here: the word MODULE is
+/// foreign wherever it stands, and equals signs end nothing.
 pub fn lex_plain(alloc: Global, file: u32, bytes: &[u8]) -> Result<Vec<Token>, LexFault>
     requires { length bytes.now ≤ 2 ^ 28 }
     ensures { Lexes false file bytes.now result }
