@@ -2,3 +2,4 @@ pub mod Decided
 pub mod Nesting
 pub mod Unique
 pub mod Cuts
+pub mod LexedEnds

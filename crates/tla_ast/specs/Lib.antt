@@ -1,4 +1,5 @@
 pub mod Laid
+pub mod LexedEnds
 pub mod Nests
 pub mod Opens
 pub mod Spellings
