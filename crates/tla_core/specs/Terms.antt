@@ -1,5 +1,5 @@
 -- What a specification of several variables says of states: its terms, its initial predicate and its next-state action.
-use Rattle.std.specs.Prelude.{◌≡◌, ◌≢◌, ◌⊎◌, ◌==◌, ℕ, ◌<◌, ℤ, ◌+ℤ◌, ◌-ℤ◌, ◌<ℤ◌, Bool, false, length, All, AllPairs, Some, slice_get, slice_index_or, FitsSigned}
+use Rattle.std.specs.Prelude.{◌≡◌, ◌≢◌, ◌⊎◌, ◌==◌, ℕ, ◌<◌, ◌≤◌, ℤ, ◌+ℤ◌, ◌-ℤ◌, ◌<ℤ◌, Bool, false, length, All, AllPairs, Some, slice_get, slice_index_or, FitsSigned}
 use Rattle.std.specs.List.{count_by}
 use Rattle.std.specs.Int.{w64}
 use Rattle.tla_values.specs.Data.{integer}
@@ -123,9 +123,10 @@ binds x (Equal e f) = false
 binds x (Becomes y e) = y.0 == x
 binds x (Unchanged y) = y.0 == x
 
--- The specification is one of its variables: their names differ, each has its initial value, the conjuncts read and
--- bind no other, and for each variable exactly one conjunct says what becomes of it.
+-- The specification is one of its variables: there are at most 64, their names differ, each has its initial value, the
+-- conjuncts read and bind no other, and for each variable exactly one conjunct says what becomes of it.
 pub record IsSpec (spec : Spec) : Type 0 where
+  pub few : length spec.variables ≤ 64
   pub distinct : AllPairs (λ x y. x ≢ y) spec.variables
   pub init : IsState (length spec.variables) spec.init
   pub within : All (ConjunctWithin (length spec.variables)) spec.next
