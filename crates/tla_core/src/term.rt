@@ -5,7 +5,7 @@ use std::marker::Model;
 use trace_base::Place;
 
 /// A variable, by its number from 0 in the order of declaration.
-#[derive(Clone, Copy, Debug, Drop, PartialEq, Eq)]
+#[derive(Clone, Copy, Debug, Drop, PartialEq, Eq, PartialOrd, Ord)]
 pub struct VarId(pub u16);
 
 /// What an operand is: a variable, read in the state, or a number.

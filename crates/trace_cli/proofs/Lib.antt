@@ -6,4 +6,5 @@ pub mod JudgeLemmas
 pub mod LogLemmas
 pub mod ModuleLemmas
 pub mod NameLemmas
+pub mod NextLemmas
 pub mod SpellsLemmas

@@ -4,9 +4,11 @@
 mod answer_report;
 mod call;
 mod eval;
+mod fields;
 mod judge;
 mod log;
 mod module;
+mod next;
 mod report;
 mod seen;
 mod steps;
