@@ -9,6 +9,7 @@ mod judge;
 mod log;
 mod module;
 mod next;
+mod piece;
 mod report;
 mod seen;
 mod steps;
