@@ -15,3 +15,6 @@ mod steps;
 mod words;
 
 pub use call::{Status, run};
+
+#[cfg(test)]
+mod tests;
