@@ -1,11 +1,11 @@
 -- What a sum and a difference of two atoms are.
-use Rattle.std.proofs.Common.{◌≡◌, ℤ, ◌+ℤ◌, ◌-ℤ◌, Option, Some, None, Result, Ok, Err, refl, sym, subst}
+use Rattle.std.proofs.Common.{◌≡◌, ℤ, ◌+ℤ◌, ◌-ℤ◌, Option, Some, None, Result, refl, sym, subst}
 use Rattle.std.specs.Prelude.{FitsSigned}
 use Rattle.std.specs.Int.{w64}
 use Rattle.std.specs.Option.{SomeIff}
 use Rattle.trace_base.specs.declared.place.Place.{Place}
 use Rattle.tla_core.specs.States.{Values}
-use Rattle.tla_core.specs.Terms.{AtomIs, Operands, overflow}
+use Rattle.tla_core.specs.Terms.{AtomIs, Operands}
 use Rattle.tla_core.specs.declared.fault.Fault.{Fault}
 use Rattle.tla_core.specs.declared.term.Atom.{Atom}
 use Rattle.tla_core.specs.declared.term.Term.{Term}
@@ -29,10 +29,10 @@ pub added : (s : Values) (e : Term) (a b : Atom) (at : Place) (y z : ℤ) (o : O
     → r ≡ in_range o at → AtomIs s a y → AtomIs s b z → SomeIff o (FitsSigned w64 (y +ℤ z)) (y +ℤ z) → Evaluates s e (Some r)
 added s e a b at y z o r is gives p q range =
     subst (λ (t : Term). Evaluates s t (Some r)) (sym is)
-      (subst (λ (x : Result ℤ Fault). Evaluates s (Add a b at) (Some x)) (sym gives) (sum s a b at y z o p q range))
+    (subst (λ (x : Result ℤ Fault). Evaluates s (Add a b at) (Some x)) (sym gives) (sum s a b at y z o p q range))
 
 pub subtracted : (s : Values) (e : Term) (a b : Atom) (at : Place) (y z : ℤ) (o : Option ℤ) (r : Result ℤ Fault) → e ≡ Subtract a b at
     → r ≡ in_range o at → AtomIs s a y → AtomIs s b z → SomeIff o (FitsSigned w64 (y -ℤ z)) (y -ℤ z) → Evaluates s e (Some r)
 subtracted s e a b at y z o r is gives p q range =
     subst (λ (t : Term). Evaluates s t (Some r)) (sym is)
-      (subst (λ (x : Result ℤ Fault). Evaluates s (Subtract a b at) (Some x)) (sym gives) (difference s a b at y z o p q range))
+    (subst (λ (x : Result ℤ Fault). Evaluates s (Subtract a b at) (Some x)) (sym gives) (difference s a b at y z o p q range))

@@ -1,11 +1,10 @@
 -- The steps of a specification beside a log.
-use Rattle.std.proofs.Common.{◌≡◌, ◌≢◌, ◌<◌, ◌≤◌, ℕ, ℤ, ◌+ℤ◌, ◌-ℤ◌, List, [], ◌∷◌, length, Option, Some, None, Ok, arith, refl, sym, subst, ap, ◌∙◌, zero, suc, get_or}
+use Rattle.std.proofs.Common.{◌≡◌, ◌<◌, ℕ, ℤ, ◌+ℤ◌, ◌-ℤ◌, List, [], ◌∷◌, Some, None, Ok, arith, sym, subst, ◌∙◌, get_or}
 use Rattle.std.specs.Prelude.{FitsSigned, slice_get, Contains}
 use Rattle.std.specs.Int.{w64}
-use Rattle.tla_values.specs.Data.{integer}
 use Rattle.tla_core.specs.States.{Values}
 use Rattle.tla_core.specs.Sets.{IsList}
-use Rattle.tla_core.specs.Terms.{VariableIs, AtomIs, TermIs, TermFaults, Operands, NextHolds, NextFaults}
+use Rattle.tla_core.specs.Terms.{VariableIs, AtomIs, TermIs, TermFaults, Operands, NextHolds}
 use Rattle.tla_core.specs.declared.fault.Fault.{Fault}
 use Rattle.tla_core.specs.declared.spec.Spec.{Spec}
 use Rattle.tla_core.specs.declared.term.VarId.{VarId}
@@ -14,7 +13,7 @@ use Rattle.tla_core.specs.declared.term.Atom.TheVariants.{Variable, Number}
 use Rattle.tla_core.specs.declared.term.Term.{Term}
 use Rattle.tla_core.specs.declared.term.Term.TheVariants.{Atom as Single, Add, Subtract}
 use Rattle.trace_cli.specs.Evaluates.{GivesNext}
-use Rattle.trace_cli.specs.Form.{IsSeen, StepOf, SeenOf}
+use Rattle.trace_cli.specs.Form.{IsSeen, StepOf}
 use Rattle.trace_cli.specs.declared.log.Line.{Line}
 
 -- a variable and an atom are one integer
@@ -58,18 +57,18 @@ pub list_one : {A : Type 0} (P : A → Type 0) (x : A) → P x → ((y : A) → 
 list_one P x p only = record {
   are = record {
     distinct = λ i j d lt under. absurd (omega (arith, lt, under));
-    members = λ y h. subst P (in_one x y h) p
+    members = λ y h. subst P (in_one x y h) p;
   };
-  all = λ y q. (0, omega arith, sym (only y q))
+  all = λ y q. (0, omega arith, sym (only y q));
 }
 
 pub list_none : {A : Type 0} (P : A → Type 0) → ((y : A) → P y → ⊥) → IsList P []
 list_none P never = record {
   are = record {
     distinct = λ i j d lt under. absurd (omega (arith, lt, under));
-    members = λ y h. absurd (omega (arith, h.1))
+    members = λ y h. absurd (omega (arith, h.1));
   };
-  all = λ y q. absurd (never y q)
+  all = λ y q. absurd (never y q);
 }
 
 -- a line that leads to the only next state
@@ -83,11 +82,11 @@ pub step_unseen : (spec : Spec) (lines : List Line) (n : ℕ) (s t : Values) (li
     → GivesNext spec s (Ok (Some t)) → (IsSeen line t → ⊥) → IsList (StepOf spec lines n s) []
 step_unseen spec lines n s t line at gives unseen =
     list_none (StepOf spec lines n s) (λ u step.
-      let line_is : step.line ≡ line = some_same step.line line (sym step.is ∙ at) in
-      unseen (subst (λ (l : Line). IsSeen l t) line_is (subst (λ (v : Values). IsSeen step.line v) (gives.1 u step.next) step.seen)))
+    let line_is : step.line ≡ line = some_same step.line line (sym step.is ∙ at) in
+    unseen (subst (λ (l : Line). IsSeen l t) line_is (subst (λ (v : Values). IsSeen step.line v) (gives.1 u step.next) step.seen)))
   where
-  some_same : (a b : Line) → ◌≡◌ {A = _} (Some a) (Some b) → a ≡ b
-  some_same a b e = cc
+    some_same : (a b : Line) → ◌≡◌ {A = _} (Some a) (Some b) → a ≡ b
+    some_same a b e = cc
 
 -- no next state
 pub step_none : (spec : Spec) (lines : List Line) (n : ℕ) (s : Values) → GivesNext spec s (Ok None) → IsList (StepOf spec lines n s) []

@@ -1,11 +1,11 @@
 -- What an evaluation of a term, of a test and of a conjunct in a state answers.
-use Rattle.std.specs.Prelude.{◌≡◌, ◌↔◌, ◌⊎◌, ℕ, ◌<◌, ℤ, pos, Bool, true, false, IsTrue, List, length, map, Option, Some, None, Result, Ok, Err, slice_get, FitsSigned}
+use Rattle.std.specs.Prelude.{◌≡◌, ◌↔◌, ◌⊎◌, ℕ, ◌<◌, ℤ, pos, Bool, true, false, IsTrue, List, length, Option, Some, None, Result, Ok, Err, slice_get, FitsSigned}
 use Rattle.std.specs.Int.{w64}
 use Rattle.std.specs.List.{count_by}
 use Rattle.tla_values.specs.Data.{Val, integer}
 use Rattle.tla_core.specs.States.{Values}
 use Rattle.trace_base.specs.declared.place.Place.{Place}
-use Rattle.tla_core.specs.Terms.{VariableIs, AtomIs, TermIs, TermFaults, Sides, SidesFault, Holds, ConjunctFaults, NextHolds, NextFaults, binds, overflow}
+use Rattle.tla_core.specs.Terms.{VariableIs, AtomIs, TermIs, TermFaults, Holds, ConjunctFaults, NextHolds, NextFaults, binds, overflow}
 use Rattle.tla_core.specs.declared.fault.Fault.{Fault}
 use Rattle.tla_core.specs.declared.spec.Spec.{Spec}
 use Rattle.tla_core.specs.declared.term.VarId.{VarId}

@@ -57,5 +57,5 @@ first_form spec lines = record {
   assumes = 0;
   IsAssumed = λ i. Unit {0};
   FaultAssume = λ i f. ⊥;
-  IsFalse = λ i p. ⊥
+  IsFalse = λ i p. ⊥;
 }

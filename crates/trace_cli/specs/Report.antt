@@ -1,7 +1,6 @@
 -- The bytes of a report, by this project's profile: lines that end with a line feed; states as lines of compact JSON.
 use Rattle.std.specs.Prelude.{ℕ, ℤ, List, [], ◌∷◌, ◌++◌, Option, Some, None, option_and_then, slice_get, codes, decimal}
 use Rattle.std.specs.Fmt.{signed_decimal}
-use Rattle.trace_base.specs.declared.place.LineAt.{LineAt}
 use Rattle.trace_base.specs.declared.place.Place.{Place}
 use Rattle.tla_values.specs.Data.{int_of}
 use Rattle.tla_values.specs.declared.fault.EvalKind.{EvalKind}
@@ -92,7 +91,7 @@ layer_text after silent = codes " after=" ++ decimal after ++ codes " silent=" +
 -- the longest behaviour, of all lines
 abbrev pub explained_text : ℕ → List Field → List Shown → ℕ → List ℕ
 explained_text lines fs w widest =
-  codes "EXPLAINED lines=" ++ decimal lines ++ codes " widest=" ++ decimal widest ++ codes "\n" ++ states_text fs w
+    codes "EXPLAINED lines=" ++ decimal lines ++ codes " widest=" ++ decimal widest ++ codes "\n" ++ states_text fs w
 
 -- the line of the log that comes next
 abbrev pub next_text : List ℕ → ℕ → List ℕ
@@ -101,7 +100,7 @@ next_text log line = codes " next=" ++ log ++ codes ":" ++ decimal line ++ codes
 -- the longest behaviour, of some of the lines
 abbrev pub not_explained_text : List ℕ → List Field → ℕ → ℕ → ℕ → List Shown → List ℕ
 not_explained_text log fs prefix all line w =
-  codes "NOT EXPLAINED prefix=" ++ decimal prefix ++ codes " of=" ++ decimal all ++ next_text log line ++ states_text fs w
+    codes "NOT EXPLAINED prefix=" ++ decimal prefix ++ codes " of=" ++ decimal all ++ next_text log line ++ states_text fs w
 
 -- what went wrong in an evaluation, and where
 abbrev pub fault_text : List ℕ → EvalKind → Place → List ℕ
@@ -114,7 +113,7 @@ answer_text file log lines fs (NotExplained prefix all next w) = not_explained_t
 answer_text file log lines fs NoInitial = codes "NO INITIAL STATE\n"
 answer_text file log lines fs (InitFault kind at) = codes "FAULT " ++ fault_text file kind at ++ codes " in init\n"
 answer_text file log lines fs (Fault after silent s kind at) =
-  codes "FAULT " ++ fault_text file kind at ++ layer_text after silent ++ faulty_text fs s
+    codes "FAULT " ++ fault_text file kind at ++ layer_text after silent ++ faulty_text fs s
 answer_text file log lines fs (AssumeFault kind at) = codes "ASSUME FAULT " ++ fault_text file kind at ++ codes "\n"
 answer_text file log lines fs (AssumeFalse at) = codes "ASSUME FALSE at " ++ place_text file at ++ codes "\n"
 answer_text file log lines fs (LayerLimit after silent) = codes "LAYER LIMIT 10000" ++ layer_text after silent

@@ -77,32 +77,32 @@ pub record LogIs (words : List (List ℕ)) (holds : Option (List File)) (spec : 
 pub data Says (spec : Spec) (file log text : List ℕ) : Status → List ℕ → Type 0 where
   log_refused : (n : ℕ) → LogStops spec.variables (pieces_of text) n → Says spec file log text Reading (line_text log n)
   answered : (lines : List Line) (fields : List Field) (a : Answer) → LogSays spec.variables (pieces_of text) lines
-    → AreFields spec.variables fields → IsAnswer (first_form spec lines) a
-    → Says spec file log text (status_of a) (answer_text file log (length lines) fields a)
+      → AreFields spec.variables fields → IsAnswer (first_form spec lines) a
+      → Says spec file log text (status_of a) (answer_text file log (length lines) fields a)
 
 -- what the words and the files call for; the files' count of faults was before and is now
 pub data Calls (words : List (List ℕ)) (holds : Option (List File)) (before now : ℕ) : Status → List ℕ → Type 0 where
   words_refused : ((name file log : List ℕ) → ¬ AreWords words name file log)
-    → Calls words holds before now Words (codes "WORDS REFUSED\n")
+      → Calls words holds before now Words (codes "WORDS REFUSED\n")
   no_module : (name file log : List ℕ) → AreWords words name file log → Lacks file holds before now
-    → Calls words holds before now Reading (missing_text file)
+      → Calls words holds before now Reading (missing_text file)
   long_module : (name file log : List ℕ) → AreWords words name file log → IsLonger file holds module_limit
-    → Calls words holds before now Reading (too_long_text file)
+      → Calls words holds before now Reading (too_long_text file)
   module_refused : (name file log text : List ℕ) → ModuleIs words holds name file log text
-    → ((spec : Spec) → ¬ Spells name spec text) → Calls words holds before now Reading (module_text file)
+      → ((spec : Spec) → ¬ Spells name spec text) → Calls words holds before now Reading (module_text file)
   no_log : (name file log text : List ℕ) (spec : Spec) → ModuleIs words holds name file log text → Spells name spec text
-    → Lacks log holds before now → Calls words holds before now Reading (missing_text log)
+      → Lacks log holds before now → Calls words holds before now Reading (missing_text log)
   long_log : (name file log text : List ℕ) (spec : Spec) → ModuleIs words holds name file log text → Spells name spec text
-    → IsLonger log holds log_limit → Calls words holds before now Reading (too_long_text log)
+      → IsLonger log holds log_limit → Calls words holds before now Reading (too_long_text log)
   said : (spec : Spec) (file log text : List ℕ) (status : Status) (report : List ℕ) → LogIs words holds spec file log text
-    → Says spec file log text status report → Calls words holds before now status report
+      → Says spec file log text status report → Calls words holds before now status report
 
 -- the sink holds the whole report more
 abbrev pub HoldsReport : List (List ℕ) → Option (List File) → ℕ → ℕ → Status → Option (List ℕ) → Option (List ℕ) → Type 0
 HoldsReport words holds before now status old new =
-  (report : List ℕ) × Calls words holds before now status report × Appended old report new
+    (report : List ℕ) × Calls words holds before now status report × Appended old report new
 
 -- the sink holds nothing more, or the first bytes of a report that these words and files call for
 abbrev pub HoldsPart : List (List ℕ) → Option (List File) → ℕ → ℕ → Option (List ℕ) → Option (List ℕ) → Type 0
 HoldsPart words holds before now old new =
-  Appended old [] new ⊎ ((status : Status) × (report : List ℕ) × Calls words holds before now status report × AppendedPart old report new)
+    Appended old [] new ⊎ ((status : Status) × (report : List ℕ) × Calls words holds before now status report × AppendedPart old report new)

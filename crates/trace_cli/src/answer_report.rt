@@ -18,7 +18,11 @@ pub struct Labels<'a> {
 }
 
 /// The report of an answer.
-pub fn report_answer(alloc: Global, labels: Labels<'_>, answer: &Answer) -> Result<String, AllocError>
+pub fn report_answer(
+    alloc: Global,
+    labels: Labels<'_>,
+    answer: &Answer,
+) -> Result<String, AllocError>
     ensures { IfOk result (λ t. string_bytes t ≡ answer_text labels.entry.file.now labels.entry.log.now labels.entry.lines labels.entry.fields.now answer.now) }
 {
     match answer {
@@ -30,7 +34,14 @@ pub fn report_answer(alloc: Global, labels: Labels<'_>, answer: &Answer) -> Resu
             behaviour,
         } => not_explained(alloc, labels, *prefix, *of, after.line, behaviour),
         Answer::NoInitial => String::from_str(alloc, "NO INITIAL STATE\n"),
-        Answer::InitFault { kind, at } => faulted(alloc, "FAULT ", labels.file, *kind, *at, " in init\n"),
+        Answer::InitFault { kind, at } => faulted(
+            alloc,
+            "FAULT ",
+            labels.file,
+            *kind,
+            *at,
+            " in init\n",
+        ),
         Answer::Fault {
             after,
             silent,
@@ -43,14 +54,31 @@ pub fn report_answer(alloc: Global, labels: Labels<'_>, answer: &Answer) -> Resu
             push_faulty(&mut text, labels.fields, state)?;
             Ok(text)
         }
-        Answer::AssumeFault { kind, at } => faulted(alloc, "ASSUME FAULT ", labels.file, *kind, *at, "\n"),
+        Answer::AssumeFault { kind, at } => faulted(
+            alloc,
+            "ASSUME FAULT ",
+            labels.file,
+            *kind,
+            *at,
+            "\n",
+        ),
         Answer::AssumeFalse { at } => assumed_false(alloc, labels.file, *at),
         Answer::LayerLimit { after, silent } => limit(alloc, "LAYER LIMIT 10000", *after, *silent),
-        Answer::TotalLimit { after, silent } => limit(alloc, "TOTAL LIMIT 2000000", *after, *silent),
+        Answer::TotalLimit { after, silent } => limit(
+            alloc,
+            "TOTAL LIMIT 2000000",
+            *after,
+            *silent,
+        ),
     }
 }
 
-fn explained(alloc: Global, labels: Labels<'_>, behaviour: &Behaviour, widest: u32) -> Result<String, AllocError>
+fn explained(
+    alloc: Global,
+    labels: Labels<'_>,
+    behaviour: &Behaviour,
+    widest: u32,
+) -> Result<String, AllocError>
     ensures { IfOk result (λ t. string_bytes t ≡ explained_text labels.entry.lines labels.entry.fields.now behaviour.now widest) }
 {
     let lines = labels.lines;
@@ -59,7 +87,14 @@ fn explained(alloc: Global, labels: Labels<'_>, behaviour: &Behaviour, widest: u
     Ok(text)
 }
 
-fn not_explained(alloc: Global, labels: Labels<'_>, prefix: u32, of: u32, line: u32, behaviour: &Behaviour) -> Result<String, AllocError>
+fn not_explained(
+    alloc: Global,
+    labels: Labels<'_>,
+    prefix: u32,
+    of: u32,
+    line: u32,
+    behaviour: &Behaviour,
+) -> Result<String, AllocError>
     ensures { IfOk result (λ t. string_bytes t ≡ not_explained_text labels.entry.log.now labels.entry.fields.now prefix of line behaviour.now) }
 {
     let mut text = format!(in alloc; "NOT EXPLAINED prefix={prefix} of={of}")?;
@@ -76,7 +111,14 @@ fn push_next(text: &mut String, log: &str, line: u32) -> Result<(), AllocError>
     write!(text, ":{line}\n")
 }
 
-fn faulted(alloc: Global, front: &str, file: &str, kind: EvalKind, at: Place, back: &str) -> Result<String, AllocError>
+fn faulted(
+    alloc: Global,
+    front: &str,
+    file: &str,
+    kind: EvalKind,
+    at: Place,
+    back: &str,
+) -> Result<String, AllocError>
     ensures { IfOk result (λ t. string_bytes t ≡ front.now ++ fault_text file.now kind at ++ back.now) }
 {
     let mut text = String::from_str(alloc, front)?;

@@ -26,6 +26,7 @@ use tla_core::Spec;
 use trace_base::{Files, ReadFault, read_file};
 
 const MODULE_LIMIT: usize = 1_048_576;
+
 const LOG_LIMIT: usize = 67_108_864;
 
 /// A report, and the status that goes with it.
@@ -76,7 +77,12 @@ fn refuse_words(alloc: Global) -> Result<Judged, Stop>
 }
 
 /// Reads the module's file.
-fn judge_job<F: Files>(alloc: Global, words: &[String], job: Job<'_>, files: &mut F) -> Result<Judged, Stop>
+fn judge_job<F: Files>(
+    alloc: Global,
+    words: &[String],
+    job: Job<'_>,
+    files: &mut F,
+) -> Result<Judged, Stop>
     requires { AreWords (words_of words.now) job.name.now job.module.now job.log.now }
     ensures calls { IfOk result (λ j. Calls (words_of words.now) (F.holds files.old) (F.faults files.old) (F.faults files.new)
         j.status (string_bytes j.report)) }
@@ -91,7 +97,13 @@ fn judge_job<F: Files>(alloc: Global, words: &[String], job: Job<'_>, files: &mu
 }
 
 /// Reads the module's text.
-fn judge_module<F: Files>(alloc: Global, words: &[String], job: Job<'_>, text: &[u8], files: &mut F) -> Result<Judged, Stop>
+fn judge_module<F: Files>(
+    alloc: Global,
+    words: &[String],
+    job: Job<'_>,
+    text: &[u8],
+    files: &mut F,
+) -> Result<Judged, Stop>
     requires { ModuleIs (words_of words.now) (F.holds files.old) job.name.now job.module.now job.log.now text.now }
     ensures calls { IfOk result (λ j. Calls (words_of words.now) (F.holds files.old) (F.faults files.old) (F.faults files.new)
         j.status (string_bytes j.report)) }
@@ -117,7 +129,14 @@ fn refuse_module(alloc: Global, file: &str) -> Result<Judged, Stop>
 }
 
 /// Reads the log's file.
-fn judge_spec<F: Files>(alloc: Global, words: &[String], job: Job<'_>, text: &[u8], spec: &Spec, files: &mut F) -> Result<Judged, Stop>
+fn judge_spec<F: Files>(
+    alloc: Global,
+    words: &[String],
+    job: Job<'_>,
+    text: &[u8],
+    spec: &Spec,
+    files: &mut F,
+) -> Result<Judged, Stop>
     requires module_is { ModuleIs (words_of words.now) (F.holds files.old) job.name.now job.module.now job.log.now text.now }
     requires spells { Spells job.name.now spec.now text.now }
     requires sound { IsSpec spec.now }
@@ -134,7 +153,13 @@ fn judge_spec<F: Files>(alloc: Global, words: &[String], job: Job<'_>, text: &[u
 }
 
 /// Reads the log's lines.
-fn judge_log(alloc: Global, spec: &Spec, file: &str, log: &str, text: Vec<u8>) -> Result<Judged, Stop>
+fn judge_log(
+    alloc: Global,
+    spec: &Spec,
+    file: &str,
+    log: &str,
+    text: Vec<u8>,
+) -> Result<Judged, Stop>
     requires sound { IsSpec spec.now }
     requires short { length text.items ≤ 67108864 }
     ensures says { IfOk result (λ j. Says spec.now file.now log.now text.items j.status (string_bytes j.report)) }
@@ -172,7 +197,13 @@ fn refuse_line(alloc: Global, log: &str, line: u32) -> Result<Judged, Stop>
 }
 
 /// Searches the layers of states for an answer.
-fn judge_lines(alloc: Global, spec: &Spec, file: &str, log: &str, lines: &[Line]) -> Result<Judged, Stop>
+fn judge_lines(
+    alloc: Global,
+    spec: &Spec,
+    file: &str,
+    log: &str,
+    lines: &[Line],
+) -> Result<Judged, Stop>
     requires sound { IsSpec spec.now }
     requires few { length lines.now ≤ 200000 }
     ensures answer { IfOk result (λ j. (fields : List Field) × (a : Answer) × AreFields spec.now.variables fields
@@ -202,7 +233,10 @@ fn status_of(answer: &Answer) -> Status
     match answer {
         Answer::Explained { .. } => Status::Done,
         Answer::NotExplained { .. } | Answer::NoInitial => Status::Not,
-        Answer::InitFault { .. } | Answer::Fault { .. } | Answer::AssumeFault { .. } | Answer::AssumeFalse { .. } => Status::Evaluation,
+        Answer::InitFault { .. }
+        | Answer::Fault { .. }
+        | Answer::AssumeFault { .. }
+        | Answer::AssumeFalse { .. } => Status::Evaluation,
         Answer::LayerLimit { .. } | Answer::TotalLimit { .. } => Status::Limit,
     }
 }

@@ -16,3 +16,6 @@ mod steps;
 mod words;
 
 pub use call::{Status, run};
+
+#[cfg(test)]
+mod tests;

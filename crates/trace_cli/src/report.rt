@@ -8,7 +8,11 @@ use tla_core::{Behaviour, EvalKind, Mark, Shown, State, VarId};
 use trace_base::{LineAt, Place};
 
 /// Adds the lines of states.
-pub fn push_states(text: &mut String, fields: &[Field], behaviour: &Behaviour) -> Result<(), AllocError>
+pub fn push_states(
+    text: &mut String,
+    fields: &[Field],
+    behaviour: &Behaviour,
+) -> Result<(), AllocError>
     ensures { OnOk result (string_bytes text.new ≡ string_bytes text.old ++ states_text fields.now behaviour.now) }
 {
     for shown in behaviour.items() {

@@ -65,7 +65,13 @@ impl<'a> Steps for Form<'a> {
         Ok(only(alloc, self.spec.init.copy(alloc)?)?)
     }
 
-    fn successors(&self, alloc: Global, line: u32, state: &State, _bound: u32) -> Result<StateList, StepFault> {
+    fn successors(
+        &self,
+        alloc: Global,
+        line: u32,
+        state: &State,
+        _bound: u32,
+    ) -> Result<StateList, StepFault> {
         match next_state(alloc, self.spec, state)? {
             Some(next) => {
                 if !is_seen(&self.lines[line as usize], &next) {
@@ -85,8 +91,8 @@ impl<'a> Steps for Form<'a> {
     }
 
     ghost plain = { λ form. record {
-        state = λ s. refl;
-        line = λ n s t u v. refl;
-        expected = λ n s t u. refl
+      state = λ s. refl;
+      line = λ n s t u v. refl;
+      expected = λ n s t u. refl;
     } };
 }

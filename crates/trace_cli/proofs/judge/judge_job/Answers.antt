@@ -1,4 +1,4 @@
-use Rattle.std.proofs.Common.{◌≡◌, ◌≤◌, ap, Err, length, arith}
+use Rattle.std.proofs.Common.{ap, Err}
 use Rattle.trace_cli.specs.Run.{no_module, long_module}
 use Rattle.trace_cli.proofs.JudgeLemmas.{calls_refused, calls_earlier}
 use Rattle.trace_cli.proofs.judge.judge_job.Goals as goal
@@ -10,4 +10,4 @@ returns-in-Ok-clause-calls g c =
 pub returns-in-Err-clause-calls : goal.returns-in-Err-clause-calls
 returns-in-Err-clause-calls g c =
     calls_refused _ _ _ _ c.refuse_file.result c.in-Err.fault _ c.refuse_file.ensures.status c.refuse_file.ensures.report
-      (λ e. no_module _ _ _ c.requires (c.in-Err.ensures.missing (ap Err e))) (λ e. long_module _ _ _ c.requires (c.in-Err.ensures.too_long (ap Err e)))
+    (λ e. no_module _ _ _ c.requires (c.in-Err.ensures.missing (ap Err e))) (λ e. long_module _ _ _ c.requires (c.in-Err.ensures.too_long (ap Err e)))

@@ -9,4 +9,4 @@ returns-in-Some-Ok-evaluate c =
     let left : FitsSigned w64 a = search rules in
     let right : FitsSigned w64 b = search rules in
     less_tests c.args.state.now c.args.left c.args.right a b left right (rw c.in-Some-Ok.field-0-is at c.in-Some-Ok.ensures)
-      (rw c.in-Some-Ok-evaluate.field-0-is at c.in-Some-Ok-evaluate.ensures)
+    (rw c.in-Some-Ok-evaluate.field-0-is at c.in-Some-Ok-evaluate.ensures)

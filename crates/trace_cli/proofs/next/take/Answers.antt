@@ -1,4 +1,4 @@
-use Rattle.std.proofs.Common.{rules, FitsSigned, w64, subst, sym, Ok, List, Option, ℤ}
+use Rattle.std.proofs.Common.{rules, FitsSigned, w64, subst, sym, Ok}
 use Rattle.std.proofs.lemmas.Int.{to_z-of_z}
 use Rattle.tla_core.specs.declared.term.Conjunct.{Conjunct}
 use Rattle.trace_cli.specs.Evaluates.{Turns}
@@ -20,4 +20,4 @@ returns-in-Some-Ok-clause-turns c =
     let filled = rw (to_z-of_z w64 z fits) at c.fill.ensures.filled in
     let other = rw (to_z-of_z w64 z fits) at c.fill.ensures.other in
     subst (λ (d : Conjunct). Turns c.args.state.now d c.args.next.now c.fill.new.next (Ok c.fill.result)) (sym c.in-Becomes.is)
-      (becomes_turns c.args.state.now c.in-Becomes.variable c.in-Becomes.term z c.args.next.now c.fill.new.next c.fill.result (rw c.in-Some-Ok.field-0-is at c.in-Some-Ok.ensures) filled other)
+    (becomes_turns c.args.state.now c.in-Becomes.variable c.in-Becomes.term z c.args.next.now c.fill.new.next c.fill.result (rw c.in-Some-Ok.field-0-is at c.in-Some-Ok.ensures) filled other)

@@ -1,4 +1,3 @@
-use Rattle.std.proofs.Common.{◌≡◌}
 use Rattle.trace_cli.proofs.FormLemmas.{silent_one, silent_none}
 use Rattle.trace_cli.proofs.steps.FormSteps.silent.Goals as goal
 
