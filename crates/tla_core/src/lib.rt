@@ -9,7 +9,7 @@ mod term;
 pub use fault::Fault;
 pub use spec::Spec;
 pub use state::{Behaviour, Mark, Shown, State, StateList};
-pub use term::{Atom, Term};
+pub use term::{Atom, Conjunct, Conjuncts, Term, VarId};
 pub use tla_values::EvalKind;
 
 #[cfg(test)]

@@ -1,10 +1,12 @@
-use crate::term::Term;
-use trace_base::Text;
+use crate::state::State;
+use crate::term::Conjuncts;
+use trace_base::Names;
 
-/// A specification of one variable: its initial value, and the term that its next value equals.
+/// A specification of variables that are integers: their names in order of declaration, the one initial state, and the
+/// conjuncts of the next-state action.
 #[derive(Drop)]
 pub struct Spec {
-    pub variable: Text,
-    pub init: i64,
-    pub next: Term,
+    pub variables: Names,
+    pub init: State,
+    pub next: Conjuncts,
 }

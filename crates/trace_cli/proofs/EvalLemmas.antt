@@ -1,11 +1,11 @@
 -- What a sum and a difference of two atoms are.
-use Rattle.std.proofs.Common.{◌≡◌, ℤ, ◌+ℤ◌, ◌-ℤ◌, Option, Some, None, Result, Ok, Err, refl, sym, subst}
+use Rattle.std.proofs.Common.{◌≡◌, ℤ, ◌+ℤ◌, ◌-ℤ◌, Option, Some, None, Result, refl, sym, subst}
 use Rattle.std.specs.Prelude.{FitsSigned}
 use Rattle.std.specs.Int.{w64}
 use Rattle.std.specs.Option.{SomeIff}
 use Rattle.trace_base.specs.declared.place.Place.{Place}
 use Rattle.tla_core.specs.States.{Values}
-use Rattle.tla_core.specs.Terms.{AtomIs, Operands, overflow}
+use Rattle.tla_core.specs.Terms.{AtomIs, Operands}
 use Rattle.tla_core.specs.declared.fault.Fault.{Fault}
 use Rattle.tla_core.specs.declared.term.Atom.{Atom}
 use Rattle.tla_core.specs.declared.term.Term.{Term}

@@ -1,13 +1,14 @@
 -- From what each stage ensures to what the words and the files call for.
-use Rattle.std.proofs.Common.{◌≡◌, ◌≤◌, ◌<◌, ◌+◌, ◌^◌, ℕ, List, length, Option, Some, None, Result, Ok, Err, IfOk, string_bytes, arith, refl, ◌++◌, codes}
-use Rattle.std.specs.Prelude.{decimal}
+use Rattle.std.proofs.Common.{◌≡◌, ◌≤◌, ℕ, List, length, Option, Some, None, Result, Ok, Err, IfOk, string_bytes, arith, refl}
 use Rattle.trace_cli.specs.declared.log.Line.{Line}
 use Rattle.state_layers.specs.declared.answer.Answer.{Answer}
 use Rattle.trace_cli.specs.Log.{LogSays, LogStops, pieces_of}
 use Rattle.trace_cli.specs.Form.{first_form}
+use Rattle.trace_cli.specs.Fields.{AreFields}
+use Rattle.trace_cli.specs.declared.fields.Field.{Field}
 use Rattle.state_layers.specs.Answers.{IsAnswer}
 use Rattle.trace_cli.specs.Report.{answer_text}
-use Rattle.trace_base.specs.Device.{File, Rose, Lacks, IsWhole, IsLonger}
+use Rattle.trace_base.specs.Device.{File, Rose, Lacks}
 use Rattle.trace_base.specs.declared.reading.ReadFault.{ReadFault}
 use Rattle.trace_base.specs.declared.reading.ReadFault.TheVariants.{Missing, Failed, TooLong, NoMemory}
 use Rattle.tla_core.specs.declared.spec.Spec.{Spec}
@@ -16,7 +17,7 @@ use Rattle.trace_cli.specs.declared.judge.Stop.{Stop}
 use Rattle.trace_cli.specs.declared.call.Status.{Status}
 use Rattle.trace_cli.specs.declared.call.Status.TheVariants.{Reading, Device}
 use Rattle.state_layers.specs.declared.answer.Answer.TheVariants.{Explained, NotExplained, NoInitial, InitFault, Fault, AssumeFault, AssumeFalse, LayerLimit, TotalLimit}
-use Rattle.trace_cli.specs.Run.{Calls, words_refused, no_module, long_module, module_refused, no_log, long_log, said, Says, LogIs, RefusesFile, missing_text, too_long_text, module_text, line_text, status_of, log_refused, answered}
+use Rattle.trace_cli.specs.Run.{Calls, words_refused, no_module, long_module, module_refused, no_log, long_log, said, Says, LogIs, RefusesFile, missing_text, too_long_text, line_text, status_of, log_refused, answered}
 
 pub calls_as : (words : List (List ℕ)) (holds : Option (List File)) (b n : ℕ) (r : Result Judged Stop) (st : Status) (rep : List ℕ)
     → IfOk r (λ j. j.status ≡ st) → IfOk r (λ j. string_bytes j.report ≡ rep) → Calls words holds b n st rep
@@ -65,14 +66,14 @@ pub calls_earlier : (words : List (List ℕ)) (holds now_holds : Option (List Fi
 calls_earlier words holds now_holds a b n (Ok j) le same calls = earlier words holds a b n j.status (string_bytes j.report) le (rw same at calls)
 calls_earlier words holds now_holds a b n (Err x) le same calls = tt
 
-pub says_answered : (r : Result Judged Stop) (spec : Spec) (file log text : List ℕ) (lines : List Line) → LogSays spec.variable (pieces_of text) lines
-    → IfOk r (λ j. (a : Answer) × IsAnswer (first_form spec lines) a × (j.status ≡ status_of a)
-    × (string_bytes j.report ≡ answer_text file log (length lines) spec.variable a))
+pub says_answered : (r : Result Judged Stop) (spec : Spec) (file log text : List ℕ) (lines : List Line) → LogSays spec.variables (pieces_of text) lines
+    → IfOk r (λ j. (fields : List Field) × (a : Answer) × AreFields spec.variables fields × IsAnswer (first_form spec lines) a
+    × (j.status ≡ status_of a) × (string_bytes j.report ≡ answer_text file log (length lines) fields a))
     → IfOk r (λ j. Says spec file log text j.status (string_bytes j.report))
-says_answered (Ok j) spec file log text lines says a = rw (a.2, a.3) (answered lines a.0 says a.1)
+says_answered (Ok j) spec file log text lines says a = rw (a.4, a.5) (answered lines a.0 a.1 says a.2 a.3)
 says_answered (Err x) spec file log text lines says a = tt
 
-pub says_refused : (r : Result Judged Stop) (spec : Spec) (file log text : List ℕ) (n : ℕ) → LogStops spec.variable (pieces_of text) n
+pub says_refused : (r : Result Judged Stop) (spec : Spec) (file log text : List ℕ) (n : ℕ) → LogStops spec.variables (pieces_of text) n
     → IfOk r (λ j. j.status ≡ Reading) → IfOk r (λ j. string_bytes j.report ≡ line_text log n)
     → IfOk r (λ j. Says spec file log text j.status (string_bytes j.report))
 says_refused (Ok j) spec file log text n stops s e = rw (s, e) (log_refused n stops)
@@ -92,7 +93,7 @@ status_no_device (TotalLimit after silent) e = cc
 
 says_no_device : (spec : Spec) (file log text : List ℕ) (st : Status) (rep : List ℕ) → Says spec file log text st rep → st ≡ Device → ⊥
 says_no_device spec file log text st rep (log_refused m stops) e = cc
-says_no_device spec file log text st rep (answered lines a says is) e = status_no_device a e
+says_no_device spec file log text st rep (answered lines fields a says sorted is) e = status_no_device a e
 
 pub calls_no_device : (words : List (List ℕ)) (holds : Option (List File)) (b n : ℕ) (st : Status) (rep : List ℕ)
     → Calls words holds b n st rep → st ≡ Device → ⊥

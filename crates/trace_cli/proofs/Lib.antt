@@ -3,7 +3,9 @@ pub mod FormLemmas
 pub mod Fronts
 pub mod JsonLemmas
 pub mod JudgeLemmas
+pub mod Lists
 pub mod LogLemmas
 pub mod ModuleLemmas
 pub mod NameLemmas
-pub mod SpellsLemmas
+pub mod NextLemmas
+pub mod Pieces

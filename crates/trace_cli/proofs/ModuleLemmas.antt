@@ -1,113 +1,331 @@
--- The parts of six lines are the only ones.
-use Rattle.std.proofs.Common.{◌≡◌, ◌≢◌, ◌⊎◌, inl, inr, ◌∙◌, sym, ap, refl, ℕ, ◌+◌, ◌-◌, ◌*◌, ◌<◌, ◌≤◌, ◌==◌, not, Bool, true, List, [], ◌∷◌, ◌++◌, length, get_or, take, drop, arith}
-use Rattle.std.specs.Prelude.{codes}
-use Rattle.std.specs.List.{fold, list_all, prefix_len}
-use Rattle.std.proofs.lemmas.List.Sums.{fold-append, fold_more}
-use Rattle.trace_cli.specs.Module.{value_of}
-use Rattle.std.proofs.lemmas.List.{take-append-drop}
-use Rattle.trace_cli.specs.Lines.{AreLines}
-use Rattle.trace_cli.specs.Names.{is_digit, is_name_byte}
-use Rattle.trace_cli.proofs.Fronts.{same_behind, run_is, run_passes}
+-- The lines of a module, and that what they mean is a specification.
+use Rattle.std.proofs.Common.{◌≡◌, ◌≢◌, ◌⊎◌, inl, inr, ◌∙◌, sym, ap, subst, refl, ℕ, ◌+◌, ◌<◌, ◌≤◌, ◌==◌, suc, zero, true, List, [], ◌∷◌, ◌++◌, length, get_or, Some, ℤ, SFits, w64, arith}
+use Rattle.std.specs.Prelude.{AllPairs, IsUtf8, codes, slice_get, slice_index}
+use Rattle.std.specs.List.{count_by}
+use Rattle.std.specs.Str.{IsAscii}
+use Rattle.std.proofs.lemmas.Bool.{cases_eq, cases_lt}
+use Rattle.std.proofs.lemmas.Bool.Decides.{nat_tests}
+use Rattle.std.proofs.lemmas.List.{append_cancel_left, append-nil, length-append, get_or_past}
+use Rattle.std.proofs.lemmas.Option.{slice_get_within, get_or_from_slice_get}
+use Rattle.std.proofs.lemmas.Str.{IsUtf8-from_ascii}
+use Rattle.tla_values.specs.Data.{Val, integer}
+use Rattle.tla_core.specs.Terms.{AtomWithin, ConjunctWithin, IsSpec, TermWithin}
+use Rattle.tla_core.specs.declared.spec.Spec.{Spec}
+use Rattle.tla_core.specs.declared.term.Atom.{Atom}
+use Rattle.tla_core.specs.declared.term.Atom.TheVariants.{Variable, Number}
+use Rattle.tla_core.specs.declared.term.Term.{Term}
+use Rattle.tla_core.specs.declared.term.Term.TheVariants.{Atom as Single, Add, Subtract}
+use Rattle.tla_core.specs.declared.term.Conjunct.{Conjunct}
+use Rattle.tla_core.specs.declared.term.Conjunct.TheVariants.{Less, Equal, Becomes, Unchanged}
+use Rattle.trace_cli.specs.Lines.{AreLines, AreVariables, Cuts, IsOnly, lacks}
+use Rattle.trace_cli.specs.Module.{IsAtom, IsConjunct, IsDeclaration, IsDeclared, IsInit, IsNext, IsSetting, IsTerm, IsVariable, Listed, Spells}
+use Rattle.trace_cli.specs.Names.{is_name, is_name_byte}
+use Rattle.trace_cli.proofs.Fronts.{cut_unique, lacks_append, same_behind}
+use Rattle.trace_cli.proofs.Lists.{list_each, list_lacks}
+use Rattle.trace_cli.proofs.NameLemmas.{name_at}
+use Rattle.trace_cli.proofs.Pieces.{LacksSigns, conjunct_lacks, name_lacks, number_fits, setting_lacks}
 
-abbrev pub head : List ℕ → List ℕ → List ℕ
-head name s = codes "---- MODULE " ++ (name ++ (codes " ----\nEXTENDS Integers\nVARIABLE " ++ s))
-
-abbrev pub init_line : List ℕ → List ℕ → List ℕ
-init_line x s = codes "\nInit == " ++ (x ++ (codes " = " ++ s))
-
-abbrev pub next_line : List ℕ → List ℕ → List ℕ
-next_line x s = codes "\nNext == " ++ (x ++ (codes "' = " ++ s))
-
--- the variable, and what stands behind it, of whatever lines the text is
-abbrev pub Variable : List ℕ → List ℕ → List ℕ → List ℕ → Type 0
-Variable name text x r = (y i w : List ℕ) (m : AreLines name y i w text) → (x ≡ y) × (r ≡ init_line y (i ++ next_line y (w ++ m.end)))
-
-abbrev pub Initial : List ℕ → List ℕ → List ℕ → List ℕ → List ℕ → Type 0
-Initial name text x i r = (y j w : List ℕ) (m : AreLines name y j w text) → (x ≡ y) × (i ≡ j) × (r ≡ next_line y (w ++ m.end))
-
-abbrev pub Whole : List ℕ → List ℕ → List ℕ → List ℕ → List ℕ → List ℕ → Type 0
-Whole name text x i w r = (y j v : List ℕ) (m : AreLines name y j v text) → (x ≡ y) × (i ≡ j) × (w ≡ v) × (r ≡ m.end)
-
-pub variable_of : (name text r : List ℕ) → text ≡ head name r
-    → (n : ℕ) (x s : List ℕ) → n ≡ prefix_len is_name_byte r → x ≡ take n r → s ≡ drop n r → Variable name text x s
-variable_of name text r e n x s len front back y i w m =
-    let rest = same_behind (codes "---- MODULE ") name (codes " ----\nEXTENDS Integers\nVARIABLE ") r
-    (y ++ init_line y (i ++ next_line y (w ++ m.end))) (sym e ∙ m.lines) in
-    run_is is_name_byte refl r y _ rest m.name_bytes n x s len front back
-
-pub initial_of : (name text x b r : List ℕ) → Variable name text x b → b ≡ init_line x r
-    → (n : ℕ) (i s : List ℕ) → n ≡ prefix_len is_digit r → i ≡ take n r → s ≡ drop n r → Initial name text x i s
-initial_of name text x b r known e n i s len front back y j w m =
-    let k = known y j w m in
-    let rest = same_behind (codes "\nInit == ") y (codes " = ") r (j ++ next_line y (w ++ m.end))
-    (ap (λ (z : List ℕ). init_line z r) (sym k.0) ∙ sym e ∙ k.1) in
-    let run = run_is is_digit refl r j _ rest m.digits n i s len front back in
-    (k.0, run.0, run.1)
-
-end_begins : (end : List ℕ) → (end ≡ codes "\n====") ⊎ (end ≡ codes "\n====\n") → (bs : List ℕ) × (end ≡ 10 ∷ bs)
-end_begins end (inl e) = (codes "====", e)
-end_begins end (inr e) = (codes "====\n", e)
-
-pub whole_of : (name text x i b r : List ℕ) → Initial name text x i b → b ≡ next_line x r
-    → (n : ℕ) (w s : List ℕ) → n ≡ prefix_len (λ c. not (c == 10)) r → w ≡ take n r → s ≡ drop n r → Whole name text x i w s
-whole_of name text x i b r known e n w s len front back y j v m =
-    let k = known y j v m in
-    let rest = same_behind (codes "\nNext == ") y (codes "' = ") r (v ++ m.end)
-    (ap (λ (z : List ℕ). next_line z r) (sym k.0) ∙ sym e ∙ k.2) in
-    let end = end_begins m.end m.end_is in
-    let run = run_is (λ c. not (c == 10)) refl r v end.0 (rest ∙ ap (λ (t : List ℕ). v ++ t) end.1) m.one_line n w s len front back in
-    (k.0, k.1, run.0, run.1 ∙ sym end.1)
-
--- none where a step fails
-pub no_head : (name text : List ℕ) → ((r : List ℕ) → text ≢ head name r) → (y j v : List ℕ) → AreLines name y j v text → ⊥
-no_head name text missing y j v m = missing _ m.lines
-
-pub no_init : (name text x b : List ℕ) → Variable name text x b → ((r : List ℕ) → b ≢ init_line x r) → (y j v : List ℕ) → AreLines name y j v text → ⊥
-no_init name text x b known missing y j v m =
-    let k = known y j v m in
-    missing (j ++ next_line y (v ++ m.end)) (k.1 ∙ ap (λ (z : List ℕ). init_line z (j ++ next_line y (v ++ m.end))) (sym k.0))
-
-pub no_next : (name text x i b : List ℕ) → Initial name text x i b → ((r : List ℕ) → b ≢ next_line x r) → (y j v : List ℕ) → AreLines name y j v text → ⊥
-no_next name text x i b known missing y j v m =
-    let k = known y j v m in
-    missing (v ++ m.end) (k.2 ∙ ap (λ (z : List ℕ). next_line z (v ++ m.end)) (sym k.0))
-
-pub no_end : (name text x i w r : List ℕ) → Whole name text x i w r → (((r ≡ codes "\n====") ⊎ (r ≡ codes "\n====\n")) → ⊥)
-    → (y j v : List ℕ) → AreLines name y j v text → ⊥
-no_end name text x i w r known missing y j v m =
-    let k = known y j v m in
-    elim m.end_is [ inl e ↦ missing (inl (k.3 ∙ e)) | inr e ↦ missing (inr (k.3 ∙ e)) ]
-
-joined : (n : ℕ) (r x b : List ℕ) → x ≡ take n r → b ≡ drop n r → r ≡ x ++ b
-joined n r x b front back = rw (front, back) (sym (take-append-drop n r))
-
-passes : (p : ℕ → Bool) (r : List ℕ) (n : ℕ) (x : List ℕ) → n ≡ prefix_len p r → x ≡ take n r → list_all p x ≡ true
-passes p r n x len front = ap (list_all p) (front ∙ ap (λ (k : ℕ). take k r) len) ∙ run_passes p r
-
-pub lines_of : (name text x b i d w end r s t : List ℕ) → text ≡ head name r → (n : ℕ) → n ≡ prefix_len is_name_byte r → x ≡ take n r → b ≡ drop n r
-    → b ≡ init_line x s → (k : ℕ) → k ≡ prefix_len is_digit s → i ≡ take k s → d ≡ drop k s
-    → d ≡ next_line x t → (l : ℕ) → l ≡ prefix_len (λ c. not (c == 10)) t → w ≡ take l t → end ≡ drop l t
-    → (end ≡ codes "\n====") ⊎ (end ≡ codes "\n====\n") → AreLines name x i w text
-lines_of name text x b i d w end r s t heading n nlen nfront nback init k klen kfront kback next l llen lfront lback last = record {
-  name_bytes = passes is_name_byte r n x nlen nfront;
-  digits = passes is_digit s k i klen kfront;
-  one_line = passes (λ c. not (c == 10)) t l w llen lfront;
-  end = end;
-  end_is = last;
-  lines = heading ∙ ap (head name) (joined n r x b nfront nback
-      ∙ ap (λ (z : List ℕ). x ++ z) (init ∙ ap (init_line x) (joined k s i d kfront kback
-      ∙ ap (λ (z : List ℕ). i ++ z) (next ∙ ap (next_line x) (joined l t w end lfront lback)))));
+-- declarations
+pub are_variables : (ns : List (List ℕ)) (line : List ℕ) → IsDeclaration ns line → AreVariables ns
+are_variables ns line d = record {
+  each = list_each IsDeclared (codes ", ") IsVariable (λ b x p h. h.1) 0 ns d.list d.listed;
+  distinct = d.distinct;
+  few = d.few;
 }
 
--- the number of a run of digits grows with the run
-value_grows : (v : ℕ) (ds : List ℕ) → v ≤ fold (λ v d. v * 10 + (d - 48)) v ds
-value_grows v [] = omega arith
-value_grows v (d ∷ ds) = omega (arith, value_grows (v * 10 + (d - 48)) ds)
+pub other_keyword : (line a b : List ℕ) → line ≡ codes "VARIABLE " ++ a → line ≡ codes "VARIABLES " ++ b → ⊥
+other_keyword line a b e f = absurd (omega (arith, ap (λ (s : List ℕ). slice_index s 8) (sym e ∙ f)))
 
-pub value_more : (ds : List ℕ) (i : ℕ) → i < length ds → value_of (take i ds) * 10 + (get_or ds i 0 - 48) ≤ value_of ds
-value_more ds i l =
-    let step : ℕ → ℕ → ℕ = λ v d. v * 10 + (d - 48) in
-    let one = fold_more step 0 ds i 0 l in
-    let all : value_of ds ≡ fold step (value_of (take (i + 1) ds)) (drop (i + 1) ds) =
-    ap (fold step 0) (sym (take-append-drop (i + 1) ds)) ∙ fold-append step 0 (take (i + 1) ds) (drop (i + 1) ds) in
-    omega (arith, one, all, value_grows (value_of (take (i + 1) ds)) (drop (i + 1) ds))
+pub one_listed : (ns : List (List ℕ)) (line list : List ℕ) → line ≡ codes "VARIABLE " ++ list → IsDeclaration ns line
+    → (length ns ≡ 1) × Listed IsDeclared (codes ", ") 0 ns list
+one_listed ns line list e d = elim d.keyword [
+  | inl h ↦ (h.0, subst (Listed IsDeclared (codes ", ") 0 ns) (append_cancel_left (codes "VARIABLE ") d.list list (sym h.1 ∙ e)) d.listed)
+  | inr h ↦ absurd (other_keyword line list d.list e h.1)
+]
+
+pub more_listed : (ns : List (List ℕ)) (line list : List ℕ) → line ≡ codes "VARIABLES " ++ list → IsDeclaration ns line
+    → (2 ≤ length ns) × Listed IsDeclared (codes ", ") 0 ns list
+more_listed ns line list e d = elim d.keyword [
+  | inl h ↦ absurd (other_keyword line d.list list h.1 e)
+  | inr h ↦ (h.0, subst (Listed IsDeclared (codes ", ") 0 ns) (append_cancel_left (codes "VARIABLES ") d.list list (sym h.1 ∙ e)) d.listed)
+]
+
+pub no_keyword : (ns : List (List ℕ)) (line : List ℕ) → ((a : List ℕ) → line ≢ codes "VARIABLE " ++ a)
+    → ((a : List ℕ) → line ≢ codes "VARIABLES " ++ a) → IsDeclaration ns line → ⊥
+no_keyword ns line one more d = elim d.keyword [
+  | inl h ↦ one d.list h.1
+  | inr h ↦ more d.list h.1
+]
+
+pub one_declared : (ns : List (List ℕ)) (line list : List ℕ) → line ≡ codes "VARIABLE " ++ list
+    → IsOnly (λ xs. Listed IsDeclared (codes ", ") 0 xs list) (Some ns) → length ns ≡ 1 → IsOnly (λ xs. IsDeclaration xs line) (Some ns)
+one_declared ns line list e h l = (
+  record {
+    list = list;
+    listed = h.0;
+    keyword = inl (l, e);
+    few = omega (arith, l);
+    distinct = λ i j d a b. absurd (omega (arith, l, a, b));
+  },
+  λ xs d. h.1 xs (one_listed xs line list e d).1,
+)
+
+pub more_declared : (ns : List (List ℕ)) (line list : List ℕ) → line ≡ codes "VARIABLES " ++ list
+    → IsOnly (λ xs. Listed IsDeclared (codes ", ") 0 xs list) (Some ns) → 2 ≤ length ns → length ns ≤ 64 → AllPairs (λ x y. x ≢ y) ns
+    → IsOnly (λ xs. IsDeclaration xs line) (Some ns)
+more_declared ns line list e h l m distinct = (
+  record { list = list; listed = h.0; keyword = inr (l, e); few = m; distinct = distinct },
+  λ xs d. h.1 xs (more_listed xs line list e d).1,
+)
+
+-- names are text
+small : (b : ℕ) → is_name_byte b ≡ true → b < 128
+small b h = grind (arith, nat_tests)
+
+ascii : (x : List ℕ) → is_name x ≡ true → IsAscii x
+ascii x h i = elim (cases_lt i (length x)) [
+  | inl within ↦ small (get_or x i 0) (name_at x i h within)
+  | inr past ↦ rw (get_or_past x i 0 past) (omega arith)
+]
+
+pub name_utf8 : (x : List ℕ) → is_name x ≡ true → IsUtf8 x
+name_utf8 x h = IsUtf8-from_ascii x (ascii x h)
+
+-- initial values
+pub record Given (settings : List (ℕ × ℤ)) (values : List Val) (n : ℕ) : Type 0 where
+  pub long : length values ≡ n
+  pub once : (x : ℕ) → x < n → count_by (λ s. s.0 == x) settings ≡ 1
+  pub given : (x : ℕ) → x < n → (k : ℕ) × (z : ℤ) × (slice_get settings k ≡ Some (x, z)) × (slice_get values x ≡ Some (integer z))
+
+get_front : {A : Type 0} (xs ys : List A) (i : ℕ) (x : A) → slice_get xs i ≡ Some x → slice_get (xs ++ ys) i ≡ Some x
+get_front [] ys i x h = absurd cc
+get_front (a ∷ more) ys zero x h = h
+get_front (a ∷ more) ys (suc i) x h = get_front more ys i x h
+
+get_end : {A : Type 0} (xs : List A) (y : A) → slice_get (xs ++ y ∷ []) (length xs) ≡ Some y
+get_end [] y = refl
+get_end (a ∷ more) y = get_end more y
+
+pub given_none : (settings : List (ℕ × ℤ)) → Given settings [] 0
+given_none settings = record { long = refl; once = λ x l. absurd (omega (arith, l)); given = λ x l. absurd (omega (arith, l)) }
+
+given_at : (settings : List (ℕ × ℤ)) (values : List Val) (n : ℕ) → Given settings values n → (k : ℕ) (z : ℤ) → slice_get settings k ≡ Some (n, z)
+    → (x : ℕ) → x < n + 1 → (j : ℕ) × (y : ℤ) × (slice_get settings j ≡ Some (x, y)) × (slice_get (values ++ integer z ∷ []) x ≡ Some (integer y))
+given_at settings values n g k z e x l = elim (cases_eq x n) [
+  | inl same ↦ (k, z, rw same e, rw (same ∙ sym g.long) (get_end values (integer z)))
+  | inr other ↦
+      let h = g.given x (omega arith) in
+      (h.0, h.1, h.2, get_front values (integer z ∷ []) x (integer h.1) h.3)
+]
+
+once_at : (settings : List (ℕ × ℤ)) (values : List Val) (n : ℕ) → Given settings values n → count_by (λ s. s.0 == n) settings ≡ 1
+    → (x : ℕ) → x < n + 1 → count_by (λ s. s.0 == x) settings ≡ 1
+once_at settings values n g e x l = elim (cases_eq x n) [
+  | inl same ↦ ap (λ (y : ℕ). count_by (λ s. s.0 == y) settings) same ∙ e
+  | inr other ↦ g.once x (omega arith)
+]
+
+pub given_more : (settings : List (ℕ × ℤ)) (values : List Val) (n : ℕ) → Given settings values n → count_by (λ s. s.0 == n) settings ≡ 1
+    → (k : ℕ) (z : ℤ) → slice_get settings k ≡ Some (n, z) → Given settings (values ++ integer z ∷ []) (n + 1)
+given_more settings values n g once k z e = record {
+  long = length-append values (integer z ∷ []) ∙ omega (arith, g.long);
+  once = once_at settings values n g once;
+  given = given_at settings values n g k z e;
+}
+
+-- a module's specification
+atom_within : (ns : List (List ℕ)) (a : Atom) (t : List ℕ) → IsAtom ns a t → AtomWithin (length ns) a
+atom_within ns (Variable v) t h = slice_get_within ns v.0 t h
+atom_within ns (Number z) t h = tt
+
+term_within : (ns : List (List ℕ)) (b : ℕ) (e : Term) (t : List ℕ) → IsTerm ns b e t → TermWithin (length ns) e
+term_within ns b (Single a) t h = atom_within ns a t h
+term_within ns b (Add c d at) t h = (atom_within ns c h.0 h.2, atom_within ns d h.1 h.3)
+term_within ns b (Subtract c d at) t h = (atom_within ns c h.0 h.2, atom_within ns d h.1 h.3)
+
+conjunct_within : (ns : List (List ℕ)) (b : ℕ) (c : Conjunct) (t : List ℕ) → IsConjunct ns b c t → ConjunctWithin (length ns) c
+conjunct_within ns b (Less e f) t h = (term_within ns b e h.0 h.2, term_within ns _ f h.1 h.3)
+conjunct_within ns b (Equal e f) t h = (term_within ns b e h.0 h.2, term_within ns _ f h.1 h.3)
+conjunct_within ns b (Becomes v e) t h = (slice_get_within ns v.0 h.0 h.2, term_within ns _ e h.1 h.3)
+conjunct_within ns b (Unchanged v) t h = slice_get_within ns v.0 h.0 h.1
+
+pub setting_fits : (ns : List (List ℕ)) (settings : List (ℕ × ℤ)) (text : List ℕ) → Listed (IsSetting ns) (codes " /\\ ") 8 settings text
+    → (k x : ℕ) (z : ℤ) → slice_get settings k ≡ Some (x, z) → SFits w64 z
+setting_fits ns settings text h k x z e =
+    let all = list_each (IsSetting ns) (codes " /\\ ") (λ s. SFits w64 s.1) (λ b s p h. number_fits h.1 s.1 h.3) 8 settings text h in
+    subst (λ (s : ℕ × ℤ). SFits w64 s.1) (get_or_from_slice_get settings k (x, z) (x, z) e) (all k (x, z) (slice_get_within settings k (x, z) e))
+
+value_of_init : (ns : List (List ℕ)) (values : List Val) (text : List ℕ) → IsInit ns values text
+    → (k : ℕ) (d : Val) → k < length values → (z : ℤ) × (get_or values k d ≡ integer z) × SFits w64 z
+value_of_init ns values text i k d l =
+    let g = i.given k (omega (arith, i.long, l)) in
+    (g.1, get_or_from_slice_get values k (integer g.1) d g.3, setting_fits ns i.settings text i.listed g.0 k g.1 g.2)
+
+pub spec_is : (spec : Spec) (d i n : List ℕ) → IsDeclaration spec.variables d → IsInit spec.variables spec.init i → IsNext spec.variables spec.next n → IsSpec spec
+spec_is spec d i n dec ini nex = record {
+  few = dec.few;
+  distinct = dec.distinct;
+  init = record { long = ini.long; integers = value_of_init spec.variables spec.init i ini };
+  within = list_each (IsConjunct spec.variables) (codes " /\\ ") (ConjunctWithin (length spec.variables)) (conjunct_within spec.variables) 8 spec.next n nex.listed;
+  once = nex.once;
+}
+
+-- lines
+feed : LacksSigns 10
+feed = record {
+  mark = record { no_name = refl; no_digit = refl };
+  plus = refl;
+  minus = refl;
+  less = refl;
+  equal = refl;
+  prime = refl;
+  unchanged = refl;
+}
+
+declaration_lacks : (ns : List (List ℕ)) (line : List ℕ) → IsDeclaration ns line → lacks 10 line ≡ true
+declaration_lacks ns line d =
+    let list = list_lacks IsDeclared (codes ", ") 10 (λ b x p h. ap (lacks 10) h.0 ∙ name_lacks 10 refl x h.1) refl 0 ns d.list d.listed in
+    elim d.keyword [
+      | inl h ↦ ap (lacks 10) h.1 ∙ lacks_append 10 (codes "VARIABLE ") d.list refl list
+      | inr h ↦ ap (lacks 10) h.1 ∙ lacks_append 10 (codes "VARIABLES ") d.list refl list
+    ]
+
+pub spelled_lines : (name : List ℕ) (spec : Spec) (text : List ℕ) → (m : Spells name spec text) → AreLines name m.declaration m.init m.next text
+spelled_lines name spec text m =
+    let v = are_variables spec.variables m.declaration m.declared in
+    record {
+      declaration_line = declaration_lacks spec.variables m.declaration m.declared;
+      init_line = list_lacks (IsSetting spec.variables) (codes " /\\ ") 10 (λ b s p h. setting_lacks spec.variables v 10 feed.mark refl b s p h) refl 8 m.init_is.settings m.init m.init_is.listed;
+      next_line = list_lacks (IsConjunct spec.variables) (codes " /\\ ") 10 (λ b s p h. conjunct_lacks spec.variables v 10 feed b s p h) refl 8 spec.next m.next m.next_is.listed;
+      end = codes "====" ++ m.end;
+      end_is = elim m.end_is [
+        | inl e ↦ inl (ap (λ (s : List ℕ). codes "====" ++ s) e)
+        | inr e ↦ inr (ap (λ (s : List ℕ). codes "====" ++ s) e)
+      ];
+      lines = m.lines;
+    }
+
+abbrev pub head : List ℕ → List ℕ → List ℕ
+head name s = codes "---- MODULE " ++ (name ++ (codes " ----\nEXTENDS Integers\n" ++ s))
+
+abbrev pub third_text : List ℕ → List ℕ → List ℕ
+third_text n end = n ++ (codes "\n" ++ end)
+
+abbrev pub second_text : List ℕ → List ℕ → List ℕ → List ℕ
+second_text i n end = i ++ (codes "\nNext == " ++ third_text n end)
+
+line_cut : (mark a b t : List ℕ) → lacks (slice_index mark 0) a ≡ true → t ≡ a ++ (mark ++ b) → Cuts [] mark a b t
+line_cut mark a b t h e = record { clear = lacks_append (slice_index mark 0) a [] h refl; parts = e }
+
+pub first_cut : (name text rest d i n : List ℕ) → text ≡ head name rest → (m : AreLines name d i n text)
+    → Cuts [] (codes "\nInit == ") d (second_text i n m.end) rest
+first_cut name text rest d i n e m =
+    line_cut (codes "\nInit == ") d (second_text i n m.end) rest m.declaration_line
+    (same_behind (codes "---- MODULE ") name (codes " ----\nEXTENDS Integers\n") rest (d ++ (codes "\nInit == " ++ second_text i n m.end)) (sym e ∙ m.lines))
+
+pub second_cut : (name text rest x second d i n : List ℕ) → text ≡ head name rest → Cuts [] (codes "\nInit == ") x second rest
+    → (m : AreLines name d i n text) → (x ≡ d) × Cuts [] (codes "\nNext == ") i (third_text n m.end) second
+second_cut name text rest x second d i n e cut m =
+    let u = cut_unique [] (codes "\nInit == ") x second d (second_text i n m.end) rest (omega arith) cut (first_cut name text rest d i n e m) in
+    (u.0, line_cut (codes "\nNext == ") i (third_text n m.end) second m.init_line u.1)
+
+pub third_cut : (name text rest x second y third d i n : List ℕ) → text ≡ head name rest → Cuts [] (codes "\nInit == ") x second rest
+    → Cuts [] (codes "\nNext == ") y third second
+    → (m : AreLines name d i n text) → (x ≡ d) × (y ≡ i) × Cuts [] (codes "\n") n m.end third
+third_cut name text rest x second y third d i n e cut next m =
+    let k = second_cut name text rest x second d i n e cut m in
+    let u = cut_unique [] (codes "\nNext == ") y third i (third_text n m.end) second (omega arith) next k.1 in
+    (k.0, u.0, line_cut (codes "\n") n m.end third m.next_line u.1)
+
+pub whole_cut : (name text rest x second y third w end d i n : List ℕ) → text ≡ head name rest → Cuts [] (codes "\nInit == ") x second rest
+    → Cuts [] (codes "\nNext == ") y third second → Cuts [] (codes "\n") w end third
+    → (m : AreLines name d i n text) → (x ≡ d) × (y ≡ i) × (w ≡ n) × (end ≡ m.end)
+whole_cut name text rest x second y third w end d i n e cut next last m =
+    let k = third_cut name text rest x second y third d i n e cut next m in
+    let u = cut_unique [] (codes "\n") w end n m.end third (omega arith) last k.2 in
+    (k.0, k.1, u.0, u.1)
+
+line_of : (mark a b t : List ℕ) → Cuts [] mark a b t → lacks (slice_index mark 0) a ≡ true
+line_of mark a b t m = subst (λ (s : List ℕ). lacks (slice_index mark 0) s ≡ true) (append-nil a) m.clear
+
+pub lines_of : (name text rest x second y third w end : List ℕ) → text ≡ head name rest → Cuts [] (codes "\nInit == ") x second rest
+    → Cuts [] (codes "\nNext == ") y third second → Cuts [] (codes "\n") w end third
+    → (end ≡ codes "====") ⊎ (end ≡ codes "====\n") → AreLines name x y w text
+lines_of name text rest x second y third w end e cut next last is = record {
+  declaration_line = line_of (codes "\nInit == ") x second rest cut;
+  init_line = line_of (codes "\nNext == ") y third second next;
+  next_line = line_of (codes "\n") w end third last;
+  end = end;
+  end_is = is;
+  lines = e ∙ ap (head name) (cut.parts ∙ ap (λ (s : List ℕ). x ++ (codes "\nInit == " ++ s)) (next.parts
+      ∙ ap (λ (s : List ℕ). y ++ (codes "\nNext == " ++ s)) last.parts));
+}
+
+pub lines_short : (name d i n text : List ℕ) → AreLines name d i n text → length n ≤ length text
+lines_short name d i n text m =
+    let one = ap length m.lines ∙ length-append (codes "---- MODULE ") (name ++ (codes " ----\nEXTENDS Integers\n" ++ (d ++ (codes "\nInit == " ++ second_text i n m.end)))) in
+    let two = length-append name (codes " ----\nEXTENDS Integers\n" ++ (d ++ (codes "\nInit == " ++ second_text i n m.end))) in
+    let three = length-append (codes " ----\nEXTENDS Integers\n") (d ++ (codes "\nInit == " ++ second_text i n m.end)) in
+    let four = length-append d (codes "\nInit == " ++ second_text i n m.end) in
+    let five = length-append (codes "\nInit == ") (second_text i n m.end) in
+    let six = length-append i (codes "\nNext == " ++ third_text n m.end) in
+    let seven = length-append (codes "\nNext == ") (third_text n m.end) in
+    let eight = length-append n (codes "\n" ++ m.end) in
+    omega (arith, one, two, three, four, five, six, seven, eight)
+
+pub spells : (name text d i n : List ℕ) → (a : AreLines name d i n text) → (spec : Spec) → IsDeclaration spec.variables d
+    → IsInit spec.variables spec.init i → IsNext spec.variables spec.next n → Spells name spec text
+spells name text d i n a spec dec ini nex = elim a.end_is [
+  | inl e ↦ record {
+    declaration = d;
+    declared = dec;
+    init = i;
+    init_is = ini;
+    next = n;
+    next_is = nex;
+    end = [];
+    end_is = inl refl;
+    lines = a.lines ∙ ap (λ (s : List ℕ). head name (d ++ (codes "\nInit == " ++ second_text i n s))) e;
+  }
+  | inr e ↦ record {
+    declaration = d;
+    declared = dec;
+    init = i;
+    init_is = ini;
+    next = n;
+    next_is = nex;
+    end = 10 ∷ [];
+    end_is = inr refl;
+    lines = a.lines ∙ ap (λ (s : List ℕ). head name (d ++ (codes "\nInit == " ++ second_text i n s))) e;
+  }
+]
+
+pub same_end : (x y : List ℕ) → x ≡ y → (y ≡ codes "====") ⊎ (y ≡ codes "====\n") → (x ≡ codes "====") ⊎ (x ≡ codes "====\n")
+same_end x y e (inl h) = inl (e ∙ h)
+same_end x y e (inr h) = inr (e ∙ h)
+
+pub no_init : (ns : List (List ℕ)) (text : List ℕ) (settings seen : List (ℕ × ℤ)) (x : ℕ) → seen ≡ settings → x < length ns
+    → count_by (λ s. s.0 == x) seen ≢ 1 → ((others : List (ℕ × ℤ)) → Listed (IsSetting ns) (codes " /\\ ") 8 others text → others ≡ settings)
+    → (values : List Val) → IsInit ns values text → ⊥
+no_init ns text settings seen x e l other only values i =
+    other (ap (count_by (λ s. s.0 == x)) (e ∙ sym (only i.settings i.listed)) ∙ i.once x l)
+
+pub init_is : (ns : List (List ℕ)) (text : List ℕ) (settings : List (ℕ × ℤ)) (values : List Val) (n : ℕ)
+    → Listed (IsSetting ns) (codes " /\\ ") 8 settings text → Given settings values n → n ≡ length ns → IsInit ns values text
+init_is ns text settings values n h g e = record {
+  settings = settings;
+  listed = h;
+  once = λ x l. g.once x (omega arith);
+  long = g.long ∙ e;
+  given = λ x l. g.given x (omega arith);
+}
+
+pub seen_fits : (ns : List (List ℕ)) (settings seen : List (ℕ × ℤ)) (text : List ℕ) → Listed (IsSetting ns) (codes " /\\ ") 8 settings text
+    → seen ≡ settings → (n : ℕ) (z : ℤ) → (k : ℕ) × (slice_get seen k ≡ Some (n, z)) → SFits w64 z
+seen_fits ns settings seen text h e n z k =
+    setting_fits ns settings text h k.0 n z (ap (λ (s : List (ℕ × ℤ)). slice_get s k.0) (sym e) ∙ k.1)
+
+pub given_next : (settings seen : List (ℕ × ℤ)) (values : List Val) (n : ℕ) (z : ℤ) → seen ≡ settings → Given settings values n
+    → (count_by (λ s. s.0 == n) seen ≡ 1) × ((k : ℕ) × (slice_get seen k ≡ Some (n, z))) → Given settings (values ++ integer z ∷ []) (n + 1)
+given_next settings seen values n z e g h =
+    given_more settings values n g (ap (count_by (λ s. s.0 == n)) (sym e) ∙ h.0) h.1.0 z (ap (λ (s : List (ℕ × ℤ)). slice_get s h.1.0) (sym e) ∙ h.1.1)

@@ -10,7 +10,7 @@ use Rattle.std.proofs.lemmas.List.Recursion.{and_at}
 use Rattle.trace_cli.specs.Names.{begins_with_digit, is_fair, is_letter, is_name, is_name_byte, reserved}
 use Rattle.trace_cli.specs.Words.{IsModuleWord, words_of}
 
-abbrev spelling : List ℕ → Bool
+abbrev pub spelling : List ℕ → Bool
 spelling name = list_all is_name_byte name && list_any is_letter name && not (begins_with_digit name)
 
 -- the bytes of a name are name bytes

@@ -1,16 +1,15 @@
--- A specification of one variable beside the lines of a log, as relations over states.
+-- A specification beside the lines of a log, as relations over states.
 use Rattle.std.specs.Prelude.{◌≡◌, ℕ, ◌<◌, List, length, All, Option, Some, None, slice_get}
 use Rattle.trace_base.specs.declared.place.LineAt.{LineAt}
-use Rattle.tla_values.specs.Data.{integer}
 use Rattle.tla_core.specs.States.{Values}
 use Rattle.tla_core.specs.System.{System}
-use Rattle.tla_core.specs.Terms.{InitHolds, NextHolds, NextFaults}
+use Rattle.tla_core.specs.Terms.{VariableIs, InitHolds, NextHolds, NextFaults}
 use Rattle.tla_core.specs.declared.spec.Spec.{Spec}
 use Rattle.trace_cli.specs.declared.log.Line.{Line}
 
--- Each value that the line sees is the variable's in t. A line that sees none binds nothing.
+-- Each value that the line sees is its variable's in t. A line that sees none binds nothing.
 abbrev pub IsSeen : Line → Values → Type 0
-IsSeen line t = All (λ v. slice_get t 0 ≡ Some (integer v)) line.sees
+IsSeen line t = All (λ see. VariableIs t see.variable see.value) line.sees
 
 -- Line n of the log, counted from 0, leads from s to t: the next-state action holds, and t has what the line sees.
 pub record StepOf (spec : Spec) (lines : List Line) (n : ℕ) (s t : Values) : Type 0 where

@@ -5,6 +5,7 @@ pub mod Lines
 pub mod Log
 pub mod Form
 pub mod Evaluates
+pub mod Fields
 pub mod Report
 pub mod Run
 pub mod Codes

@@ -8,6 +8,8 @@ use Rattle.state_layers.specs.Answers.{IsAnswer}
 use Rattle.state_layers.specs.declared.answer.Answer.{Answer}
 use Rattle.state_layers.specs.declared.answer.Answer.TheVariants.{Explained, NotExplained, NoInitial, InitFault, Fault, AssumeFault, AssumeFalse, LayerLimit, TotalLimit}
 use Rattle.trace_cli.specs.declared.log.Line.{Line}
+use Rattle.trace_cli.specs.declared.fields.Field.{Field}
+use Rattle.trace_cli.specs.Fields.{AreFields}
 use Rattle.trace_cli.specs.declared.call.Status.{Status}
 use Rattle.trace_cli.specs.declared.call.Status.TheVariants.{Done, Not, Words, Reading, Evaluation, Limit}
 use Rattle.trace_cli.specs.Words.{AreWords}
@@ -71,11 +73,12 @@ pub record LogIs (words : List (List ℕ)) (holds : Option (List File)) (spec : 
   pub short : length text ≤ log_limit
 
 -- what the log's text calls for beside a specification: the refusal of the first line that is not of the first form, or
--- an answer that is true of the specification beside the lines
+-- an answer that is true of the specification beside the lines, with the fields of its states in ascending order
 pub data Says (spec : Spec) (file log text : List ℕ) : Status → List ℕ → Type 0 where
-  log_refused : (n : ℕ) → LogStops spec.variable (pieces_of text) n → Says spec file log text Reading (line_text log n)
-  answered : (lines : List Line) (a : Answer) → LogSays spec.variable (pieces_of text) lines → IsAnswer (first_form spec lines) a
-      → Says spec file log text (status_of a) (answer_text file log (length lines) spec.variable a)
+  log_refused : (n : ℕ) → LogStops spec.variables (pieces_of text) n → Says spec file log text Reading (line_text log n)
+  answered : (lines : List Line) (fields : List Field) (a : Answer) → LogSays spec.variables (pieces_of text) lines
+      → AreFields spec.variables fields → IsAnswer (first_form spec lines) a
+      → Says spec file log text (status_of a) (answer_text file log (length lines) fields a)
 
 -- what the words and the files call for; the files' count of faults was before and is now
 pub data Calls (words : List (List ℕ)) (holds : Option (List File)) (before now : ℕ) : Status → List ℕ → Type 0 where

@@ -1,19 +1,20 @@
 ghost use Rattle.std.specs.Prelude.{◌≡◌, ◌++◌, IfOk, OnOk, codes, string_bytes};
 ghost use Rattle.trace_cli.specs.Report.{answer_text, fault_text, explained_text, not_explained_text, next_text, place_text, layer_text};
 
+use crate::fields::Field;
 use crate::report::{kind_name, push_faulty, push_layer, push_place, push_states};
 use state_layers::Answer;
 use std::alloc::{AllocError, Global};
 use tla_core::{Behaviour, EvalKind};
 use trace_base::Place;
 
-/// What the report names: the module's file, the log's file with its number of lines, and the variable.
+/// What the report names: the module's file, the log's file with its number of lines, and the fields of a state.
 #[derive(Clone, Copy, Drop)]
 pub struct Labels<'a> {
     pub file: &'a str,
     pub log: &'a str,
     pub lines: usize,
-    pub variable: &'a str,
+    pub fields: &'a [Field],
 }
 
 /// The report of an answer.
@@ -22,7 +23,7 @@ pub fn report_answer(
     labels: Labels<'_>,
     answer: &Answer,
 ) -> Result<String, AllocError>
-    ensures { IfOk result (λ t. string_bytes t ≡ answer_text labels.entry.file.now labels.entry.log.now labels.entry.lines labels.entry.variable.now answer.now) }
+    ensures { IfOk result (λ t. string_bytes t ≡ answer_text labels.entry.file.now labels.entry.log.now labels.entry.lines labels.entry.fields.now answer.now) }
 {
     match answer {
         Answer::Explained { behaviour, widest } => explained(alloc, labels, behaviour, *widest),
@@ -50,7 +51,7 @@ pub fn report_answer(
         } => {
             let mut text = faulted(alloc, "FAULT ", labels.file, *kind, *at, "")?;
             push_layer(&mut text, *after, *silent)?;
-            push_faulty(&mut text, labels.variable, state)?;
+            push_faulty(&mut text, labels.fields, state)?;
             Ok(text)
         }
         Answer::AssumeFault { kind, at } => faulted(
@@ -78,11 +79,11 @@ fn explained(
     behaviour: &Behaviour,
     widest: u32,
 ) -> Result<String, AllocError>
-    ensures { IfOk result (λ t. string_bytes t ≡ explained_text labels.entry.lines labels.entry.variable.now behaviour.now widest) }
+    ensures { IfOk result (λ t. string_bytes t ≡ explained_text labels.entry.lines labels.entry.fields.now behaviour.now widest) }
 {
     let lines = labels.lines;
     let mut text = format!(in alloc; "EXPLAINED lines={lines} widest={widest}\n")?;
-    push_states(&mut text, labels.variable, behaviour)?;
+    push_states(&mut text, labels.fields, behaviour)?;
     Ok(text)
 }
 
@@ -94,11 +95,11 @@ fn not_explained(
     line: u32,
     behaviour: &Behaviour,
 ) -> Result<String, AllocError>
-    ensures { IfOk result (λ t. string_bytes t ≡ not_explained_text labels.entry.log.now labels.entry.variable.now prefix of line behaviour.now) }
+    ensures { IfOk result (λ t. string_bytes t ≡ not_explained_text labels.entry.log.now labels.entry.fields.now prefix of line behaviour.now) }
 {
     let mut text = format!(in alloc; "NOT EXPLAINED prefix={prefix} of={of}")?;
     push_next(&mut text, labels.log, line)?;
-    push_states(&mut text, labels.variable, behaviour)?;
+    push_states(&mut text, labels.fields, behaviour)?;
     Ok(text)
 }
 

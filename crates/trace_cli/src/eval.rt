@@ -1,7 +1,7 @@
 ghost use Rattle.std.specs.Prelude.{◌≡◌};
-ghost use Rattle.trace_cli.specs.Evaluates.{ReadsAtom, Evaluates, in_range};
+ghost use Rattle.trace_cli.specs.Evaluates.{ReadsVariable, ReadsAtom, Evaluates, in_range};
 
-use tla_core::{Atom, EvalKind, Fault, State, Term};
+use tla_core::{Atom, EvalKind, Fault, State, Term, VarId};
 use trace_base::Place;
 
 /// The value of the term in the state, or its fault, or nothing where the state lacks an integer.
@@ -23,13 +23,20 @@ pub fn evaluate(term: Term, state: &State) -> Option<Result<i64, Fault>>
     }
 }
 
-pub fn read_atom(atom: Atom, state: &State) -> Option<i64>
+fn read_atom(atom: Atom, state: &State) -> Option<i64>
     ensures { ReadsAtom state.now atom result }
 {
     match atom {
-        Atom::Variable => state.get(0)?.as_int(),
+        Atom::Variable(variable) => read_variable(variable, state),
         Atom::Number(number) => Some(number),
     }
+}
+
+/// The integer that the variable has in the state.
+pub fn read_variable(variable: VarId, state: &State) -> Option<i64>
+    ensures { ReadsVariable state.now variable result }
+{
+    state.get(variable.0 as usize)?.as_int()
 }
 
 /// The result of an operation at that place, or its overflow.

@@ -1,7 +1,10 @@
-ghost use Rattle.std.specs.Prelude.{◌≡◌, ◌≤◌, IfOk, IfErr, IsErrOf, codes, string_bytes, length, vec_len};
+ghost use Rattle.std.specs.Prelude.{◌≡◌, ◌≤◌, IfOk, IfErr, IsErrOf, List, codes, string_bytes, length, vec_len};
 ghost use Rattle.trace_base.specs.Device.{Rose};
 ghost use Rattle.state_layers.specs.Answers.{IsAnswer};
 ghost use Rattle.state_layers.specs.declared.answer.Answer.{Answer};
+ghost use Rattle.tla_core.specs.Terms.{IsSpec};
+ghost use Rattle.trace_cli.specs.Fields.{AreFields};
+ghost use Rattle.trace_cli.specs.declared.fields.Field.{Field};
 ghost use Rattle.trace_cli.specs.Form.{first_form};
 ghost use Rattle.trace_cli.specs.Log.{LogSays, StopsBy, pieces_of};
 ghost use Rattle.trace_cli.specs.Module.{Spells};
@@ -12,6 +15,7 @@ ghost use Rattle.trace_cli.specs.declared.judge.Stop.TheVariants.{NoMemory};
 
 use crate::answer_report::{Labels, report_answer};
 use crate::call::Status;
+use crate::fields::sort_fields;
 use crate::log::{Line, LogFault, read_log};
 use crate::module::read_module;
 use crate::steps::Form;
@@ -135,6 +139,7 @@ fn judge_spec<F: Files>(
 ) -> Result<Judged, Stop>
     requires module_is { ModuleIs (words_of words.now) (F.holds files.old) job.name.now job.module.now job.log.now text.now }
     requires spells { Spells job.name.now spec.now text.now }
+    requires sound { IsSpec spec.now }
     ensures calls { IfOk result (λ j. Calls (words_of words.now) (F.holds files.old) (F.faults files.old) (F.faults files.new)
         j.status (string_bytes j.report)) }
     ensures device { IsErrOf result Stop.Device → Rose (F.faults files.old) (F.faults files.new) }
@@ -155,7 +160,8 @@ fn judge_log(
     log: &str,
     text: Vec<u8>,
 ) -> Result<Judged, Stop>
-    requires { length text.items ≤ 67108864 }
+    requires sound { IsSpec spec.now }
+    requires short { length text.items ≤ 67108864 }
     ensures says { IfOk result (λ j. Says spec.now file.now log.now text.items j.status (string_bytes j.report)) }
     ensures device { ¬ IsErrOf result Stop.Device }
 {
@@ -168,12 +174,13 @@ fn judge_log(
 
 /// The log's lines. Its bytes are let go before the search.
 fn read_lines(alloc: Global, spec: &Spec, text: Vec<u8>) -> Result<Vec<Line>, LogFault>
-    requires { length text.items ≤ 67108864 }
-    ensures says { IfOk result (λ lines. LogSays spec.now.variable (pieces_of text.items) lines.items) }
+    requires sound { IsSpec spec.now }
+    requires short { length text.items ≤ 67108864 }
+    ensures says { IfOk result (λ lines. LogSays spec.now.variables (pieces_of text.items) lines.items) }
     ensures few { IfOk result (λ lines. vec_len lines ≤ 200000) }
-    ensures stops { IfErr result (StopsBy spec.now.variable (pieces_of text.items)) }
+    ensures stops { IfErr result (StopsBy spec.now.variables (pieces_of text.items)) }
 {
-    read_log(alloc, spec.variable.as_str(), &text)
+    read_log(alloc, &spec.variables, &text)
 }
 
 fn refuse_line(alloc: Global, log: &str, line: u32) -> Result<Judged, Stop>
@@ -197,18 +204,21 @@ fn judge_lines(
     log: &str,
     lines: &[Line],
 ) -> Result<Judged, Stop>
-    requires { length lines.now ≤ 200000 }
-    ensures answer { IfOk result (λ j. (a : Answer) × IsAnswer (first_form spec.now lines.now) a × (j.status ≡ status_of a)
-        × (string_bytes j.report ≡ answer_text file.now log.now (length lines.now) spec.now.variable a)) }
+    requires sound { IsSpec spec.now }
+    requires few { length lines.now ≤ 200000 }
+    ensures answer { IfOk result (λ j. (fields : List Field) × (a : Answer) × AreFields spec.now.variables fields
+        × IsAnswer (first_form spec.now lines.now) a × (j.status ≡ status_of a)
+        × (string_bytes j.report ≡ answer_text file.now log.now (length lines.now) fields a)) }
     ensures device { ¬ IsErrOf result Stop.Device }
 {
     let form = Form { spec, lines };
     let answer = explain(alloc, &form)?;
+    let fields = sort_fields(alloc, &spec.variables)?;
     let labels = Labels {
         file,
         log,
         lines: lines.len(),
-        variable: spec.variable.as_str(),
+        fields: &fields,
     };
     let report = report_answer(alloc, labels, &answer)?;
     Ok(Judged {

@@ -4,12 +4,18 @@
 mod answer_report;
 mod call;
 mod eval;
+mod fields;
 mod judge;
 mod log;
 mod module;
+mod next;
+mod piece;
 mod report;
 mod seen;
 mod steps;
 mod words;
 
 pub use call::{Status, run};
+
+#[cfg(test)]
+mod tests;

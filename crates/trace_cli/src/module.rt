@@ -1,96 +1,71 @@
-ghost use Rattle.std.specs.Prelude.{◌≡◌, ◌≢◌, ◌⊎◌, ◌↔◌, ◌≤◌, ◌<◌, ◌==◌, ◌++◌, [], ◌∷◌, not, true, IfOk, IfSome, IsTrue, MatchOption, List, ℕ, ℤ, codes, length};
-ghost use Rattle.std.specs.List.{list_all, prefix_len};
+ghost use Rattle.std.specs.Prelude.{◌≡◌, ◌≢◌, ◌⊎◌, ◌↔◌, ◌≤◌, ◌<◌, ◌+◌, ◌==◌, ◌++◌, [], ◌∷◌, not, true, AllPairs, IfOk, IfSome, IsTrue, MatchOption, List, ℕ, ℤ, Some, slice_get, codes, length};
+ghost use Rattle.std.specs.List.{count_by};
+ghost use Rattle.tla_core.specs.Terms.{IsSpec, binds};
 ghost use Rattle.tla_core.specs.declared.spec.Spec.{Spec};
-ghost use Rattle.tla_core.specs.declared.term.Term.{Term};
-ghost use Rattle.trace_cli.specs.Module.{IsNumeral, IsRight, IsVariable, Spells, operator_place, value_of};
-ghost use Rattle.trace_cli.specs.Lines.{AreLines};
-ghost use Rattle.trace_cli.specs.Names.{is_digit, is_name_byte};
+ghost use Rattle.tla_values.specs.Data.{Val};
+ghost use Rattle.trace_cli.specs.Lines.{AreLines, AreVariables, IsOnly};
+ghost use Rattle.trace_cli.specs.Module.{IsConjunct, IsDeclaration, IsDeclared, IsInit, IsNext, IsSetting, Listed, Spells};
 
-use crate::words::{is_digit, is_name, is_name_byte};
+use crate::piece::{behind, cut, is_variable, read_conjunct, read_setting};
 use std::alloc::{AllocError, Global};
-use tla_core::{Atom, Spec, Term};
-use trace_base::{Place, Text};
+use tla_core::{Conjunct, Conjuncts, Spec, State};
+use tla_values::Value;
+use trace_base::{Names, Text};
 
-const MAX_NUMBER: u64 = 1_000_000_000;
+const MAX_VARIABLES: usize = 64;
 
-const MAX_DIGITS: usize = 19;
+const MAX_CONJUNCTS: usize = 100;
 
-/// What stands in the three places of the six lines that differ from module to module.
+/// What stands in the three lines that differ from module to module, the second and the third behind `Init == ` and
+/// `Next == `.
 #[derive(Clone, Copy, Drop)]
 struct Parts<'a> {
-    variable: &'a [u8],
+    declaration: &'a [u8],
     init: &'a [u8],
-    right: &'a [u8],
-}
-
-/// A specification whose variable is still the text that names it.
-#[derive(Clone, Copy, Drop)]
-struct Meaning<'a> {
-    variable: &'a [u8],
-    init: i64,
-    next: Term,
+    next: &'a [u8],
 }
 
 /// The specification that the text of the module of that name spells, if it has the first form.
 pub fn read_module(alloc: Global, name: &[u8], text: &[u8]) -> Result<Option<Spec>, AllocError>
     requires { length text.now ≤ 1048576 }
-    ensures { IfOk result (λ o. MatchOption o ((spec : Spec) → ¬ Spells name.now spec text.now) (λ spec. Spells name.now spec text.now)) }
+    ensures { IfOk result (λ o. MatchOption o ((spec : Spec) → ¬ Spells name.now spec text.now)
+        (λ spec. Spells name.now spec text.now × IsSpec spec)) }
 {
-    match read_meaning(name, text) {
-        Some(meaning) => match Text::from_bytes(alloc, meaning.variable)? {
-            Some(variable) => Ok(Some(Spec {
-                variable,
-                init: meaning.init,
-                next: meaning.next,
-            })),
-            None => Ok(None),
-        },
-        None => Ok(None),
-    }
-}
-
-/// What the text of the module of that name means.
-fn read_meaning<'a>(name: &[u8], text: &'a [u8]) -> Option<Meaning<'a>>
-    requires { length text.now ≤ 1048576 }
-    ensures { MatchOption result ((spec : Spec) → ¬ Spells name.now spec text.now)
-        (λ m. Spells name.now (record { variable = m.variable.now; init = m.init; next = m.next }) text.now) }
-{
-    let parts = cut_lines(name, text)?;
-    if !is_variable(parts.variable) {
-        return None;
-    }
-    let init = read_number(parts.init)?;
-    let next = read_right(parts.variable, parts.right)?;
-    Some(Meaning {
-        variable: parts.variable,
+    let Some(parts) = cut_lines(name, text) else {
+        return Ok(None);
+    };
+    let Some(variables) = read_declaration(alloc, parts.declaration)? else {
+        return Ok(None);
+    };
+    let Some(init) = read_init(alloc, &variables, parts.init)? else {
+        return Ok(None);
+    };
+    let Some(next) = read_next(alloc, &variables, parts.next)? else {
+        return Ok(None);
+    };
+    Ok(Some(Spec {
+        variables,
         init,
         next,
-    })
+    }))
 }
 
 /// The parts of a text of six lines, the only ones.
 fn cut_lines<'a>(name: &[u8], text: &'a [u8]) -> Option<Parts<'a>>
-    ensures cut { MatchOption result ((x init right : List ℕ) → ¬ AreLines name.now x init right text.now)
-        (λ p. AreLines name.now p.variable.now p.init.now p.right.now text.now) }
-    ensures only { IfSome result (λ p. (x init right : List ℕ) → AreLines name.now x init right text.now
-        → (p.variable.now ≡ x) × (p.init.now ≡ init) × (p.right.now ≡ right)) }
+    ensures cut { MatchOption result ((declaration init next : List ℕ) → ¬ AreLines name.now declaration init next text.now)
+        (λ p. AreLines name.now p.declaration.now p.init.now p.next.now text.now) }
+    ensures only { IfSome result (λ p. (declaration init next : List ℕ) → AreLines name.now declaration init next text.now
+        → (p.declaration.now ≡ declaration) × (p.init.now ≡ init) × (p.next.now ≡ next)) }
 {
-    let first = after(
-        text,
-        b"---- MODULE ",
-        name,
-        b" ----\nEXTENDS Integers\nVARIABLE ",
-    )?;
-    let (variable, behind_variable) = first.split_at(name_len(first));
-    let second = after(behind_variable, b"\nInit == ", variable, b" = ")?;
-    let (init, behind_init) = second.split_at(digits_len(second));
-    let third = after(behind_init, b"\nNext == ", variable, b"' = ")?;
-    let (right, end) = third.split_at(line_len(third));
+    let lines = after(text, b"---- MODULE ", name, b" ----\nEXTENDS Integers\n")?;
+    let (declaration, second) = cut(lines, b"", b"\nInit == ")?;
+    let (init, third) = cut(second, b"", b"\nNext == ")?;
+    let (next, end) = cut(third, b"", b"\n")?;
     if is_end(end) {
         Some(Parts {
-            variable,
+            declaration,
             init,
-            right,
+            next,
         })
     } else {
         None
@@ -107,133 +82,227 @@ fn after<'a>(text: &'a [u8], first: &[u8], second: &[u8], third: &[u8]) -> Optio
     behind(behind_second, third)
 }
 
-/// What stands behind a front.
-fn behind<'a>(text: &'a [u8], front: &[u8]) -> Option<&'a [u8]>
-    ensures { MatchOption result ((rest : List ℕ) → text.now ≢ front.now ++ rest) (λ r. text.now ≡ front.now ++ r.now) }
-{
-    text.strip_prefix(front)
-}
-
-/// How many name bytes a text begins with.
-fn name_len(text: &[u8]) -> usize
-    ensures len { result ≡ prefix_len is_name_byte text.now }
-    ensures within { result ≤ length text.now }
-{
-    text.iter().take_while(|b| is_name_byte(**b)).count()
-}
-
-/// How many digits a text begins with.
-fn digits_len(text: &[u8]) -> usize
-    ensures len { result ≡ prefix_len is_digit text.now }
-    ensures within { result ≤ length text.now }
-{
-    text.iter().take_while(|b| is_digit(**b)).count()
-}
-
-/// How many bytes a text has before its first line feed.
-fn line_len(text: &[u8]) -> usize
-    ensures len { result ≡ prefix_len (λ b. not (b == 10)) text.now }
-    ensures within { result ≤ length text.now }
-{
-    text.iter().take_while(|b| **b != b'\n').count()
-}
-
-/// Whether this is the line that ends a module, behind the line feed before it.
+/// Whether this is the line that ends a module.
 fn is_end(text: &[u8]) -> bool
-    ensures { IsTrue result ↔ ((text.now ≡ codes "\n====") ⊎ (text.now ≡ codes "\n====\n")) }
+    ensures { IsTrue result ↔ ((text.now ≡ codes "====") ⊎ (text.now ≡ codes "====\n")) }
 {
-    text == b"\n====".as_slice() || text == b"\n====\n".as_slice()
+    text == b"====".as_slice() || text == b"====\n".as_slice()
 }
 
-/// Whether a variable of a module may have this name.
-fn is_variable(name: &[u8]) -> bool
-    ensures { IsTrue result ↔ IsVariable name.now }
+/// The variables that the line declares.
+fn read_declaration(alloc: Global, line: &[u8]) -> Result<Option<Names>, AllocError>
+    ensures { IfOk result (λ o. IsOnly (λ names. IsDeclaration names line.now) o) }
 {
-    is_name(name) && !is_taken(name)
-}
-
-fn is_taken(name: &[u8]) -> bool
-    ensures { IsTrue result ↔ ((name.now ≡ codes "Init") ⊎ ((name.now ≡ codes "Next") ⊎ ((name.now ≡ codes "Nat") ⊎ (name.now ≡ codes "Int")))) }
-{
-    name == b"Init".as_slice()
-        || name == b"Next".as_slice()
-        || name == b"Nat".as_slice()
-        || name == b"Int".as_slice()
-}
-
-/// The number that these digits spell, if it is small enough.
-fn read_number(digits: &[u8]) -> Option<i64>
-    ensures { MatchOption result ((z : ℤ) → ¬ IsNumeral digits.now z) (λ z. IsNumeral digits.now z) }
-{
-    if digits.is_empty() || digits.len() > MAX_DIGITS {
-        return None;
+    if let Some(list) = behind(line, b"VARIABLE ") {
+        let Some(names) = read_names(alloc, list)? else {
+            return Ok(None);
+        };
+        if names.len() != 1 {
+            return Ok(None);
+        }
+        return Ok(Some(names));
     }
-    if !has_digits_alone(digits) {
-        return None;
+    let Some(list) = behind(line, b"VARIABLES ") else {
+        return Ok(None);
+    };
+    let Some(names) = read_names(alloc, list)? else {
+        return Ok(None);
+    };
+    if names.len() < 2 || names.len() > MAX_VARIABLES || !are_distinct(&names) {
+        return Ok(None);
     }
-    let value = small_value(digits)?;
-    Some(value as i64)
+    Ok(Some(names))
 }
 
-fn has_digits_alone(bytes: &[u8]) -> bool
-    ensures { result ≡ list_all is_digit bytes.now }
+/// The names in a list of them.
+fn read_names(alloc: Global, text: &[u8]) -> Result<Option<Names>, AllocError>
+    ensures { IfOk result (λ o. IsOnly (λ names. Listed IsDeclared (codes ", ") 0 names text.now) o) }
 {
-    bytes.iter().all(|b| is_digit(*b))
+    let mut names = Names::new(alloc);
+    let mut rest = text;
+    'pieces: while let Some((piece, others)) = cut(rest, b"", b", ") {
+        let Some(name) = read_name(alloc, piece)? else {
+            return Ok(None);
+        };
+        names.push(name)?;
+        rest = others;
+    }
+    let Some(name) = read_name(alloc, rest)? else {
+        return Ok(None);
+    };
+    names.push(name)?;
+    Ok(Some(names))
 }
 
-/// The value of these digits, if it is at most 1000000000.
-fn small_value(digits: &[u8]) -> Option<u64>
-    requires { list_all is_digit digits.now ≡ true }
-    ensures { MatchOption result (1000000000 < value_of digits.now) (λ v. (v ≡ value_of digits.now) × (v ≤ 1000000000)) }
+/// The name that a piece of a declaration is.
+fn read_name(alloc: Global, piece: &[u8]) -> Result<Option<Text>, AllocError>
+    ensures { IfOk result (λ o. IsOnly (λ name. IsDeclared 0 name piece.now) o) }
 {
-    let mut value = 0u64;
-    for digit in digits {
-        value = value * 10 + u64::from(*digit - b'0');
-        if value > MAX_NUMBER {
-            return None;
+    if !is_variable(piece) {
+        return Ok(None);
+    }
+    match Text::from_bytes(alloc, piece)? {
+        Some(name) => Ok(Some(name)),
+        None => Ok(None),
+    }
+}
+
+/// Whether no two names are the same.
+fn are_distinct(names: &Names) -> bool
+    ensures { IsTrue result ↔ AllPairs (λ x y. x ≢ y) names.now }
+{
+    let items = names.items();
+    for second in 0..items.len() {
+        for first in 0..second {
+            if items[first] == items[second] {
+                return false;
+            }
         }
     }
-    Some(value)
+    true
 }
 
-/// The term that the right side of Next spells, over that variable.
-fn read_right(variable: &[u8], text: &[u8]) -> Option<Term>
-    requires { length variable.now ≤ 1048576 }
-    ensures { MatchOption result ((t : Term) → ¬ IsRight variable.now t text.now) (λ t. IsRight variable.now t text.now) }
+/// The initial values of the variables.
+fn read_init(alloc: Global, names: &Names, text: &[u8]) -> Result<Option<State>, AllocError>
+    requires { AreVariables names.now }
+    ensures { IfOk result (λ o. MatchOption o ((values : List Val) → ¬ IsInit names.now values text.now)
+        (λ values. IsInit names.now values text.now)) }
 {
-    if text == variable {
-        return Some(Term::Atom(Atom::Variable));
+    let Some(settings) = read_settings(alloc, names, text)? else {
+        return Ok(None);
+    };
+    let mut values = Vec::new(alloc);
+    for variable in 0..names.len() {
+        let Some(number) = only_value(&settings, variable) else {
+            return Ok(None);
+        };
+        values.push(Value::int(number))?;
     }
-    if let Some(number) = read_number(text) {
-        return Some(Term::Atom(Atom::Number(number)));
-    }
-    let at = operator_place(variable);
-    if let Some(number) = read_operand(variable, b" + ", text) {
-        return Some(Term::Add(Atom::Variable, Atom::Number(number), at));
-    }
-    let number = read_operand(variable, b" - ", text)?;
-    Some(Term::Subtract(Atom::Variable, Atom::Number(number), at))
+    Ok(Some(State::new(values)))
 }
 
-/// The number behind the variable and an operator.
-fn read_operand(variable: &[u8], operator: &[u8], text: &[u8]) -> Option<i64>
-    ensures { MatchOption result ((z : ℤ) → ¬ ((ds : List ℕ) × IsNumeral ds z × (text.now ≡ variable.now ++ (operator.now ++ ds))))
-        (λ z. (ds : List ℕ) × IsNumeral ds z × (text.now ≡ variable.now ++ (operator.now ++ ds))) }
+/// The variables and numbers of a list of conjuncts `x = n`.
+fn read_settings(
+    alloc: Global,
+    names: &Names,
+    text: &[u8],
+) -> Result<Option<Vec<(u16, i64)>>, AllocError>
+    requires { AreVariables names.now }
+    ensures { IfOk result (λ o. MatchOption o ((settings : List (ℕ × ℤ)) → ¬ Listed (IsSetting names.now) (codes " /\\ ") 8 settings text.now)
+        (λ settings. Listed (IsSetting names.now) (codes " /\\ ") 8 settings.items text.now
+        × ((others : List (ℕ × ℤ)) → Listed (IsSetting names.now) (codes " /\\ ") 8 others text.now → others ≡ settings.items))) }
 {
-    let behind_variable = behind(text, variable)?;
-    let digits = behind(behind_variable, operator)?;
-    read_number(digits)
+    let mut settings = Vec::new(alloc);
+    let mut rest = text;
+    'pieces: while let Some((piece, others)) = cut(rest, b" ", b"/\\ ") {
+        let Some(setting) = read_setting(names, piece) else {
+            return Ok(None);
+        };
+        settings.push(setting)?;
+        rest = others;
+    }
+    let Some(setting) = read_setting(names, rest) else {
+        return Ok(None);
+    };
+    settings.push(setting)?;
+    Ok(Some(settings))
 }
 
-/// The place of the operator behind `Next == `, the primed variable, ` = ` and the variable.
-fn operator_place(variable: &[u8]) -> Place
-    requires { length variable.now ≤ 1048576 }
-    ensures { result ≡ operator_place variable.now }
+/// The number that the settings give that variable, if exactly one does.
+fn only_value(settings: &[(u16, i64)], variable: usize) -> Option<i64>
+    ensures { MatchOption result (count_by (λ s. s.0 == variable) settings.now ≢ 1)
+        (λ z. (count_by (λ s. s.0 == variable) settings.now ≡ 1)
+        × ((k : ℕ) × (slice_get settings.now k ≡ Some (variable, z)))) }
 {
-    Place {
-        file: 0,
-        line: 5,
-        col: 14 + 2 * variable.len() as u32,
+    let count = settings
+        .iter()
+        .filter(|s| usize::from(s.0) == variable)
+        .count();
+    if count != 1 {
+        return None;
+    }
+    for setting in settings {
+        if usize::from(setting.0) == variable {
+            return Some(setting.1);
+        }
+    }
+    None
+}
+
+/// The conjuncts of the next-state action.
+fn read_next(alloc: Global, names: &Names, text: &[u8]) -> Result<Option<Conjuncts>, AllocError>
+    requires names { AreVariables names.now }
+    requires short { length text.now ≤ 1048576 }
+    ensures { IfOk result (λ o. MatchOption o ((next : List Conjunct) → ¬ IsNext names.now next text.now)
+        (λ next. IsNext names.now next text.now)) }
+{
+    let Some(conjuncts) = read_conjuncts(alloc, names, text)? else {
+        return Ok(None);
+    };
+    if conjuncts.len() > MAX_CONJUNCTS {
+        return Ok(None);
+    }
+    if !are_bound_once(conjuncts.items(), names.len()) {
+        return Ok(None);
+    }
+    Ok(Some(conjuncts))
+}
+
+/// The conjuncts of a list of them.
+fn read_conjuncts(
+    alloc: Global,
+    names: &Names,
+    text: &[u8],
+) -> Result<Option<Conjuncts>, AllocError>
+    requires names { AreVariables names.now }
+    requires short { length text.now ≤ 1048576 }
+    ensures { IfOk result (λ o. IsOnly (λ next. Listed (IsConjunct names.now) (codes " /\\ ") 8 next text.now) o) }
+{
+    let mut conjuncts = Conjuncts::new(alloc);
+    let mut rest = text;
+    let mut before = 8u32;
+    'pieces: while let Some((piece, others)) = cut(rest, b" ", b"/\\ ") {
+        let Some(conjunct) = read_conjunct(names, before, piece) else {
+            return Ok(None);
+        };
+        conjuncts.push(conjunct)?;
+        before += piece.len() as u32 + 4;
+        rest = others;
+    }
+    let Some(conjunct) = read_conjunct(names, before, rest) else {
+        return Ok(None);
+    };
+    conjuncts.push(conjunct)?;
+    Ok(Some(conjuncts))
+}
+
+/// Whether for each of the first variables exactly one conjunct says what becomes of it.
+fn are_bound_once(conjuncts: &[Conjunct], variables: usize) -> bool
+    ensures { IsTrue result ↔ ((x : ℕ) → x < variables → count_by (binds x) conjuncts.now ≡ 1) }
+{
+    for variable in 0..variables {
+        if count_bindings(conjuncts, variable) != 1 {
+            return false;
+        }
+    }
+    true
+}
+
+/// How many conjuncts say what becomes of that variable.
+fn count_bindings(conjuncts: &[Conjunct], variable: usize) -> usize
+    ensures { result ≡ count_by (binds variable) conjuncts.now }
+{
+    conjuncts.iter().filter(|c| binds(c, variable)).count()
+}
+
+/// Whether the conjunct says what becomes of that variable.
+fn binds(conjunct: &Conjunct, variable: usize) -> bool
+    ensures { result ≡ binds variable conjunct.now }
+{
+    match conjunct {
+        Conjunct::Less(_, _) | Conjunct::Equal(_, _) => false,
+        Conjunct::Becomes(x, _) => usize::from(x.0) == variable,
+        Conjunct::Unchanged(x) => usize::from(x.0) == variable,
     }
 }
 
@@ -241,120 +310,204 @@ fn operator_place(variable: &[u8]) -> Place
 mod tests {
     use super::*;
     use std::test::Fail;
+    use tla_core::{Atom, Term, VarId};
+    use trace_base::Place;
 
-    fn module_text(
+    fn read(
         alloc: Global,
-        variable: &str,
-        init: &str,
-        next: &str,
+        name: &str,
+        lines: (&str, &str, &str),
         end: &str,
-    ) -> Result<String, AllocError> {
-        format!(in alloc;
-            "---- MODULE M ----\nEXTENDS Integers\nVARIABLE {variable}\nInit == {init}\nNext == {next}\n===={end}"
-        )
-    }
-
-    fn read(alloc: Global, name: &str, text: &str) -> Result<Option<Spec>, AllocError> {
+    ) -> Result<Option<Spec>, AllocError> {
+        let (declaration, init, next) = lines;
+        let text = format!(in alloc;
+            "---- MODULE M ----\nEXTENDS Integers\n{declaration}\nInit == {init}\nNext == {next}\n===={end}"
+        )?;
         if text.len() > 1_048_576 {
             return Ok(None);
         }
-        read_module(alloc, name.as_bytes(), text.as_bytes())
+        read_module(alloc, name.as_bytes(), text.as_str().as_bytes())
     }
 
-    fn is_spec(found: Option<Spec>, variable: &str, init: i64, next: Term) -> bool {
-        match found {
-            Some(spec) => spec.variable.as_str() == variable
-                && spec.init == init
-                && spec.next == next,
-            None => false,
+    fn is_spec(found: Option<Spec>, variables: &[&str], init: &[i64], next: &[Conjunct]) -> bool {
+        let Some(spec) = found else {
+            return false;
+        };
+        let names = spec.variables.items();
+        let values = spec.init.values();
+        if names.len() != variables.len() || values.len() != init.len() {
+            return false;
         }
+        for index in 0..names.len() {
+            if names[index].as_str() != variables[index] {
+                return false;
+            }
+        }
+        for index in 0..values.len() {
+            if values[index].as_int() != Some(init[index]) {
+                return false;
+            }
+        }
+        spec.next.items() == next
+    }
+
+    fn listed(
+        alloc: Global,
+        before: &str,
+        between: &str,
+        behind: &str,
+        count: u32,
+    ) -> Result<String, AllocError> {
+        let mut text = String::new(alloc);
+        for number in 0..count {
+            if number > 0 {
+                text.push_str(between)?;
+            }
+            let piece = format!(in alloc; "{before}{number}{behind}")?;
+            text.push_str(piece.as_str())?;
+        }
+        Ok(text)
     }
 
     #[test]
     fn modules_are_read(rt: HostRuntime) -> Result<(), Fail> {
         let alloc = rt.alloc();
+        let x = Atom::Variable(VarId(0));
+        let y = Atom::Variable(VarId(1));
         let at = |col: u32| Place {
             file: 0,
             line: 5,
             col,
         };
-        let taken = [
-            ("x", "x = 0", "x' = x", "", 0, Term::Atom(Atom::Variable)),
-            ("x", "x = 7", "x' = 0", "\n", 7, Term::Atom(Atom::Number(0))),
-            (
-                "x",
-                "x = 1000000000",
-                "x' = x + 1",
-                "",
-                1_000_000_000,
-                Term::Add(Atom::Variable, Atom::Number(1), at(16)),
-            ),
-            (
-                "Inits",
-                "Inits = 007",
-                "Inits' = Inits - 10",
-                "\n",
-                7,
-                Term::Subtract(Atom::Variable, Atom::Number(10), at(24)),
-            ),
-            (
-                "_a1",
-                "_a1 = 0000000000000000000",
-                "_a1' = 1000000000",
-                "",
-                0,
-                Term::Atom(Atom::Number(1_000_000_000)),
-            ),
-        ];
-        for (variable, init, next, end, number, term) in taken {
-            let text = module_text(alloc, variable, init, next, end)?;
-            assert!(rt;
-                is_spec(read(alloc, "M", text.as_str())?, variable, number, term),
-                "{text}"
-            );
-            assert!(rt; read(alloc, "N", text.as_str())?.is_none(), "{text}");
-        }
-        let refused = [
-            ("x, y", "x = 0", "x' = x", ""),
-            ("x ", "x = 0", "x' = x", ""),
-            ("Init", "Init = 0", "Init' = 1", ""),
-            ("Nat", "Nat = 0", "Nat' = 1", ""),
-            ("LET", "LET = 0", "LET' = 1", ""),
-            ("1x", "1x = 0", "1x' = 1", ""),
-            ("x", "y = 0", "x' = x", ""),
-            ("x", "x = 1000000001", "x' = x", ""),
-            ("x", "x = 00000000000000000000", "x' = x", ""),
-            ("x", "x = -1", "x' = x", ""),
-            ("x", "x = ", "x' = x", ""),
-            ("x", "x = 0\r", "x' = x", ""),
-            ("x", "x = 0", "x' \\in 1..3", ""),
-            ("x", "x = 0", "y' = x", ""),
-            ("x", "x = 0", "x' = y", ""),
-            ("x", "x = 0", "x' = 1 + x", ""),
-            ("x", "x = 0", "x' = x + x", ""),
-            ("x", "x = 0", "x' = x+1", ""),
-            ("x", "x = 0", "x' = x * 2", ""),
-            ("x", "x = 0", "x' = x + 1000000001", ""),
-            ("x", "x = 0", "x' = x - 1 ", ""),
-            ("x", "x = 0", "x' = ", ""),
-            ("x", "x = 0", "x' = x", " "),
-            ("x", "x = 0", "x' = x", "="),
-            ("x", "x = 0", "x' = x", "\r\n"),
-            ("x", "x = 0", "x' = x", "\n\n"),
-        ];
-        for (variable, init, next, end) in refused {
-            let text = module_text(alloc, variable, init, next, end)?;
-            assert!(rt; read(alloc, "M", text.as_str())?.is_none(), "{text}");
-        }
-        assert!(rt;
-            read(
-                alloc,
-                "M",
-                "---- MODULE M ----\nEXTENDS Integers\nVARIABLE x\nInit == x = 0\nNext == x' = x\n"
-            )?
-            .is_none()
+        let one = ("VARIABLE x", "x = 0", "x' = x");
+        let stays = [Conjunct::Becomes(VarId(0), Term::Atom(x))];
+        assert!(rt; is_spec(read(alloc, "M", one, "")?, &["x"], &[0], &stays));
+        assert!(rt; is_spec(read(alloc, "M", one, "\n")?, &["x"], &[0], &stays));
+        assert!(rt; read(alloc, "N", one, "")?.is_none());
+        let two = (
+            "VARIABLES x, y",
+            "y = 2 /\\ x = 1",
+            "x < y + 1 /\\ x' = y - x /\\ 1 = x /\\ UNCHANGED y",
         );
-        assert!(rt; read(alloc, "M", "")?.is_none());
+        let all = [
+            Conjunct::Less(Term::Atom(x), Term::Add(y, Atom::Number(1), at(15))),
+            Conjunct::Becomes(VarId(0), Term::Subtract(y, x, at(29))),
+            Conjunct::Equal(Term::Atom(Atom::Number(1)), Term::Atom(x)),
+            Conjunct::Unchanged(VarId(1)),
+        ];
+        assert!(rt; is_spec(read(alloc, "M", two, "")?, &["x", "y"], &[1, 2], &all));
+        let numbers = (
+            "VARIABLE Inits",
+            "Inits = 9223372036854775807",
+            "Inits' = 1 + 0000000000000000002",
+        );
+        let sum = [Conjunct::Becomes(
+            VarId(0),
+            Term::Add(Atom::Number(1), Atom::Number(2), at(20)),
+        )];
+        assert!(rt;
+            is_spec(
+                read(alloc, "M", numbers, "")?,
+                &["Inits"],
+                &[i64::MAX],
+                &sum
+            )
+        );
+        for (variables, accepted) in [(2u32, true), (64, true), (65, false)] {
+            let names = listed(alloc, "v", ", ", "", variables)?;
+            let declaration = format!(in alloc; "VARIABLES {names}")?;
+            let init = listed(alloc, "v", " /\\ ", " = 7", variables)?;
+            let next = listed(alloc, "UNCHANGED v", " /\\ ", "", variables)?;
+            let lines = (declaration.as_str(), init.as_str(), next.as_str());
+            assert!(rt;
+                read(alloc, "M", lines, "")?.is_some() == accepted,
+                "{declaration}"
+            );
+        }
+        for (tests, accepted) in [(0u32, true), (99, true), (100, false)] {
+            let next = listed(alloc, "", "", " < x /\\ ", tests)?;
+            let next = format!(in alloc; "{next}x' = x")?;
+            let lines = ("VARIABLE x", "x = 0", next.as_str());
+            assert!(rt;
+                read(alloc, "M", lines, "")?.is_some() == accepted,
+                "{next}"
+            );
+        }
+        Ok(())
+    }
+
+    #[test]
+    fn other_texts_are_refused(rt: HostRuntime) -> Result<(), Fail> {
+        let alloc = rt.alloc();
+        let refused = [
+            ("VARIABLES x", "x = 0", "x' = x", ""),
+            (
+                "VARIABLE x, y",
+                "x = 0 /\\ y = 0",
+                "x' = x /\\ UNCHANGED y",
+                "",
+            ),
+            (
+                "VARIABLES x, x",
+                "x = 0 /\\ x = 0",
+                "x' = x /\\ UNCHANGED x",
+                "",
+            ),
+            ("VARIABLES x, x", "x = 0", "x' = x", ""),
+            (
+                "VARIABLES x,y",
+                "x = 0 /\\ y = 0",
+                "x' = x /\\ UNCHANGED y",
+                "",
+            ),
+            (
+                "VARIABLES x, y, ",
+                "x = 0 /\\ y = 0",
+                "x' = x /\\ UNCHANGED y",
+                "",
+            ),
+            ("VARIABLES x, y", "x = 0", "x' = x /\\ UNCHANGED y", ""),
+            ("VARIABLES x, y", "x = 0 /\\ y = 0", "x' = x", ""),
+            ("VARIABLE Init", "Init = 0", "Init' = 1", ""),
+            ("VARIABLE LET", "LET = 0", "LET' = 1", ""),
+            ("VARIABLE x ", "x = 0", "x' = x", ""),
+            ("VARIABLE x", "y = 0", "x' = x", ""),
+            ("VARIABLE x", "x = 9223372036854775808", "x' = x", ""),
+            ("VARIABLE x", "x = 00000000000000000000", "x' = x", ""),
+            ("VARIABLE x", "x = -1", "x' = x", ""),
+            ("VARIABLE x", "x = 0 /\\ x = 0", "x' = x", ""),
+            ("VARIABLE x", "x = 0\r", "x' = x", ""),
+            ("VARIABLE x", "", "x' = x", ""),
+            ("VARIABLE x", "x = 0", "x' \\in 1..3", ""),
+            ("VARIABLE x", "x = 0", "x' = y", ""),
+            ("VARIABLE x", "x = 0", "x' = x'", ""),
+            ("VARIABLE x", "x = 0", "x' = 1 + 2 + 3", ""),
+            ("VARIABLE x", "x = 0", "x' = x+1", ""),
+            ("VARIABLE x", "x = 0", "x' = x * 2", ""),
+            ("VARIABLE x", "x = 0", "x' = ", ""),
+            ("VARIABLE x", "x = 0", "x' = x - 1 ", ""),
+            ("VARIABLE x", "x = 0", "x < 1", ""),
+            ("VARIABLE x", "x = 0", "x' = 1 /\\ UNCHANGED x", ""),
+            ("VARIABLE x", "x = 0", "x' = x /\\ ", ""),
+            ("VARIABLE x", "x = 0", "x' = x /\\", ""),
+            ("VARIABLE x", "x = 0", "x' = x /\\ x <1", ""),
+            ("VARIABLE x", "x = 0", "x' = x /\\ x = 1 = 1", ""),
+            ("VARIABLE x", "x = 0", "UNCHANGED y", ""),
+            ("VARIABLE x", "x = 0", "UNCHANGED  x", ""),
+            ("VARIABLE x", "x = 0", "UNCHANGED x = 0", ""),
+            ("VARIABLE x", "x = 0", "x' = x", " "),
+            ("VARIABLE x", "x = 0", "x' = x", "="),
+            ("VARIABLE x", "x = 0", "x' = x", "\r\n"),
+            ("VARIABLE x", "x = 0", "x' = x", "\n\n"),
+        ];
+        for (declaration, init, next, end) in refused {
+            let lines = (declaration, init, next);
+            assert!(rt;
+                read(alloc, "M", lines, end)?.is_none(),
+                "{declaration} {init} {next}"
+            );
+        }
+        assert!(rt; read_module(alloc, b"M", b"")?.is_none());
         Ok(())
     }
 }

@@ -1,31 +1,32 @@
-ghost use Rattle.std.specs.Prelude.{◌≡◌, ◌++◌, codes, OnOk, string_bytes};
-ghost use Rattle.trace_cli.specs.Report.{kind_text, place_text, layer_text, state_text, states_text, before_text, behind_text, faulty_text, value_text};
+ghost use Rattle.std.specs.Prelude.{◌≡◌, ◌++◌, OnOk, string_bytes};
+ghost use Rattle.trace_cli.specs.Report.{kind_text, place_text, layer_text, field_text, fields_text, more_text, state_text, states_text, before_text, behind_text, faulty_text, value_text};
 
+use crate::eval::read_variable;
+use crate::fields::Field;
 use std::alloc::AllocError;
-use tla_core::{Behaviour, EvalKind, Mark, Shown, State};
-use tla_values::Value;
+use tla_core::{Behaviour, EvalKind, Mark, Shown, State, VarId};
 use trace_base::{LineAt, Place};
 
 /// Adds the lines of states.
 pub fn push_states(
     text: &mut String,
-    variable: &str,
+    fields: &[Field],
     behaviour: &Behaviour,
 ) -> Result<(), AllocError>
-    ensures { OnOk result (string_bytes text.new ≡ string_bytes text.old ++ states_text variable.now behaviour.now) }
+    ensures { OnOk result (string_bytes text.new ≡ string_bytes text.old ++ states_text fields.now behaviour.now) }
 {
     for shown in behaviour.items() {
-        push_shown(text, variable, shown)?;
+        push_shown(text, fields, shown)?;
     }
     Ok(())
 }
 
-fn push_shown(text: &mut String, variable: &str, shown: &Shown) -> Result<(), AllocError>
+fn push_shown(text: &mut String, fields: &[Field], shown: &Shown) -> Result<(), AllocError>
     ensures { OnOk result (string_bytes text.new ≡ string_bytes text.old
-        ++ (before_text shown.now.mark ++ state_text variable.now shown.now.state ++ behind_text shown.now.mark)) }
+        ++ (before_text shown.now.mark ++ state_text fields.now shown.now.state ++ behind_text shown.now.mark)) }
 {
     push_before(text, shown.mark)?;
-    push_state(text, variable, &shown.state)?;
+    push_state(text, fields, &shown.state)?;
     push_behind(text, shown.mark)
 }
 
@@ -57,39 +58,60 @@ fn push_behind(text: &mut String, mark: Mark) -> Result<(), AllocError>
     })
 }
 
-fn push_state(text: &mut String, variable: &str, state: &State) -> Result<(), AllocError>
-    ensures { OnOk result (string_bytes text.new ≡ string_bytes text.old ++ state_text variable.now state.now) }
+fn push_state(text: &mut String, fields: &[Field], state: &State) -> Result<(), AllocError>
+    ensures { OnOk result (string_bytes text.new ≡ string_bytes text.old ++ state_text fields.now state.now) }
 {
-    match state.values() {
-        [] => Ok(()),
-        [value, ..] => push_field(text, variable, value),
-    }
-}
-
-fn push_field(text: &mut String, variable: &str, value: &Value) -> Result<(), AllocError>
-    ensures { OnOk result (string_bytes text.new ≡ string_bytes text.old
-        ++ (codes "{\"" ++ variable.now ++ codes "\":" ++ value_text value.now ++ codes "}")) }
-{
-    write!(text, "{{\"{variable}\":")?;
-    push_value(text, value)?;
+    text.push_str("{")?;
+    push_fields(text, fields, state)?;
     text.push_str("}")
 }
 
-fn push_value(text: &mut String, value: &Value) -> Result<(), AllocError>
-    ensures { OnOk result (string_bytes text.new ≡ string_bytes text.old ++ value_text value.now) }
+fn push_fields(text: &mut String, fields: &[Field], state: &State) -> Result<(), AllocError>
+    ensures { OnOk result (string_bytes text.new ≡ string_bytes text.old ++ fields_text fields.now state.now) }
 {
-    match value.as_int() {
+    match fields {
+        [] => Ok(()),
+        [first, rest @ ..] => {
+            push_field(text, first, state)?;
+            push_more(text, rest, state)
+        }
+    }
+}
+
+fn push_more(text: &mut String, fields: &[Field], state: &State) -> Result<(), AllocError>
+    ensures { OnOk result (string_bytes text.new ≡ string_bytes text.old ++ more_text fields.now state.now) }
+{
+    for field in fields {
+        text.push_str(",")?;
+        push_field(text, field, state)?;
+    }
+    Ok(())
+}
+
+fn push_field(text: &mut String, field: &Field, state: &State) -> Result<(), AllocError>
+    ensures { OnOk result (string_bytes text.new ≡ string_bytes text.old ++ field_text field.now state.now) }
+{
+    text.push_str("\"")?;
+    text.push_str(field.name.as_str())?;
+    text.push_str("\":")?;
+    push_value(text, field.variable, state)
+}
+
+fn push_value(text: &mut String, variable: VarId, state: &State) -> Result<(), AllocError>
+    ensures { OnOk result (string_bytes text.new ≡ string_bytes text.old ++ value_text variable state.now) }
+{
+    match read_variable(variable, state) {
         Some(number) => write!(text, "{number}"),
         None => Ok(()),
     }
 }
 
 /// Adds the line of a state at which an evaluation faults.
-pub fn push_faulty(text: &mut String, variable: &str, state: &State) -> Result<(), AllocError>
-    ensures { OnOk result (string_bytes text.new ≡ string_bytes text.old ++ faulty_text variable.now state.now) }
+pub fn push_faulty(text: &mut String, fields: &[Field], state: &State) -> Result<(), AllocError>
+    ensures { OnOk result (string_bytes text.new ≡ string_bytes text.old ++ faulty_text fields.now state.now) }
 {
     text.push_str("{\"state\":")?;
-    push_state(text, variable, state)?;
+    push_state(text, fields, state)?;
     text.push_str(",\"step\":\"fault\"}\n")
 }
 

@@ -1,19 +1,30 @@
-ghost use Rattle.std.specs.Prelude.{◌≤◌, length};
+ghost use Rattle.std.specs.Prelude.{◌≡◌, ◌≤◌, ◌∷◌, [], length, IfOk};
+ghost use Rattle.trace_cli.specs.Evaluates.{BindsEach};
 
-use crate::eval::evaluate;
 use crate::log::Line;
-use crate::seen::{is_seen, state_of};
+use crate::next::next_state;
+use crate::seen::is_seen;
 use state_layers::{StepFault, Steps};
-use std::alloc::Global;
+use std::alloc::{AllocError, Global};
 use tla_core::{Spec, State, StateList};
 use trace_base::{LineAt, Place};
 
-/// A specification of one variable beside the lines of a log.
+/// A specification beside the lines of a log.
 #[derive(Clone, Copy, Drop)]
 pub struct Form<'a> {
     pub spec: &'a Spec,
     pub lines: &'a [Line],
+    ghost bound: { BindsEach spec.now },
     ghost few: { length lines.now ≤ 200000 },
+}
+
+/// The list of this state alone.
+fn only(alloc: Global, state: State) -> Result<StateList, AllocError>
+    ensures { IfOk result (λ states. states ≡ state ∷ []) }
+{
+    let mut states = StateList::new(alloc);
+    states.push(state)?;
+    Ok(states)
 }
 
 impl<'a> Steps for Form<'a> {
@@ -51,9 +62,7 @@ impl<'a> Steps for Form<'a> {
     }
 
     fn initial(&self, alloc: Global, _bound: u32) -> Result<StateList, StepFault> {
-        let mut states = StateList::new(alloc);
-        states.push(state_of(alloc, self.spec.init)?)?;
-        Ok(states)
+        Ok(only(alloc, self.spec.init.copy(alloc)?)?)
     }
 
     fn successors(
@@ -63,30 +72,21 @@ impl<'a> Steps for Form<'a> {
         state: &State,
         _bound: u32,
     ) -> Result<StateList, StepFault> {
-        let mut states = StateList::new(alloc);
-        match evaluate(self.spec.next, state) {
-            Some(Ok(value)) => {
-                let next = state_of(alloc, value)?;
+        match next_state(alloc, self.spec, state)? {
+            Some(next) => {
                 if !is_seen(&self.lines[line as usize], &next) {
-                    return Ok(states);
+                    return Ok(StateList::new(alloc));
                 }
-                states.push(next)?;
-                Ok(states)
+                Ok(only(alloc, next)?)
             }
-            Some(Err(fault)) => Err(StepFault::Eval(fault)),
-            None => Ok(states),
+            None => Ok(StateList::new(alloc)),
         }
     }
 
     fn silent(&self, alloc: Global, state: &State, _bound: u32) -> Result<StateList, StepFault> {
-        let mut states = StateList::new(alloc);
-        match evaluate(self.spec.next, state) {
-            Some(Ok(value)) => {
-                states.push(state_of(alloc, value)?)?;
-                Ok(states)
-            }
-            Some(Err(fault)) => Err(StepFault::Eval(fault)),
-            None => Ok(states),
+        match next_state(alloc, self.spec, state)? {
+            Some(next) => Ok(only(alloc, next)?),
+            None => Ok(StateList::new(alloc)),
         }
     }
 

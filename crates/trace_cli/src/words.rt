@@ -98,7 +98,7 @@ fn module_name(word: &[u8]) -> Option<&[u8]>
 }
 
 /// What stands before a back.
-fn before<'a>(text: &'a [u8], back: &[u8]) -> Option<&'a [u8]>
+pub fn before<'a>(text: &'a [u8], back: &[u8]) -> Option<&'a [u8]>
     ensures { MatchOption result ((front : List ℕ) → text.now ≢ front ++ back.now) (λ r. text.now ≡ r.now ++ back.now) }
 {
     text.strip_suffix(back)

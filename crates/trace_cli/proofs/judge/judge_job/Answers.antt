@@ -1,4 +1,4 @@
-use Rattle.std.proofs.Common.{◌≡◌, ◌≤◌, ap, Err, length, arith}
+use Rattle.std.proofs.Common.{ap, Err}
 use Rattle.trace_cli.specs.Run.{no_module, long_module}
 use Rattle.trace_cli.proofs.JudgeLemmas.{calls_refused, calls_earlier}
 use Rattle.trace_cli.proofs.judge.judge_job.Goals as goal

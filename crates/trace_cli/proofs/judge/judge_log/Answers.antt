@@ -1,4 +1,3 @@
-use Rattle.std.proofs.Common.{◌≡◌}
 use Rattle.trace_cli.proofs.JudgeLemmas.{says_answered, says_refused}
 use Rattle.trace_cli.proofs.judge.judge_log.Goals as goal
 

@@ -1,4 +1,4 @@
-use Rattle.std.proofs.Common.{◌≡◌, ◌≤◌, ap, Err, length, arith}
+use Rattle.std.proofs.Common.{ap, Err, arith}
 use Rattle.trace_cli.specs.Run.{no_log, long_log}
 use Rattle.trace_cli.proofs.JudgeLemmas.{calls_refused, calls_said}
 use Rattle.trace_cli.proofs.judge.judge_spec.Goals as goal

@@ -1,71 +1,54 @@
 use Rattle.std.proofs.lemmas.Bool.{iff_false}
-use Rattle.trace_cli.proofs.ModuleLemmas.{no_head, no_init, no_next, no_end, variable_of, initial_of, whole_of, lines_of}
+use Rattle.trace_cli.proofs.ModuleLemmas.{first_cut, lines_of, same_end, second_cut, third_cut, whole_cut}
 use Rattle.trace_cli.proofs.module.cut_lines.Goals as goal
 
-pub returns-in_err-first : goal.returns-in_err-first
-returns-in_err-first c =
-    rw c.from_residual.ensures (record { cut = no_head c.args.name.now c.args.text.now c.in_err-first.ensures; only = tt })
+pub returns-in_err-lines : goal.returns-in_err-lines
+returns-in_err-lines c =
+    rw c.from_residual.ensures (record { cut = λ d i n m. c.in_err-lines.ensures _ m.lines; only = tt })
 
-pub returns-in_err-second : goal.returns-in_err-second
-returns-in_err-second c =
-    let name = c.args.name.now in
-    let text = c.args.text.now in
-    let s = c.split_at in
-    let first = variable_of name text c.in_ok-first.first.now c.in_ok-first.ensures c.name_len.result s.result.0.now s.result.1.now
-    c.name_len.ensures.len s.ensures.front s.ensures.back in
-    rw c.from_residual-in_err-second.ensures
-    (record { cut = no_init name text s.result.0.now s.result.1.now first c.in_err-second.ensures; only = tt })
+pub returns-in_err-declaration : goal.returns-in_err-declaration
+returns-in_err-declaration c =
+    rw c.from_residual-in_err-declaration.ensures (record {
+      cut = λ d i n m. c.in_err-declaration.ensures d _ (first_cut c.args.name.now c.args.text.now c.in_ok-lines.lines.now d i n c.in_ok-lines.ensures m);
+      only = tt;
+    })
 
-pub returns-in_err-third : goal.returns-in_err-third
-returns-in_err-third c =
-    let name = c.args.name.now in
-    let text = c.args.text.now in
-    let s = c.split_at in
-    let t = c.split_at-2 in
-    let first = variable_of name text c.in_ok-first.first.now c.in_ok-first.ensures c.name_len.result s.result.0.now s.result.1.now
-    c.name_len.ensures.len s.ensures.front s.ensures.back in
-    let second = initial_of name text s.result.0.now s.result.1.now c.in_ok-second.second.now first c.in_ok-second.ensures
-    c.digits_len.result t.result.0.now t.result.1.now c.digits_len.ensures.len t.ensures.front t.ensures.back in
-    rw c.from_residual-in_err-third.ensures
-    (record { cut = no_next name text s.result.0.now t.result.0.now t.result.1.now second c.in_err-third.ensures; only = tt })
+pub returns-in_err-init : goal.returns-in_err-init
+returns-in_err-init c =
+    rw c.from_residual-in_err-init.ensures (record {
+      cut = λ d i n m. c.in_err-init.ensures i _ (second_cut c.args.name.now c.args.text.now c.in_ok-lines.lines.now
+          c.in_ok-declaration.declaration.now c.in_ok-declaration.second.now d i n c.in_ok-lines.ensures c.in_ok-declaration.ensures m).1;
+      only = tt;
+    })
+
+pub returns-in_err-next : goal.returns-in_err-next
+returns-in_err-next c =
+    rw c.from_residual-in_err-next.ensures (record {
+      cut = λ d i n m. c.in_err-next.ensures n _ (third_cut c.args.name.now c.args.text.now c.in_ok-lines.lines.now
+          c.in_ok-declaration.declaration.now c.in_ok-declaration.second.now c.in_ok-init.init.now c.in_ok-init.third.now d i n
+          c.in_ok-lines.ensures c.in_ok-declaration.ensures c.in_ok-init.ensures m).2;
+      only = tt;
+    })
 
 pub returns-then-is_end : goal.returns-then-is_end
-returns-then-is_end c =
-    let name = c.args.name.now in
-    let text = c.args.text.now in
-    let s = c.split_at in
-    let t = c.split_at-2 in
-    let u = c.split_at-3 in
-    let first = variable_of name text c.in_ok-first.first.now c.in_ok-first.ensures c.name_len.result s.result.0.now s.result.1.now
-    c.name_len.ensures.len s.ensures.front s.ensures.back in
-    let second = initial_of name text s.result.0.now s.result.1.now c.in_ok-second.second.now first c.in_ok-second.ensures
-    c.digits_len.result t.result.0.now t.result.1.now c.digits_len.ensures.len t.ensures.front t.ensures.back in
-    let third = whole_of name text s.result.0.now t.result.0.now t.result.1.now c.in_ok-third.third.now second c.in_ok-third.ensures
-    c.line_len.result u.result.0.now u.result.1.now c.line_len.ensures.len u.ensures.front u.ensures.back in
-    record {
-      cut = lines_of name text s.result.0.now s.result.1.now t.result.0.now t.result.1.now u.result.0.now u.result.1.now
-          c.in_ok-first.first.now c.in_ok-second.second.now c.in_ok-third.third.now
-          c.in_ok-first.ensures c.name_len.result c.name_len.ensures.len s.ensures.front s.ensures.back
-          c.in_ok-second.ensures c.digits_len.result c.digits_len.ensures.len t.ensures.front t.ensures.back
-          c.in_ok-third.ensures c.line_len.result c.line_len.ensures.len u.ensures.front u.ensures.back
-          (c.is_end.ensures.0 c.if-is_end.true);
-      only = λ x init right m. let k = third x init right m in (k.0, k.1, k.2);
-    }
+returns-then-is_end c = record {
+  cut = lines_of c.args.name.now c.args.text.now c.in_ok-lines.lines.now
+      c.in_ok-declaration.declaration.now c.in_ok-declaration.second.now c.in_ok-init.init.now c.in_ok-init.third.now
+      c.in_ok-next.next.now c.in_ok-next.end.now c.in_ok-lines.ensures c.in_ok-declaration.ensures c.in_ok-init.ensures c.in_ok-next.ensures
+      (c.is_end.ensures.0 c.if-is_end.true);
+  only = λ d i n m.
+      let k = whole_cut c.args.name.now c.args.text.now c.in_ok-lines.lines.now
+      c.in_ok-declaration.declaration.now c.in_ok-declaration.second.now c.in_ok-init.init.now c.in_ok-init.third.now
+      c.in_ok-next.next.now c.in_ok-next.end.now d i n c.in_ok-lines.ensures c.in_ok-declaration.ensures c.in_ok-init.ensures c.in_ok-next.ensures m in
+      (k.0, k.1, k.2);
+}
 
 pub returns-else-is_end : goal.returns-else-is_end
-returns-else-is_end c =
-    let name = c.args.name.now in
-    let text = c.args.text.now in
-    let s = c.split_at in
-    let t = c.split_at-2 in
-    let u = c.split_at-3 in
-    let first = variable_of name text c.in_ok-first.first.now c.in_ok-first.ensures c.name_len.result s.result.0.now s.result.1.now
-    c.name_len.ensures.len s.ensures.front s.ensures.back in
-    let second = initial_of name text s.result.0.now s.result.1.now c.in_ok-second.second.now first c.in_ok-second.ensures
-    c.digits_len.result t.result.0.now t.result.1.now c.digits_len.ensures.len t.ensures.front t.ensures.back in
-    let third = whole_of name text s.result.0.now t.result.0.now t.result.1.now c.in_ok-third.third.now second c.in_ok-third.ensures
-    c.line_len.result u.result.0.now u.result.1.now c.line_len.ensures.len u.ensures.front u.ensures.back in
-    record {
-      cut = no_end name text s.result.0.now t.result.0.now u.result.0.now u.result.1.now third (iff_false c.is_end.ensures c.if-is_end.false);
-      only = tt;
-    }
+returns-else-is_end c = record {
+  cut = λ d i n m.
+      let k = whole_cut c.args.name.now c.args.text.now c.in_ok-lines.lines.now
+      c.in_ok-declaration.declaration.now c.in_ok-declaration.second.now c.in_ok-init.init.now c.in_ok-init.third.now
+      c.in_ok-next.next.now c.in_ok-next.end.now d i n c.in_ok-lines.ensures c.in_ok-declaration.ensures c.in_ok-init.ensures c.in_ok-next.ensures m in
+      iff_false c.is_end.ensures c.if-is_end.false (same_end c.in_ok-next.end.now m.end k.3 m.end_is);
+  only = tt;
+}
