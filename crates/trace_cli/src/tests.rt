@@ -186,100 +186,109 @@ fn reports(rt: HostRuntime) -> Result<(), Fail> {
     Ok(())
 }
 
+/// The words of a call where Counter explains one line, its failing calls and its room, and what it answers.
+#[derive(Drop)]
+struct Case<'a>(&'a [&'a str], &'a [u64], usize, Status, &'a str);
+
+const CASES: [Case<'static>; 9] = [
+    Case(&[], &[], 99, Status::Words, "WORDS REFUSED\n"),
+    Case(
+        &["validate", "Counter.tla"],
+        &[],
+        99,
+        Status::Words,
+        "WORDS REFUSED\n",
+    ),
+    Case(
+        &["validate", "Counter.tla", "-c.log"],
+        &[],
+        99,
+        Status::Words,
+        "WORDS REFUSED\n",
+    ),
+    Case(
+        &["validate", "Other.tla", "c.log"],
+        &[],
+        99,
+        Status::Reading,
+        "REFUSED Missing Other.tla\n",
+    ),
+    Case(
+        &["validate", "Counter.tla", "d.log"],
+        &[],
+        99,
+        Status::Reading,
+        "REFUSED Missing d.log\n",
+    ),
+    Case(
+        &["validate", "Counter.tla", "c.log"],
+        &[1],
+        99,
+        Status::Device,
+        "",
+    ),
+    Case(
+        &["validate", "Counter.tla", "c.log"],
+        &[2],
+        99,
+        Status::Device,
+        "",
+    ),
+    Case(
+        &["validate", "Counter.tla", "c.log"],
+        &[4],
+        99,
+        Status::Device,
+        "",
+    ),
+    Case(
+        &["validate", "Counter.tla", "c.log"],
+        &[],
+        9,
+        Status::Device,
+        "EXPLAINED",
+    ),
+];
+
 #[test]
 fn words_and_files(rt: HostRuntime) -> Result<(), Fail> {
     let alloc = rt.alloc();
-    let long_module = vec![in alloc; b' '; 1_048_577]?;
-    let long_log = vec![in alloc; b'\n'; 67_108_865]?;
-    let rows: [(&[&str], &[u8], &[u8], &[u64], usize, Status, &[u8]); 10] = [
-        (
-            &[],
-            COUNTER,
-            b"{}",
-            &[],
-            99,
-            Status::Words,
-            b"WORDS REFUSED\n",
-        ),
-        (
-            &["validate", "Counter.tla"],
-            COUNTER,
-            b"{}",
-            &[],
-            99,
-            Status::Words,
-            b"WORDS REFUSED\n",
-        ),
-        (
-            &["validate", "Counter.tla", "-c.log"],
-            COUNTER,
-            b"{}",
-            &[],
-            99,
-            Status::Words,
-            b"WORDS REFUSED\n",
-        ),
-        (
-            &["validate", "Other.tla", "c.log"],
-            COUNTER,
-            b"{}",
-            &[],
-            99,
-            Status::Reading,
-            b"REFUSED Missing Other.tla\n",
-        ),
-        (
-            &["validate", "Counter.tla", "d.log"],
-            COUNTER,
-            b"{}",
-            &[],
-            99,
-            Status::Reading,
-            b"REFUSED Missing d.log\n",
-        ),
-        (
-            &VALIDATE,
-            &long_module,
-            b"{}",
-            &[],
-            99,
-            Status::Reading,
-            b"REFUSED TooLong Counter.tla\n",
-        ),
-        (
-            &VALIDATE,
-            COUNTER,
-            &long_log,
-            &[],
-            99,
-            Status::Reading,
-            b"REFUSED TooLong c.log\n",
-        ),
-        (&VALIDATE, COUNTER, b"{}", &[2], 99, Status::Device, b""),
-        (&VALIDATE, COUNTER, b"{}", &[4], 99, Status::Device, b""),
-        (
-            &VALIDATE,
-            COUNTER,
-            b"{}",
-            &[],
-            9,
-            Status::Device,
-            b"EXPLAINED",
-        ),
-    ];
-    for (words, module, log, failing, room, status, report) in rows {
-        let told = answer(
-            alloc,
-            words,
-            Given {
-                module,
-                log,
-                failing,
-                room,
-            },
-        )?;
-        assert_eq!(rt; told.0, status, "{room}");
-        assert!(rt; told.1.as_slice() == report, "{room}");
+    for Case(words, failing, room, status, report) in &CASES {
+        let given = Given {
+            module: COUNTER,
+            log: b"{}",
+            failing,
+            room: *room,
+        };
+        let told = answer(alloc, words, given)?;
+        assert_eq!(rt; told.0, *status, "{report}");
+        assert!(rt; told.1.as_slice() == report.as_bytes(), "{report}");
     }
+    Ok(())
+}
+
+#[test]
+fn long_files(rt: HostRuntime) -> Result<(), Fail> {
+    let alloc = rt.alloc();
+    let module = vec![in alloc; b' '; 1_048_577]?;
+    let given = Given {
+        module: &module,
+        log: b"{}",
+        failing: &[],
+        room: 99,
+    };
+    let told = answer(alloc, &VALIDATE, given)?;
+    assert_eq!(rt; told.0, Status::Reading);
+    assert!(rt; told.1.as_slice() == b"REFUSED TooLong Counter.tla\n".as_slice());
+    let log = vec![in alloc; b'\n'; 67_108_865]?;
+    let given = Given {
+        module: COUNTER,
+        log: &log,
+        failing: &[],
+        room: 99,
+    };
+    let told = answer(alloc, &VALIDATE, given)?;
+    assert_eq!(rt; told.0, Status::Reading);
+    assert!(rt; told.1.as_slice() == b"REFUSED TooLong c.log\n".as_slice());
     Ok(())
 }
