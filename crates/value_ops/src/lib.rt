@@ -4,7 +4,7 @@
 
 mod integers;
 
-pub use integers::{add, at_most, div, division_law, less, modulo, mul, negate, sub};
+pub use integers::{add, at_most, div, division_law, less, modulo, mul, negate, power, sub};
 
 /// In a fault, the number that stands for the whole term in place of an operand.
 const THE_TERM: u8 = 255;
