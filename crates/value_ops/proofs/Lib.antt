@@ -1,1 +1,4 @@
 pub mod Powers
+pub mod Walking
+pub mod Merging
+pub mod Listing

@@ -3,8 +3,10 @@
 #![tactic(auto)]
 
 mod integers;
+mod sets;
 
 pub use integers::{add, at_most, div, division_law, less, modulo, mul, negate, power, sub};
+pub use sets::{cardinality, intersect, minus, union};
 
 /// In a fault, the number that stands for the whole term in place of an operand.
 const THE_TERM: u8 = 255;
