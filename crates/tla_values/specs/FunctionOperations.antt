@@ -1,10 +1,8 @@
 -- What the operations on functions and sequences answer, by their pairs.
 use Rattle.std.specs.Prelude.{◌≡◌, ◌⊎◌, ◌↔◌, ℕ, ◌+◌, ◌-◌, ◌<◌, ◌≤◌, max, ℤ, pos, ◌≤ℤ◌, ◌<ℤ◌, List, [], ◌∷◌, ◌++◌, length, map, take, drop, Contains, Result, Ok, Err}
-use Rattle.std.specs.List.Sorted.{IsStrictlySortedBy}
 use Rattle.tla_values.specs.Data.{Val, function, integer, depth}
-use Rattle.tla_values.specs.Order.{val_cmp}
 use Rattle.tla_values.specs.IsValue.{IsValue, max_members, max_depth}
-use Rattle.tla_values.specs.Functions.{IsFunction, IsSequence, InDomain, HasPair, sequence_of, values_in}
+use Rattle.tla_values.specs.Functions.{HasKeyTwice, IsFunction, IsSequence, InDomain, HasPair, sequence_of, values_in}
 use Rattle.tla_values.specs.Integers.{the_term}
 use Rattle.tla_values.specs.SetOperations.{GivesSet}
 use Rattle.tla_values.specs.declared.fault.EvalKind.{EvalKind}
@@ -18,10 +16,10 @@ pub record IsFunctionWith (P : Val → Val → Type 0) (f : Val) : Type 0 where
   pub is_function : IsFunction f
   pub same : (key v : Val) → HasPair f key v ↔ P key v
 
--- more pairs than a function may have meet P
+-- more pairs than a function may have meet P, and no key comes twice
 pub record AreTooManyPairs (P : Val → Val → Type 0) : Type 0 where
   pub some : List (Val × Val)
-  pub ascending : IsStrictlySortedBy val_cmp (map (λ p. p.0) some)
+  pub once : ¬ HasKeyTwice some
   pub each : (key v : Val) → Contains some (key, v) → P key v
   pub many : max_members < length some
 

@@ -2,3 +2,4 @@ pub mod Powers
 pub mod Walking
 pub mod Merging
 pub mod Listing
+pub mod Pairs

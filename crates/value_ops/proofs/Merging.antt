@@ -10,13 +10,9 @@ use Rattle.tla_values.specs.Data.{Val}
 use Rattle.tla_values.specs.Ascending.{cons_cases, head_in, tail_in, none_in, below, not_itself}
 use Rattle.tla_values.specs.Order.{val_cmp, val_eq}
 use Rattle.tla_values.specs.OrderLaws.{val_total, val_ties, val_same, val_eq_equiv}
+use Rattle.value_ops.specs.Among.{among as has}
 use Rattle.value_ops.specs.Walk.{when, beside, merged}
 use Rattle.value_ops.specs.declared.sets.Keep.{Keep}
-
--- whether v is among the values
-abbrev pub has : List Val → Val → Bool
-has [] v = false
-has (x ∷ xs) v = cond (val_eq x v) true (has xs v)
 
 has_head : (b c : Bool) → b ≡ true → cond b true c ≡ true
 has_head true c e = refl

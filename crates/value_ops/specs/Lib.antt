@@ -1,3 +1,5 @@
 pub mod Checked
 pub mod Refusals
 pub mod Walk
+pub mod Changes
+pub mod Among

@@ -2,9 +2,11 @@
 //! whole term.
 #![tactic(auto)]
 
+mod functions;
 mod integers;
 mod sets;
 
+pub use functions::{apply_at, domain, except_one, merge, single};
 pub use integers::{add, at_most, div, division_law, less, modulo, mul, negate, power, sub};
 pub use sets::{cardinality, intersect, minus, union};
 
