@@ -120,3 +120,17 @@ Appends s v r = OnSequence 0 s (λ vs o. GivesSequence (vs ++ v ∷ []) o) r
 
 abbrev pub Concatenates : Val → Val → Result Val OpFault → Type 0
 Concatenates s t r = OnSequence 0 s (λ vs o. OnSequence 1 t (λ ws p. GivesSequence (vs ++ ws) p) o) r
+
+-- Of the values vs those from the m-th to the n-th, which count from 1: none where m is above n, and
+-- else both must count a value.
+abbrev pub GivesPart : List Val → ℤ → ℤ → Result Val OpFault → Type 0
+GivesPart vs m n r =
+    ((n <ℤ m) × GivesSequence [] r)
+    ⊎ ((from to : ℕ) × (m ≡ pos (from + 1)) × (n ≡ pos to) × (from < to) × (to ≤ length vs) × GivesSequence (drop from (take to vs)) r)
+    ⊎ ((m ≤ℤ n) × ((m <ℤ pos 1) ⊎ (pos (length vs) <ℤ n)) × (r ≡ Err (Refused BadRange the_term)))
+
+-- the first operand must be a sequence, the second and the third integers
+abbrev pub TakesPart : Val → Val → Val → Result Val OpFault → Type 0
+TakesPart s (integer m) (integer n) r = OnSequence 0 s (λ vs o. GivesPart vs m n o) r
+TakesPart s (integer m) b r = OnSequence 0 s (λ vs o. o ≡ Err (Refused NotInteger 2)) r
+TakesPart s a b r = OnSequence 0 s (λ vs o. o ≡ Err (Refused NotInteger 1)) r

@@ -3,3 +3,4 @@ pub mod Walking
 pub mod Merging
 pub mod Listing
 pub mod Pairs
+pub mod Parts

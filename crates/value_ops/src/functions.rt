@@ -1,8 +1,8 @@
 ghost use Rattle.std.specs.Prelude.{◌≡◌, ◌++◌, Contains, IfOk, MatchResult, OnOk, [], ◌∷◌, if◌then◌else◌, map};
 ghost use Rattle.tla_values.specs.FunctionOperations.{
-    AppliesAt, Excepts, GivesFunction, ListsDomain, MapsOne, Merges
+    AppliesAt, Excepts, GivesFunction, GivesValue, InExcept, ListsDomain, MapsOne, Merges
 };
-ghost use Rattle.tla_values.specs.Functions.{HasKeyTwice, IsFunction, keys_in, pairs_in};
+ghost use Rattle.tla_values.specs.Functions.{HasKeyTwice, InDomain, IsFunction, keys_in, pairs_in};
 ghost use Rattle.tla_values.specs.Order.{val_eq};
 ghost use Rattle.tla_values.specs.declared.fault.EvalKind.TheVariants.{NotFunction};
 ghost use Rattle.tla_values.specs.declared.fault.OpFault.TheVariants.{Refused};
@@ -60,13 +60,26 @@ pub fn merge(alloc: Global, f: &Value, g: &Value) -> Result<Value, OpFault>
 pub fn except_one(alloc: Global, f: &Value, key: &Value, new: Value) -> Result<Value, OpFault>
     ensures { Excepts f.now key.now new result }
 {
-    f.is_value();
     expect_function(f, 0)?;
-    if !is_in_domain(f, key) {
-        return Ok(f.copy()?);
+    if is_in_domain(f, key) {
+        return excepted(alloc, f, key, &new);
     }
-    let pairs = replace(alloc, f, key, &new)?;
+    kept(f)
+}
+
+fn excepted(alloc: Global, f: &Value, key: &Value, new: &Value) -> Result<Value, OpFault>
+    requires { InDomain key.now f.now }
+    ensures { GivesFunction (InExcept f.now key.now new.now) result }
+{
+    f.is_value();
+    let pairs = replace(alloc, f, key, new)?;
     function_from(alloc, pairs)
+}
+
+fn kept(f: &Value) -> Result<Value, OpFault>
+    ensures { GivesValue (λ v. v ≡ f.now) result }
+{
+    Ok(f.copy()?)
 }
 
 /// That the operand of this number is a function.

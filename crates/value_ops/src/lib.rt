@@ -4,10 +4,12 @@
 
 mod functions;
 mod integers;
+mod sequences;
 mod sets;
 
 pub use functions::{apply_at, domain, except_one, merge, single};
 pub use integers::{add, at_most, div, division_law, less, modulo, mul, negate, power, sub};
+pub use sequences::{append, concat, head, len_of, tail};
 pub use sets::{cardinality, intersect, minus, union};
 
 /// In a fault, the number that stands for the whole term in place of an operand.
