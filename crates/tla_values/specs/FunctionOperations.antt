@@ -1,6 +1,6 @@
 -- What the operations on functions and sequences answer, by their pairs.
-use Rattle.std.specs.Prelude.{◌≡◌, ◌⊎◌, ◌↔◌, ℕ, ◌+◌, ◌-◌, ◌<◌, ◌≤◌, max, ℤ, pos, ◌≤ℤ◌, ◌<ℤ◌, List, [], ◌∷◌, ◌++◌, length, map, take, drop, Contains, Result, Ok, Err}
-use Rattle.tla_values.specs.Data.{Val, function, integer, depth}
+use Rattle.std.specs.Prelude.{◌≡◌, ◌⊎◌, ◌↔◌, ℕ, ◌+◌, ◌-◌, ◌<◌, ◌≤◌, max, ℤ, pos, ◌≤ℤ◌, ◌<ℤ◌, List, [], ◌∷◌, ◌++◌, length, map, take, drop, Contains, Option, Some, None, Result, Ok, Err}
+use Rattle.tla_values.specs.Data.{Val, function, integer, int_of, depth}
 use Rattle.tla_values.specs.IsValue.{IsValue, max_members, max_depth}
 use Rattle.tla_values.specs.Functions.{HasKeyTwice, IsFunction, IsSequence, InDomain, HasPair, sequence_of, values_in}
 use Rattle.tla_values.specs.Integers.{the_term}
@@ -129,8 +129,11 @@ GivesPart vs m n r =
     ⊎ ((from to : ℕ) × (m ≡ pos (from + 1)) × (n ≡ pos to) × (from < to) × (to ≤ length vs) × GivesSequence (drop from (take to vs)) r)
     ⊎ ((m ≤ℤ n) × ((m <ℤ pos 1) ⊎ (pos (length vs) <ℤ n)) × (r ≡ Err (Refused BadRange the_term)))
 
--- the first operand must be a sequence, the second and the third integers
+-- the same where the bounds may be no integers, the second and the third operand
+abbrev pub GivesPartBetween : List Val → Option ℤ → Option ℤ → Result Val OpFault → Type 0
+GivesPartBetween vs (Some m) (Some n) r = GivesPart vs m n r
+GivesPartBetween vs (Some m) None r = r ≡ Err (Refused NotInteger 2)
+GivesPartBetween vs None n r = r ≡ Err (Refused NotInteger 1)
+
 abbrev pub TakesPart : Val → Val → Val → Result Val OpFault → Type 0
-TakesPart s (integer m) (integer n) r = OnSequence 0 s (λ vs o. GivesPart vs m n o) r
-TakesPart s (integer m) b r = OnSequence 0 s (λ vs o. o ≡ Err (Refused NotInteger 2)) r
-TakesPart s a b r = OnSequence 0 s (λ vs o. o ≡ Err (Refused NotInteger 1)) r
+TakesPart s m n r = OnSequence 0 s (λ vs o. GivesPartBetween vs (int_of m) (int_of n) o) r

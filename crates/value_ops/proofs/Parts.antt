@@ -1,11 +1,13 @@
 -- From a list of values to their sequence, and the values of a part.
-use Rattle.std.proofs.Common.{◌≡◌, ◌⊎◌, inl, inr, ℕ, zero, suc, ◌+◌, ◌<◌, ◌≤◌, List, [], ◌∷◌, ◌++◌, length, take, drop, Result, Ok, Err, ap, sym, ◌∙◌, subst, refl, arith, None, Some}
+use Rattle.std.proofs.Common.{◌≡◌, ◌⊎◌, inl, inr, ℕ, zero, suc, ◌+◌, ◌<◌, ◌≤◌, List, [], ◌∷◌, ◌++◌, length, map, take, drop, Result, Ok, Err, ap, sym, ◌∙◌, subst, refl, arith, None, Some}
 use Rattle.std.specs.List.{slice_get}
 use Rattle.std.proofs.lemmas.List.{take_more, take_all}
 use Rattle.std.proofs.lemmas.Option.{slice_get_within, get_or_from_slice_get, slice_get_cases}
 use Rattle.tla_values.specs.Data.{Val}
 use Rattle.tla_values.specs.Functions.{IsSequence, MakesSequence, values_in}
-use Rattle.tla_values.specs.FunctionOperations.{GivesSequence}
+use Rattle.tla_values.specs.FunctionOperations.{GivesSequence, GivesRest, GivesPart}
+use Rattle.tla_values.specs.Data.{model, truth, integer, string, set, function, entries}
+use Rattle.tla_values.specs.Sets.{count_of}
 use Rattle.tla_values.specs.declared.value.ValueFault.{ValueFault}
 use Rattle.tla_values.specs.declared.value.ValueFault.TheVariants.{KeyTwice, TooLarge as LargeValue, TooDeep as DeepValue, NoMemory as NoRoom}
 use Rattle.tla_values.specs.declared.fault.OpFault.{OpFault}
@@ -39,3 +41,20 @@ part_none xs from i h e = elim (slice_get_cases xs i).1 [
       inl g ↦ let f : None ≡ Some g.0 = sym e ∙ g.2 in cc
     | inr g ↦ absurd (omega (arith, g.0))
     ]
+
+length-map : (ps : List (Val × Val)) → length (map (λ p. p.1) ps) ≡ length ps
+length-map [] = refl
+length-map (p ∷ ps) = ap suc (length-map ps)
+
+-- a sequence has as many values as pairs
+pub count_is : (s : Val) → IsSequence s → count_of s ≡ length (values_in s)
+count_is (function ps) e = sym (length-map (entries ps))
+count_is (model s) e = cc
+count_is (truth s) e = cc
+count_is (integer s) e = cc
+count_is (string s) e = cc
+count_is (set s) e = cc
+
+pub rest_of : (vs ws : List Val) (r : Result Val OpFault) → 0 < length vs → ws ≡ drop 1 vs → GivesSequence ws r → GivesRest vs r
+rest_of [] ws r h e g = absurd (omega (arith, h))
+rest_of (v ∷ vs) ws r h e g = subst (λ us. GivesSequence us r) e g

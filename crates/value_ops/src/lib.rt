@@ -9,7 +9,7 @@ mod sets;
 
 pub use functions::{apply_at, domain, except_one, merge, single};
 pub use integers::{add, at_most, div, division_law, less, modulo, mul, negate, power, sub};
-pub use sequences::{append, concat, head, len_of, tail};
+pub use sequences::{append, concat, head, len_of, subseq, tail};
 pub use sets::{cardinality, intersect, minus, union};
 
 /// In a fault, the number that stands for the whole term in place of an operand.

@@ -1,6 +1,6 @@
 ghost use Rattle.std.specs.Prelude.{◌≡◌, ◌++◌, ◌≤◌, MatchResult, OnOk, [], ◌∷◌, drop, length, take};
 ghost use Rattle.tla_values.specs.FunctionOperations.{
-    Appends, Concatenates, GivesHead, GivesLength, GivesSequence, GivesTail
+    Appends, Concatenates, GivesHead, GivesLength, GivesPart, GivesSequence, GivesTail, TakesPart
 };
 ghost use Rattle.tla_values.specs.Functions.{IsSequence, values_in};
 ghost use Rattle.tla_values.specs.declared.fault.EvalKind.TheVariants.{NotSequence};
@@ -64,6 +64,37 @@ pub fn concat(alloc: Global, s: &Value, t: &Value) -> Result<Value, OpFault>
     let mut values = Vec::new(alloc);
     push_values(&mut values, s, 0, s.len())?;
     push_values(&mut values, t, 0, t.len())?;
+    sequence_from(alloc, values)
+}
+
+/// `SubSeq(s, m, n)`, empty where `m` is above `n`.
+pub fn subseq(alloc: Global, s: &Value, m: &Value, n: &Value) -> Result<Value, OpFault>
+    ensures { TakesPart s.now m.now n.now result }
+{
+    expect_sequence(s, 0)?;
+    let Some(first) = m.as_int() else {
+        return Err(OpFault::Refused(EvalKind::NotInteger, 1));
+    };
+    let Some(last) = n.as_int() else {
+        return Err(OpFault::Refused(EvalKind::NotInteger, 2));
+    };
+    part(alloc, s, first, last)
+}
+
+/// The values from the first place to the last, which count from 1.
+fn part(alloc: Global, s: &Value, first: i64, last: i64) -> Result<Value, OpFault>
+    requires { IsSequence s.now }
+    ensures { GivesPart (values_in s.now) first last result }
+{
+    s.is_value();
+    let mut values = Vec::new(alloc);
+    if first > last {
+        return sequence_from(alloc, values);
+    }
+    if first < 1 || last > s.len() as i64 {
+        return Err(OpFault::Refused(EvalKind::BadRange, THE_TERM));
+    }
+    push_values(&mut values, s, (first - 1) as usize, last as usize)?;
     sequence_from(alloc, values)
 }
 
