@@ -4,3 +4,4 @@ pub mod Merging
 pub mod Listing
 pub mod Pairs
 pub mod Parts
+pub mod Intervals

@@ -128,3 +128,11 @@ second_no_set (truth s) b Q e p h k = absurd h
 second_no_set (integer s) b Q e p h k = absurd h
 second_no_set (string s) b Q e p h k = absurd h
 second_no_set (function s) b Q e p h k = absurd h
+
+pub on_set : (a : Val) (Q : Result Val OpFault → Type 0) (r : Result Val OpFault) → IsSet a → Q r → OnSet a Q r
+on_set (set us) Q r h q = q
+on_set (model s) Q r h q = absurd h
+on_set (truth s) Q r h q = absurd h
+on_set (integer s) Q r h q = absurd h
+on_set (string s) Q r h q = absurd h
+on_set (function s) Q r h q = absurd h

@@ -3,3 +3,4 @@ pub mod Refusals
 pub mod Walk
 pub mod Changes
 pub mod Among
+pub mod Listed

@@ -4,11 +4,13 @@
 
 mod functions;
 mod integers;
+mod listings;
 mod sequences;
 mod sets;
 
 pub use functions::{apply_at, domain, except_one, merge, single};
 pub use integers::{add, at_most, div, division_law, less, modulo, mul, negate, power, sub};
+pub use listings::{big_union, interval};
 pub use sequences::{append, concat, head, len_of, subseq, tail};
 pub use sets::{cardinality, intersect, minus, union};
 
