@@ -21,20 +21,20 @@ length-ints y (suc n) = ap suc (length-ints (y +ℤ pos 1) n)
 pub in_ints : (y : ℤ) (n : ℕ) (v : Val) → Contains (ints_from y n) v → (z : ℤ) × (v ≡ integer z) × (y ≤ℤ z) × (z <ℤ (y +ℤ pos n))
 in_ints y zero v h = absurd (none_in v h)
 in_ints y (suc n) v h = elim (cons_cases (integer y) (ints_from (y +ℤ pos 1) n) v h) [
-      inl e ↦ (y, sym e, omega (arith, ints), omega (arith, ints))
-    | inr g ↦
-        let w = in_ints (y +ℤ pos 1) n v g in
-        let low : (y +ℤ pos 1) ≤ℤ w.0 = w.2 in
-        let high : w.0 <ℤ ((y +ℤ pos 1) +ℤ pos n) = w.3 in
-        (w.0, w.1, omega (arith, ints), omega (arith, ints))
-    ]
+  | inl e ↦ (y, sym e, omega (arith, ints), omega (arith, ints))
+  | inr g ↦
+      let w = in_ints (y +ℤ pos 1) n v g in
+      let low : (y +ℤ pos 1) ≤ℤ w.0 = w.2 in
+      let high : w.0 <ℤ ((y +ℤ pos 1) +ℤ pos n) = w.3 in
+      (w.0, w.1, omega (arith, ints), omega (arith, ints))
+]
 
 pub ints_in : (y : ℤ) (n : ℕ) (z : ℤ) → y ≤ℤ z → z <ℤ (y +ℤ pos n) → Contains (ints_from y n) (integer z)
 ints_in y zero z l h = absurd (omega (arith, ints))
 ints_in y (suc n) z l h = elim (either y z l) [
-      inl e ↦ subst (λ (w : ℤ). Contains (integer y ∷ ints_from (y +ℤ pos 1) n) (integer w)) e (head_in (integer y) (ints_from (y +ℤ pos 1) n))
-    | inr g ↦ tail_in (integer y) (ints_from (y +ℤ pos 1) n) (integer z) (ints_in (y +ℤ pos 1) n z (omega (arith, ints)) (omega (arith, ints)))
-    ]
+  | inl e ↦ subst (λ (w : ℤ). Contains (integer y ∷ ints_from (y +ℤ pos 1) n) (integer w)) e (head_in (integer y) (ints_from (y +ℤ pos 1) n))
+  | inr g ↦ tail_in (integer y) (ints_from (y +ℤ pos 1) n) (integer z) (ints_in (y +ℤ pos 1) n z (omega (arith, ints)) (omega (arith, ints)))
+]
   where
     either : (a b : ℤ) → a ≤ℤ b → (a ≡ b) ⊎ (a <ℤ b)
     either a b h = grind (arith, ints)
@@ -92,11 +92,11 @@ pub in_all : (ss : List Val) (v : Val) → Contains (members_of_all ss) v ↔ ((
 in_all [] v = (λ h. absurd (none_in v h), λ h. absurd (none_in h.0 h.1))
 in_all (t ∷ ts) v = (
   λ h. elim (Contains-append_cases (items_of t) (members_of_all ts) v h) [
-      inl a ↦ (t, head_in t ts, a)
+    | inl a ↦ (t, head_in t ts, a)
     | inr a ↦ let w = (in_all ts v).0 a in (w.0, tail_in t ts w.0 w.1, w.2)
-    ],
+  ],
   λ h. elim (cons_cases t ts h.0 h.1) [
-      inl e ↦ Contains-append_left (items_of t) (members_of_all ts) v (subst (λ (s : Val). Contains (items_of s) v) (sym e) h.2)
+    | inl e ↦ Contains-append_left (items_of t) (members_of_all ts) v (subst (λ (s : Val). Contains (items_of s) v) (sym e) h.2)
     | inr g ↦ Contains-append_right (items_of t) (members_of_all ts) v ((in_all ts v).1 (h.0, g, h.2))
-    ],
+  ],
 )

@@ -22,9 +22,9 @@ use Rattle.value_ops.specs.Refusals.{refusal_of}
 deepest_in : (vs : List Val) (n : ℕ) → suc n ≤ vals_depth (vals_of vs) → (v : Val) × Contains vs v × (suc n ≤ depth v)
 deepest_in [] n h = absurd (omega arith)
 deepest_in (v ∷ vs) n h = elim (either (depth v) (vals_depth (vals_of vs)) n h) [
-      inl l ↦ (v, head_in v vs, l)
-    | inr l ↦ let w = deepest_in vs n l in (w.0, tail_in v vs w.0 w.1, w.2)
-    ]
+  | inl l ↦ (v, head_in v vs, l)
+  | inr l ↦ let w = deepest_in vs n l in (w.0, tail_in v vs w.0 w.1, w.2)
+]
   where
     either : (a b n : ℕ) → suc n ≤ max a b → (suc n ≤ a) ⊎ (suc n ≤ b)
     either a b n h = grind arith
@@ -35,26 +35,26 @@ shorter [] vs s t f = omega arith
 shorter (u ∷ us) [] s t f = absurd (none_in u (f u (head_in u us)))
 shorter (u ∷ us) (v ∷ vs) s t f =
     elim (cons_cases v vs u (f u (head_in u us))) [
-      inl e ↦
-        let rest = shorter us vs (sorted_tail val_cmp u us s) (sorted_tail val_cmp v vs t) (λ w h. elim (cons_cases v vs w (f w (tail_in u us w h))) [
-            inl g ↦ absurd (not_itself val_cmp val_total u w (sym e ∙ g) (below val_cmp val_total u us w s h))
-          | inr g ↦ g
+      | inl e ↦
+          let rest = shorter us vs (sorted_tail val_cmp u us s) (sorted_tail val_cmp v vs t) (λ w h. elim (cons_cases v vs w (f w (tail_in u us w h))) [
+            | inl g ↦ absurd (not_itself val_cmp val_total u w (sym e ∙ g) (below val_cmp val_total u us w s h))
+            | inr g ↦ g
           ]) in
-        omega (arith, rest)
-    | inr i ↦
-        let low = below val_cmp val_total v vs u t i in
-        let rest = shorter (u ∷ us) vs s (sorted_tail val_cmp v vs t) (λ w h. elim (cons_cases v vs w (f w h)) [
-            inl g ↦ absurd (beneath u us v w s low h g)
-          | inr g ↦ g
+          omega (arith, rest)
+      | inr i ↦
+          let low = below val_cmp val_total v vs u t i in
+          let rest = shorter (u ∷ us) vs s (sorted_tail val_cmp v vs t) (λ w h. elim (cons_cases v vs w (f w h)) [
+            | inl g ↦ absurd (beneath u us v w s low h g)
+            | inr g ↦ g
           ]) in
-        omega (arith, rest)
+          omega (arith, rest)
     ]
   where
     beneath : (a : Val) (zs : List Val) (b w : Val) → IsStrictlySortedBy val_cmp (a ∷ zs) → val_cmp b a ≡ Less → Contains (a ∷ zs) w → b ≡ w → ⊥
     beneath a zs b w s l h e = elim (cons_cases a zs w h) [
-          inl g ↦ not_itself val_cmp val_total b a (e ∙ sym g) l
-        | inr g ↦ not_itself val_cmp val_total b w e (val_total.trans b a w l (below val_cmp val_total a zs w s g))
-        ]
+      | inl g ↦ not_itself val_cmp val_total b a (e ∙ sym g) l
+      | inr g ↦ not_itself val_cmp val_total b w e (val_total.trans b a w l (below val_cmp val_total a zs w s g))
+    ]
 
 pub gives_set : (xs : List Val) (r : Result Val ValueFault) (s : Val) → r ≡ Ok s → MakesSet xs r → GivesSet (Contains xs) (Ok s)
 gives_set xs r s e m = let o : IsSetOf xs s = subst (MakesSet xs) e m in record { valid = o.valid; is_set = o.is_set; same = o.same }
@@ -63,10 +63,11 @@ pub refuses_set : (xs : List Val) (f : ValueFault) → MakesSet xs (Err f) → G
 refuses_set xs KeyTwice m = absurd m
 refuses_set xs LargeValue m = (refl, record { some = m.keys; ascending = m.lists.ascending; each = λ v h. (m.lists.same v).0 h; many = m.large })
 refuses_set xs DeepValue m =
-    let deep = deepest_in m.keys 31 (omega (arith, m.deep)) in
-    (refl,
-     λ a. omega (arith, m.few, a.many, shorter a.some m.keys a.ascending m.lists.ascending (λ w h. (m.lists.same w).1 (a.each w h))),
-     record { one = deep.0; meets = (m.lists.same deep.0).0 deep.1; deep = deep.2 })
+    let deep = deepest_in m.keys 31 (omega (arith, m.deep)) in (
+      refl,
+      λ a. omega (arith, m.few, a.many, shorter a.some m.keys a.ascending m.lists.ascending (λ w h. (m.lists.same w).1 (a.each w h))),
+      record { one = deep.0; meets = (m.lists.same deep.0).0 deep.1; deep = deep.2 },
+    )
 refuses_set xs NoRoom m = tt
 
 -- the same set under another name of its condition
@@ -74,10 +75,11 @@ pub gives_as : (P Q : Val → Type 0) (r : Result Val OpFault) → ((v : Val) �
 gives_as P Q (Ok s) same g = record { valid = g.valid; is_set = g.is_set; same = λ v. (λ h. (same v).0 ((g.same v).0 h), λ h. (g.same v).1 ((same v).1 h)) }
 gives_as P Q (Err NoMemory) same g = tt
 gives_as P Q (Err (Refused TooLarge n)) same g = (g.0, record { some = g.1.some; ascending = g.1.ascending; each = λ v h. (same v).0 (g.1.each v h); many = g.1.many })
-gives_as P Q (Err (Refused TooDeep n)) same g =
-    (g.0,
-     λ a. g.1 (record { some = a.some; ascending = a.ascending; each = λ v h. (same v).1 (a.each v h); many = a.many }),
-     record { one = g.2.one; meets = (same g.2.one).0 g.2.meets; deep = g.2.deep })
+gives_as P Q (Err (Refused TooDeep n)) same g = (
+  g.0,
+  λ a. g.1 (record { some = a.some; ascending = a.ascending; each = λ v h. (same v).1 (a.each v h); many = a.many }),
+  record { one = g.2.one; meets = (same g.2.one).0 g.2.meets; deep = g.2.deep },
+)
 gives_as P Q (Err (Refused NotBoolean n)) same g = absurd g
 gives_as P Q (Err (Refused NotInteger n)) same g = absurd g
 gives_as P Q (Err (Refused NotSet n)) same g = absurd g

@@ -25,9 +25,9 @@ has_tail false c e = e
 pub contains_has : (xs : List Val) (v : Val) → Contains xs v → has xs v ≡ true
 contains_has [] v h = absurd (none_in v h)
 contains_has (x ∷ xs) v h = elim (cons_cases x xs v h) [
-      inl e ↦ has_head (val_eq x v) (has xs v) (subst (λ (w : Val). val_eq x w ≡ true) e (val_eq_equiv.refl x))
-    | inr g ↦ has_tail (val_eq x v) (has xs v) (contains_has xs v g)
-    ]
+  | inl e ↦ has_head (val_eq x v) (has xs v) (subst (λ (w : Val). val_eq x w ≡ true) e (val_eq_equiv.refl x))
+  | inr g ↦ has_tail (val_eq x v) (has xs v) (contains_has xs v g)
+]
 
 pub has_contains : (xs : List Val) (v : Val) → has xs v ≡ true → Contains xs v
 has_contains [] v h = cc
@@ -79,9 +79,9 @@ absent x ks f v e = either (has ks v) refl
 -- below the first of an ascending list is below all
 below_all : (x y : Val) (ys : List Val) → val_cmp x y ≡ Less → IsStrictlySortedBy val_cmp (y ∷ ys) → (w : Val) → Contains (y ∷ ys) w → val_cmp x w ≡ Less
 below_all x y ys l s w h = elim (cons_cases y ys w h) [
-      inl e ↦ subst (λ (z : Val). val_cmp x z ≡ Less) e l
-    | inr g ↦ val_total.trans x y w l (below val_cmp val_total y ys w s g)
-    ]
+  | inl e ↦ subst (λ (z : Val). val_cmp x z ≡ Less) e l
+  | inr g ↦ val_total.trans x y w l (below val_cmp val_total y ys w s g)
+]
 
 inner : (k : Keep) (x : Val) (xs : List Val) → ((zs : List Val) → IsStrictlySortedBy val_cmp zs → (v : Val) → has (merged k xs zs) v ≡ chosen k (has xs v) (has zs v))
     → IsStrictlySortedBy val_cmp (x ∷ xs) → (ys : List Val) → IsStrictlySortedBy val_cmp ys → (v : Val) → has (beside k x (merged k xs) ys) v ≡ chosen k (has (x ∷ xs) v) (has ys v)
@@ -98,7 +98,7 @@ inner k x xs ih s (y ∷ ys) t v = by_order (inner k x xs ih s ys (sorted_tail v
         let same : x ≡ y = val_ties x y e in
         when_has k.both x (merged k xs ys) v ∙ rw (ih ys (sorted_tail val_cmp y ys t) v)
         (both_bool k (val_eq x v) (val_eq y v) (has xs v) (has ys v) (ap (λ w. val_eq w v) (sym same)) (absent x xs (λ w. below val_cmp val_total x xs w s) v)
-          (λ f. absent y ys (λ w. below val_cmp val_total y ys w t) v (ap (λ w. val_eq w v) (sym same) ∙ f)))
+        (λ f. absent y ys (λ w. below val_cmp val_total y ys w t) v (ap (λ w. val_eq w v) (sym same) ∙ f)))
     by_order further Greater e =
         let turned : val_cmp y x ≡ Less = val_total.antisymm y x ∙ ap ordering_reverse e in
         when_has k.right y (beside k x (merged k xs) ys) v ∙ rw further

@@ -33,9 +33,9 @@ use Rattle.std.specs.List.Sorted.{IsPermutation}
 deepest_pair : (ps : List (Val × Val)) (n : ℕ) → suc n ≤ pairs_depth (pairs_of ps) → (p : Val × Val) × Contains ps p × (suc n ≤ max (depth p.0) (depth p.1))
 deepest_pair [] n h = absurd (omega arith)
 deepest_pair (p ∷ ps) n h = elim (either (max (depth p.0) (depth p.1)) (pairs_depth (pairs_of ps)) n h) [
-      inl l ↦ (p, head_in p ps, l)
-    | inr l ↦ let w = deepest_pair ps n l in (w.0, tail_in p ps w.0 w.1, w.2)
-    ]
+  | inl l ↦ (p, head_in p ps, l)
+  | inr l ↦ let w = deepest_pair ps n l in (w.0, tail_in p ps w.0 w.1, w.2)
+]
   where
     either : (a b n : ℕ) → suc n ≤ max a b → (suc n ≤ a) ⊎ (suc n ≤ b)
     either a b n h = grind arith
@@ -52,11 +52,11 @@ no_one false f = omega arith
 counts : (ps : List (Val × Val)) (p : Val × Val) (key : Val) → Contains ps p → p.0 ≡ key → 1 ≤ key_count key ps
 counts [] p key h e = absurd (none_in p h)
 counts (q ∷ qs) p key h e = elim (cons_cases q qs p h) [
-      inl f ↦
-        let same : val_eq q.0 key ≡ true = subst (λ (k : Val). val_eq q.0 k ≡ true) (ap (λ (w : Val × Val). w.0) f ∙ e) (val_eq_equiv.refl q.0) in
-        omega (arith, count_cons key q qs, yes_one (val_eq q.0 key) same)
-    | inr g ↦ omega (arith, count_cons key q qs, counts qs p key g e)
-    ]
+  | inl f ↦
+      let same : val_eq q.0 key ≡ true = subst (λ (k : Val). val_eq q.0 k ≡ true) (ap (λ (w : Val × Val). w.0) f ∙ e) (val_eq_equiv.refl q.0) in
+      omega (arith, count_cons key q qs, yes_one (val_eq q.0 key) same)
+  | inr g ↦ omega (arith, count_cons key q qs, counts qs p key g e)
+]
 
 -- a key that counts is that of a pair
 counted_in : (ps : List (Val × Val)) (key : Val) → 1 ≤ key_count key ps → Contains (map (λ p. p.0) ps) key
@@ -74,10 +74,10 @@ no_more (u ∷ us) vs n f =
     let here = f u (head_in u us) in
     let there : IsPermutation vs (u ∷ remove vs here.0) = IsPermutation-remove vs here.0 u here.1 (sym here.2) in
     let rest = no_more us (remove vs here.0) (λ t. n (record { key = t.key; twice = omega (arith, t.twice, count_cons t.key u us) })) (λ w h.
-        elim (cons_cases u (remove vs here.0) w (Contains-permutation vs (u ∷ remove vs here.0) w there (f w (tail_in u us w h)))) [
-          inl e ↦ absurd (n (record { key = u.0; twice = omega (arith, count_cons u.0 u us, yes_one (val_eq u.0 u.0) (val_eq_equiv.refl u.0), counts us w u.0 h (ap (λ (z : Val × Val). z.0) (sym e))) }))
-        | inr g ↦ g
-        ]) in
+    elim (cons_cases u (remove vs here.0) w (Contains-permutation vs (u ∷ remove vs here.0) w there (f w (tail_in u us w h)))) [
+      | inl e ↦ absurd (n (record { key = u.0; twice = omega (arith, count_cons u.0 u us, yes_one (val_eq u.0 u.0) (val_eq_equiv.refl u.0), counts us w u.0 h (ap (λ (z : Val × Val). z.0) (sym e))) }))
+      | inr g ↦ g
+    ]) in
     omega (arith, rest, length_permutation vs (u ∷ remove vs here.0) there)
 
 pub gives_function : (xs : List (Val × Val)) (r : Result Val ValueFault) (f : Val) → r ≡ Ok f → MakesFunction xs r → GivesFunction (λ key v. Contains xs (key, v)) (Ok f)
@@ -87,10 +87,11 @@ pub refuses_function : (xs : List (Val × Val)) (f : ValueFault) → ¬ HasKeyTw
 refuses_function xs KeyTwice n m = absurd (n m)
 refuses_function xs LargeValue n m = (refl, record { some = xs; once = n; each = λ key v h. h; many = m.1 })
 refuses_function xs DeepValue n m =
-    let deep = deepest_pair xs 31 (omega (arith, m.2)) in
-    (refl,
-     λ a. omega (arith, m.1, a.many, no_more a.some xs a.once (λ w h. a.each w.0 w.1 h)),
-     record { key = deep.0.0; value = deep.0.1; meets = deep.1; deep = deep.2 })
+    let deep = deepest_pair xs 31 (omega (arith, m.2)) in (
+      refl,
+      λ a. omega (arith, m.1, a.many, no_more a.some xs a.once (λ w h. a.each w.0 w.1 h)),
+      record { key = deep.0.0; value = deep.0.1; meets = deep.1; deep = deep.2 },
+    )
 refuses_function xs NoRoom n m = tt
 
 -- the same function under another name of its condition
@@ -98,10 +99,11 @@ pub function_as : (P Q : Val → Val → Type 0) (r : Result Val OpFault) → ((
 function_as P Q (Ok f) same g = record { valid = g.valid; is_function = g.is_function; same = λ k v. (λ h. (same k v).0 ((g.same k v).0 h), λ h. (g.same k v).1 ((same k v).1 h)) }
 function_as P Q (Err NoMemory) same g = tt
 function_as P Q (Err (Refused TooLarge n)) same g = (g.0, record { some = g.1.some; once = g.1.once; each = λ k v h. (same k v).0 (g.1.each k v h); many = g.1.many })
-function_as P Q (Err (Refused TooDeep n)) same g =
-    (g.0,
-     λ a. g.1 (record { some = a.some; once = a.once; each = λ k v h. (same k v).1 (a.each k v h); many = a.many }),
-     record { key = g.2.key; value = g.2.value; meets = (same g.2.key g.2.value).0 g.2.meets; deep = g.2.deep })
+function_as P Q (Err (Refused TooDeep n)) same g = (
+  g.0,
+  λ a. g.1 (record { some = a.some; once = a.once; each = λ k v h. (same k v).1 (a.each k v h); many = a.many }),
+  record { key = g.2.key; value = g.2.value; meets = (same g.2.key g.2.value).0 g.2.meets; deep = g.2.deep },
+)
 function_as P Q (Err (Refused NotBoolean n)) same g = absurd g
 function_as P Q (Err (Refused NotInteger n)) same g = absurd g
 function_as P Q (Err (Refused NotSet n)) same g = absurd g
@@ -151,9 +153,9 @@ one_once p t = omega (arith, t.twice, count_cons t.key p [], most (val_eq p.0 t.
 pub in_one : (k w key v : Val) → Contains {X = Val × Val} ((k, w) ∷ []) (key, v) ↔ ((key ≡ k) × (v ≡ w))
 in_one k w key v = (
   λ h. elim (cons_cases {X = Val × Val} (k, w) [] (key, v) h) [
-      inl e ↦ (ap (λ (z : Val × Val). z.0) (sym e), ap (λ (z : Val × Val). z.1) (sym e))
+    | inl e ↦ (ap (λ (z : Val × Val). z.0) (sym e), ap (λ (z : Val × Val). z.1) (sym e))
     | inr g ↦ absurd (none_in {X = Val × Val} (key, v) g)
-    ],
+  ],
   λ h. let e : ◌≡◌ {A = Val × Val} (k, w) (key, v) = λ i. (sym h.0 i, sym h.1 i) in subst (λ (z : Val × Val). Contains {X = Val × Val} ((k, w) ∷ []) z) e (head_in {X = Val × Val} (k, w) []),
 )
 
@@ -172,9 +174,9 @@ in_outside ks (q ∷ qs) p h = either (in_outside ks qs p) (among ks q.0) refl h
     either : (Contains (outside ks qs) p → (¬ Contains ks p.0) × Contains qs p) → (b : Bool) → among ks q.0 ≡ b → Contains (cond b (outside ks qs) (q ∷ outside ks qs)) p → (¬ Contains ks p.0) × Contains (q ∷ qs) p
     either ih true e g = let r = ih g in (r.0, tail_in q qs p r.1)
     either ih false e g = elim (cons_cases q (outside ks qs) p g) [
-          inl f ↦ (λ k. let c : true ≡ false = sym (contains_has ks q.0 (subst (λ (w : Val × Val). Contains ks w.0) (sym f) k)) ∙ e in cc, subst (λ (w : Val × Val). Contains (q ∷ qs) w) f (head_in q qs))
-        | inr f ↦ let r = ih f in (r.0, tail_in q qs p r.1)
-        ]
+      | inl f ↦ (λ k. let c : true ≡ false = sym (contains_has ks q.0 (subst (λ (w : Val × Val). Contains ks w.0) (sym f) k)) ∙ e in cc, subst (λ (w : Val × Val). Contains (q ∷ qs) w) f (head_in q qs))
+      | inr f ↦ let r = ih f in (r.0, tail_in q qs p r.1)
+    ]
 
 outside_in : (ks : List Val) (ps : List (Val × Val)) (p : Val × Val) → ¬ Contains ks p.0 → Contains ps p → Contains (outside ks ps) p
 outside_in ks [] p n h = absurd (none_in p h)
@@ -182,24 +184,24 @@ outside_in ks (q ∷ qs) p n h = either (outside_in ks qs p n) (among ks q.0) re
   where
     either : (Contains qs p → Contains (outside ks qs) p) → (b : Bool) → among ks q.0 ≡ b → Contains (cond b (outside ks qs) (q ∷ outside ks qs)) p
     either ih true e = elim (cons_cases q qs p h) [
-          inl f ↦ absurd (n (subst (λ (w : Val × Val). Contains ks w.0) f (has_contains ks q.0 e)))
-        | inr f ↦ ih f
-        ]
+      | inl f ↦ absurd (n (subst (λ (w : Val × Val). Contains ks w.0) f (has_contains ks q.0 e)))
+      | inr f ↦ ih f
+    ]
     either ih false e = elim (cons_cases q qs p h) [
-          inl f ↦ subst (λ (w : Val × Val). Contains (q ∷ outside ks qs) w) f (head_in q (outside ks qs))
-        | inr f ↦ tail_in q (outside ks qs) p (ih f)
-        ]
+      | inl f ↦ subst (λ (w : Val × Val). Contains (q ∷ outside ks qs) w) f (head_in q (outside ks qs))
+      | inr f ↦ tail_in q (outside ks qs) p (ih f)
+    ]
 
 pub in_merge : (f g key v : Val) → Contains (pairs_in f ++ outside (keys_in f) (pairs_in g)) (key, v) ↔ InMerge f g key v
 in_merge f g key v = (
   λ h. elim (Contains-append_cases (pairs_in f) (outside (keys_in f) (pairs_in g)) (key, v) h) [
-      inl a ↦ inl a
+    | inl a ↦ inl a
     | inr a ↦ inr (in_outside (keys_in f) (pairs_in g) (key, v) a)
-    ],
+  ],
   λ h. elim h [
-      inl a ↦ Contains-append_left (pairs_in f) (outside (keys_in f) (pairs_in g)) (key, v) a
+    | inl a ↦ Contains-append_left (pairs_in f) (outside (keys_in f) (pairs_in g)) (key, v) a
     | inr a ↦ Contains-append_right (pairs_in f) (outside (keys_in f) (pairs_in g)) (key, v) (outside_in (keys_in f) (pairs_in g) (key, v) a.0 a.1)
-    ],
+  ],
 )
 
 count_outside : (ks : List Val) (ps : List (Val × Val)) (key : Val) → key_count key (outside ks ps) ≤ key_count key ps
@@ -216,7 +218,7 @@ merge_once f g p q t =
     let b = at_most_one (pairs_in g) t.key (pairs_ordered g q) in
     let c = count_outside (keys_in f) (pairs_in g) t.key in
     let d : key_count t.key (pairs_in f ++ outside (keys_in f) (pairs_in g)) ≡ key_count t.key (pairs_in f) + key_count t.key (outside (keys_in f) (pairs_in g)) =
-      sum_by-append (λ (w : Val × Val). cond (val_eq w.0 t.key) 1 0) (pairs_in f) (outside (keys_in f) (pairs_in g)) in
+    sum_by-append (λ (w : Val × Val). cond (val_eq w.0 t.key) 1 0) (pairs_in f) (outside (keys_in f) (pairs_in g)) in
     let left = counted_in (pairs_in f) t.key (omega (arith, a, b, c, d, t.twice)) in
     let right = counted_in (outside (keys_in f) (pairs_in g)) t.key (omega (arith, a, b, c, d, t.twice)) in
     let there = key_in (outside (keys_in f) (pairs_in g)) t.key right in
@@ -226,16 +228,16 @@ merge_once f g p q t =
 map_in : (h : Val × Val → Val × Val) (ps : List (Val × Val)) (p : Val × Val) → Contains ps p → Contains (map h ps) (h p)
 map_in h [] p g = absurd (none_in p g)
 map_in h (q ∷ qs) p g = elim (cons_cases q qs p g) [
-      inl e ↦ subst (λ (w : Val × Val). Contains (h q ∷ map h qs) (h w)) e (head_in (h q) (map h qs))
-    | inr f ↦ tail_in (h q) (map h qs) (h p) (map_in h qs p f)
-    ]
+  | inl e ↦ subst (λ (w : Val × Val). Contains (h q ∷ map h qs) (h w)) e (head_in (h q) (map h qs))
+  | inr f ↦ tail_in (h q) (map h qs) (h p) (map_in h qs p f)
+]
 
 in_map : (h : Val × Val → Val × Val) (ps : List (Val × Val)) (r : Val × Val) → Contains (map h ps) r → (p : Val × Val) × Contains ps p × (h p ≡ r)
 in_map h [] r g = absurd (none_in r g)
 in_map h (q ∷ qs) r g = elim (cons_cases (h q) (map h qs) r g) [
-      inl e ↦ (q, head_in q qs, e)
-    | inr f ↦ let w = in_map h qs r f in (w.0, tail_in q qs w.0 w.1, w.2)
-    ]
+  | inl e ↦ (q, head_in q qs, e)
+  | inr f ↦ let w = in_map h qs r f in (w.0, tail_in q qs w.0 w.1, w.2)
+]
 
 same_keys : (key new : Val) (ps : List (Val × Val)) → map (λ p. p.0) (map (replaced key new) ps) ≡ map (λ p. p.0) ps
 same_keys key new [] = refl
@@ -275,12 +277,12 @@ in_except f key new k v d = (there, back)
     there h =
         let w = in_map (replaced key new) (pairs_in f) (k, v) h in
         elim (key_cases w.0.0 key) [
-          inl e ↦
-            let r : ◌≡◌ {A = Val × Val} (key, new) (k, v) = sym (replaced_yes key new w.0 e) ∙ w.2 in
-            inl (ap (λ (z : Val × Val). z.0) (sym r), ap (λ (z : Val × Val). z.1) (sym r))
-        | inr n ↦
-            let r : w.0 ≡ (k, v) = sym (replaced_no key new w.0 n) ∙ w.2 in
-            inr (subst (λ (z : Val × Val). ¬ (z.0 ≡ key)) r n, subst (λ (z : Val × Val). Contains (pairs_in f) z) r w.1)
+          | inl e ↦
+              let r : ◌≡◌ {A = Val × Val} (key, new) (k, v) = sym (replaced_yes key new w.0 e) ∙ w.2 in
+              inl (ap (λ (z : Val × Val). z.0) (sym r), ap (λ (z : Val × Val). z.1) (sym r))
+          | inr n ↦
+              let r : w.0 ≡ (k, v) = sym (replaced_no key new w.0 n) ∙ w.2 in
+              inr (subst (λ (z : Val × Val). ¬ (z.0 ≡ key)) r n, subst (λ (z : Val × Val). Contains (pairs_in f) z) r w.1)
         ]
 
     back : InExcept f key new k v → Contains (map (replaced key new) (pairs_in f)) (k, v)

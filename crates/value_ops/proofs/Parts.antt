@@ -38,9 +38,9 @@ part_more xs from i v h e =
 
 pub part_none : (xs : List Val) (from i : ℕ) → i < length xs → slice_get xs i ≡ None → drop from (take (i + 1) xs) ≡ drop from (take i xs)
 part_none xs from i h e = elim (slice_get_cases xs i).1 [
-      inl g ↦ let f : None ≡ Some g.0 = sym e ∙ g.2 in cc
-    | inr g ↦ absurd (omega (arith, g.0))
-    ]
+  | inl g ↦ let f : None ≡ Some g.0 = sym e ∙ g.2 in cc
+  | inr g ↦ absurd (omega (arith, g.0))
+]
 
 length-map : (ps : List (Val × Val)) → length (map (λ p. p.1) ps) ≡ length ps
 length-map [] = refl

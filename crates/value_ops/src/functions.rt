@@ -1,6 +1,13 @@
 ghost use Rattle.std.specs.Prelude.{◌≡◌, ◌++◌, Contains, IfOk, MatchResult, OnOk, [], ◌∷◌, if◌then◌else◌, map};
 ghost use Rattle.tla_values.specs.FunctionOperations.{
-    AppliesAt, Excepts, GivesFunction, GivesValue, InExcept, ListsDomain, MapsOne, Merges
+  AppliesAt,
+  Excepts,
+  GivesFunction,
+  GivesValue,
+  InExcept,
+  ListsDomain,
+  MapsOne,
+  Merges,
 };
 ghost use Rattle.tla_values.specs.Functions.{HasKeyTwice, InDomain, IsFunction, keys_in, pairs_in};
 ghost use Rattle.tla_values.specs.Order.{val_eq};
@@ -161,7 +168,12 @@ fn is_in_domain(f: &Value, key: &Value) -> bool
 }
 
 /// A copy of the pairs, with another value at the key.
-fn replace(alloc: Global, f: &Value, key: &Value, new: &Value) -> Result<Vec<(Value, Value)>, AllocError>
+fn replace(
+    alloc: Global,
+    f: &Value,
+    key: &Value,
+    new: &Value,
+) -> Result<Vec<(Value, Value)>, AllocError>
     ensures { IfOk result (λ pairs. pairs.items ≡ map (replaced key.now new.now) (pairs_in f.now)) }
 {
     let mut pairs = Vec::new(alloc);

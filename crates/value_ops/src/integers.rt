@@ -1,8 +1,19 @@
 ghost use Rattle.std.specs.Prelude.{◌≡◌, ◌≤ℤ◌, if◌then◌else◌, negsuc, pos};
 ghost use Rattle.tla_values.specs.Data.{integer};
 ghost use Rattle.tla_values.specs.Integers.{
-    Division, difference_of, int_operand, int_operands, is_at_most, is_less, negation_of, power as power_int, power_of,
-    product_of, quotient_of, remainder_of, sum_of
+  Division,
+  difference_of,
+  int_operand,
+  int_operands,
+  is_at_most,
+  is_less,
+  negation_of,
+  power as power_int,
+  power_of,
+  product_of,
+  quotient_of,
+  remainder_of,
+  sum_of,
 };
 ghost use Rattle.value_ops.specs.Checked.{checked};
 
@@ -124,8 +135,7 @@ pub fn at_most(a: &Value, b: &Value) -> Result<bool, OpFault>
 /// What quotient and remainder are to each other.
 pub fn division_law()
     ensures { Division }
-{
-}
+{}
 
 /// The integer that the operand is.
 fn operand(a: &Value) -> Result<i64, OpFault>

@@ -7,6 +7,8 @@ mod integers;
 mod listings;
 mod sequences;
 mod sets;
+#[cfg(test)]
+mod tests;
 
 pub use functions::{apply_at, domain, except_one, merge, single};
 pub use integers::{add, at_most, div, division_law, less, modulo, mul, negate, power, sub};

@@ -1,6 +1,13 @@
 ghost use Rattle.std.specs.Prelude.{◌≡◌, ◌++◌, ◌≤◌, MatchResult, OnOk, [], ◌∷◌, drop, length, take};
 ghost use Rattle.tla_values.specs.FunctionOperations.{
-    Appends, Concatenates, GivesHead, GivesLength, GivesPart, GivesSequence, GivesTail, TakesPart
+  Appends,
+  Concatenates,
+  GivesHead,
+  GivesLength,
+  GivesPart,
+  GivesSequence,
+  GivesTail,
+  TakesPart,
 };
 ghost use Rattle.tla_values.specs.Functions.{IsSequence, values_in};
 ghost use Rattle.tla_values.specs.declared.fault.EvalKind.TheVariants.{NotSequence};

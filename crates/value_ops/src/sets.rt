@@ -1,6 +1,11 @@
 ghost use Rattle.std.specs.Prelude.{◌≡◌, ◌++◌, Contains, IfOk, MatchResult, OnOk, [], if◌then◌else◌};
 ghost use Rattle.tla_values.specs.SetOperations.{
-    GivesSet, Intersects, TakesAway, Unites, UnitesMembers, cardinality_of
+  GivesSet,
+  Intersects,
+  TakesAway,
+  Unites,
+  UnitesMembers,
+  cardinality_of,
 };
 ghost use Rattle.tla_values.specs.Sets.{IsSet, items_of};
 ghost use Rattle.tla_values.specs.declared.fault.EvalKind.TheVariants.{NotSet};

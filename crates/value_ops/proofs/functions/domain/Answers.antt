@@ -12,4 +12,4 @@ returns c =
     let f = c.args.f.now in
     on_function f (GivesSet (λ key. InDomain key f)) c.set_from.result c.in_ok-expect_function.ensures
     (gives_as (Contains c.in_ok-keys.keys.items) (λ key. InDomain key f) c.set_from.result
-      (λ key. subst (λ (ks : List Val). Contains ks key ↔ InDomain key f) (sym c.in_ok-keys.ensures) (λ h. h, λ h. h)) c.set_from.ensures)
+    (λ key. subst (λ (ks : List Val). Contains ks key ↔ InDomain key f) (sym c.in_ok-keys.ensures) (λ h. h, λ h. h)) c.set_from.ensures)

@@ -21,4 +21,4 @@ returns c =
     let lists : c.push_outside.new.pairs.items ≡ pairs_in f ++ outside (keys_in f) (pairs_in g) = c.in_ok-push_outside.ensures ∙ ap (λ ps. ps ++ outside (keys_in f) (pairs_in g)) c.in_ok-pairs.ensures in
     on_functions f g (GivesFunction (InMerge f g)) c.function_from.result c.in_ok-expect_function.ensures c.in_ok-expect_function-2.ensures
     (function_as (λ k v. Contains c.push_outside.new.pairs.items (k, v)) (InMerge f g) c.function_from.result
-      (λ k v. subst (λ (ps : List (Val × Val)). Contains ps (k, v) ↔ InMerge f g k v) (sym lists) (in_merge f g k v)) c.function_from.ensures)
+    (λ k v. subst (λ (ps : List (Val × Val)). Contains ps (k, v) ↔ InMerge f g k v) (sym lists) (in_merge f g k v)) c.function_from.ensures)

@@ -14,5 +14,5 @@ loop-k-preserved c =
     let here : c.int.result ≡ integer (y +ℤ pos k) = c.int.ensures ∙ ap integer (rw c.from.ensures (omega (arith, ints))) in
     let old : c.loop-k.members.items ≡ ints_from y k = simp to_z-of_z at c.loop-k.invariant in
     let new : c.push.new.self.items ≡ ints_from y (k + 1) =
-      c.in_ok-push.ensures.items ∙ ap (λ vs. vs ++ c.int.result ∷ []) old ∙ ap (λ v. ints_from y k ++ v ∷ []) here ∙ sym (ints_push y k) in
+    c.in_ok-push.ensures.items ∙ ap (λ vs. vs ++ c.int.result ∷ []) old ∙ ap (λ v. ints_from y k ++ v ∷ []) here ∙ sym (ints_push y k) in
     simp to_z-of_z new
