@@ -1,5 +1,5 @@
 -- Integers from one on, and the members of several sets.
-use Rattle.std.proofs.Common.{◌≡◌, ◌↔◌, ◌⊎◌, inl, inr, ℕ, zero, suc, ◌+◌, ◌<◌, ◌≤◌, ℤ, pos, List, [], ◌∷◌, ◌++◌, length, take, get_or, Err, ap, sym, ◌∙◌, subst, refl, arith, append_assoc, append-nil}
+use Rattle.std.proofs.Common.{◌≡◌, ◌↔◌, ◌⊎◌, inl, inr, ℕ, zero, suc, ◌+◌, ◌<◌, ℤ, pos, List, [], ◌∷◌, ◌++◌, length, take, get_or, ap, sym, ◌∙◌, subst, refl, arith, append_assoc, append-nil}
 use Rattle.std.specs.Prelude.{◌+ℤ◌, ◌≤ℤ◌, ◌<ℤ◌}
 use Rattle.std.specs.declared.cmp.Ordering.TheVariants.{Less}
 use Rattle.std.specs.List.{Contains, AllByRecursion}
@@ -10,7 +10,7 @@ use Rattle.std.proofs.lemmas.List.Elements.{Contains-append_left, Contains-appen
 use Rattle.tla_values.specs.Data.{Val, integer}
 use Rattle.tla_values.specs.Ascending.{cons_cases, head_in, tail_in, none_in}
 use Rattle.tla_values.specs.Order.{val_cmp}
-use Rattle.tla_values.specs.SetOperations.{AreTooMany, InInterval, InBigUnion, GivesSet}
+use Rattle.tla_values.specs.SetOperations.{AreTooMany, InInterval}
 use Rattle.tla_values.specs.Sets.{items_of, Member}
 use Rattle.value_ops.specs.Listed.{ints_from, members_of_all}
 

@@ -1,5 +1,5 @@
 -- From a list of values to the set of those that meet a condition.
-use Rattle.std.proofs.Common.{◌≡◌, ◌↔◌, ◌⊎◌, inl, inr, ℕ, zero, suc, ◌<◌, ◌≤◌, max, List, [], ◌∷◌, length, Result, Ok, Err, ap, sym, ◌∙◌, subst, refl, arith}
+use Rattle.std.proofs.Common.{◌≡◌, ◌↔◌, ◌⊎◌, inl, inr, ℕ, suc, ◌≤◌, max, List, [], ◌∷◌, length, Result, Ok, Err, ap, sym, ◌∙◌, subst, refl, arith}
 use Rattle.std.specs.declared.cmp.Ordering.TheVariants.{Less}
 use Rattle.std.specs.List.{Contains}
 use Rattle.std.specs.List.Sorted.{IsStrictlySortedBy}
@@ -8,11 +8,10 @@ use Rattle.tla_values.specs.Data.{Val, model, truth, integer, string, set, funct
 use Rattle.tla_values.specs.Ascending.{cons_cases, head_in, tail_in, none_in, below, not_itself}
 use Rattle.tla_values.specs.Order.{val_cmp}
 use Rattle.tla_values.specs.OrderLaws.{val_total}
-use Rattle.tla_values.specs.Sets.{IsSet, IsSetOf, IsTooLarge, IsTooDeep, MakesSet}
-use Rattle.tla_values.specs.SetOperations.{IsSetWith, AreTooMany, IsOneTooDeep, GivesSet, OnSets, OnSet}
+use Rattle.tla_values.specs.Sets.{IsSet, IsSetOf, MakesSet}
+use Rattle.tla_values.specs.SetOperations.{GivesSet, OnSets, OnSet}
 use Rattle.tla_values.specs.declared.value.ValueFault.{ValueFault}
 use Rattle.tla_values.specs.declared.value.ValueFault.TheVariants.{KeyTwice, TooLarge as LargeValue, TooDeep as DeepValue, NoMemory as NoRoom}
-use Rattle.tla_values.specs.declared.fault.EvalKind.{EvalKind}
 use Rattle.tla_values.specs.declared.fault.EvalKind.TheVariants.{NotBoolean, NotInteger, NotSet, NotFunction, NotSequence, OutsideDomain, Overflow, BadDivisor, BadPower, NoChoice, NoCase, EmptySequence, BadRange, TooLarge, TooDeep, Nested, NotFinite}
 use Rattle.tla_values.specs.declared.fault.OpFault.{OpFault}
 use Rattle.tla_values.specs.declared.fault.OpFault.TheVariants.{Refused, NoMemory}

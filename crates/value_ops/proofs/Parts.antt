@@ -1,11 +1,11 @@
 -- From a list of values to their sequence, and the values of a part.
-use Rattle.std.proofs.Common.{◌≡◌, ◌⊎◌, inl, inr, ℕ, zero, suc, ◌+◌, ◌<◌, ◌≤◌, List, [], ◌∷◌, ◌++◌, length, map, take, drop, Result, Ok, Err, ap, sym, ◌∙◌, subst, refl, arith, None, Some}
+use Rattle.std.proofs.Common.{◌≡◌, inl, inr, ℕ, zero, suc, ◌+◌, ◌<◌, ◌≤◌, List, [], ◌∷◌, ◌++◌, length, map, take, drop, Result, Err, ap, sym, ◌∙◌, subst, refl, arith, None, Some}
 use Rattle.std.specs.List.{slice_get}
-use Rattle.std.proofs.lemmas.List.{take_more, take_all}
+use Rattle.std.proofs.lemmas.List.{take_more}
 use Rattle.std.proofs.lemmas.Option.{slice_get_within, get_or_from_slice_get, slice_get_cases}
 use Rattle.tla_values.specs.Data.{Val}
 use Rattle.tla_values.specs.Functions.{IsSequence, MakesSequence, values_in}
-use Rattle.tla_values.specs.FunctionOperations.{GivesSequence, GivesRest, GivesPart}
+use Rattle.tla_values.specs.FunctionOperations.{GivesSequence, GivesRest}
 use Rattle.tla_values.specs.Data.{model, truth, integer, string, set, function, entries}
 use Rattle.tla_values.specs.Sets.{count_of}
 use Rattle.tla_values.specs.declared.value.ValueFault.{ValueFault}

@@ -1,7 +1,6 @@
 -- Powers to exponents of more than 32 bits.
-use Rattle.std.proofs.Common.{◌≡◌, ℕ, zero, suc, ◌+◌, ◌*◌, ◌^◌, ◌%◌, ◌<◌, ◌≤◌, ℤ, pos, negsuc, Bool, true, false, Result, Ok, Err, cond, arith, ap, sym, ◌∙◌, refl, nat_eq, nat_lt}
+use Rattle.std.proofs.Common.{◌≡◌, ℕ, zero, suc, ◌^◌, ◌%◌, ◌<◌, ◌≤◌, ℤ, pos, negsuc, Bool, true, false, Result, Ok, Err, cond, arith, refl, nat_eq, nat_lt}
 use Rattle.std.specs.Prelude.{◌≤ℤ◌, neg_ℤ}
-use Rattle.std.specs.Int.{int_pow}
 use Rattle.std.proofs.Math.Nat.{pow-le-pow_left, pow-le-pow_right, pow-zero, pow-suc}
 use Rattle.std.proofs.lemmas.Int.{ints}
 use Rattle.std.proofs.lemmas.Bool.Decides.{nat_tests}

@@ -1,11 +1,10 @@
 -- The walk along two lists is the plain function.
-use Rattle.std.proofs.Common.{◌≡◌, ◌⊎◌, inl, inr, ℕ, zero, suc, ◌+◌, ◌<◌, ◌≤◌, ◌-◌, List, [], ◌∷◌, ◌++◌, length, take, drop, get_or, Bool, true, false, cond, ap, sym, ◌∙◌, refl, arith, append_assoc, append-nil, add-one, drop-cons, length-drop}
+use Rattle.std.proofs.Common.{◌≡◌, ◌⊎◌, inl, inr, ℕ, zero, suc, ◌+◌, ◌<◌, ◌≤◌, ◌-◌, List, [], ◌∷◌, ◌++◌, length, take, drop, get_or, Bool, true, false, cond, ap, ◌∙◌, refl, arith, append_assoc, append-nil, add-one, drop-cons, length-drop}
 use Rattle.std.proofs.lemmas.List.{take_all}
-use Rattle.std.specs.declared.cmp.Ordering.{Ordering}
 use Rattle.std.specs.declared.cmp.Ordering.TheVariants.{Less, Equal, Greater}
 use Rattle.tla_values.specs.Data.{Val}
 use Rattle.tla_values.specs.Order.{val_cmp}
-use Rattle.value_ops.specs.Walk.{when, beside, merged}
+use Rattle.value_ops.specs.Walk.{when, merged}
 use Rattle.value_ops.specs.declared.sets.Keep.{Keep}
 
 when_append : (b : Bool) (v : Val) (out rest : List Val) → (out ++ when b v []) ++ rest ≡ out ++ when b v rest

@@ -1,4 +1,4 @@
-use Rattle.std.proofs.Common.{◌≡◌, ◌++◌, ◌∷◌, [], List, cond, ap, sym, ◌∙◌, append_assoc}
+use Rattle.std.proofs.Common.{◌++◌, ◌∷◌, [], cond, ap, sym, ◌∙◌, append_assoc}
 use Rattle.tla_values.specs.Data.{Val}
 use Rattle.tla_values.specs.Functions.{keys_in}
 use Rattle.value_ops.specs.Among.{among}

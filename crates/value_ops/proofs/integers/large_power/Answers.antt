@@ -1,6 +1,5 @@
 use Rattle.std.proofs.Common.{◌≡◌, ap, ◌∙◌, arith, Ok, pos, negsuc, refl}
 use Rattle.std.proofs.lemmas.Int.{ints}
-use Rattle.tla_values.specs.Data.{integer}
 use Rattle.value_ops.proofs.Powers.{at_zero, at_one, at_minus_one, too_large}
 use Rattle.value_ops.proofs.integers.large_power.Goals as goal
 

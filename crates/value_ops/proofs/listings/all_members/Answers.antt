@@ -1,6 +1,4 @@
-use Rattle.std.proofs.Common.{◌≡◌, ◌<◌, ◌++◌, take, length, ap, ◌∙◌, arith}
-use Rattle.tla_values.specs.Sets.{items_of}
-use Rattle.value_ops.specs.Listed.{members_of_all}
+use Rattle.std.proofs.Common.{◌<◌, length, ◌∙◌, arith}
 use Rattle.value_ops.proofs.Intervals.{all_more}
 use Rattle.value_ops.proofs.listings.all_members.Goals as goal
 

@@ -1,6 +1,5 @@
-use Rattle.std.proofs.Common.{◌≡◌, ◌↔◌, ◌⊎◌, inl, inr, List, Result, Err, ap, subst, sym, ◌∙◌, refl, true, false}
+use Rattle.std.proofs.Common.{◌≡◌, ◌↔◌, ◌⊎◌, inl, List, Err, ap, subst, sym, ◌∙◌}
 use Rattle.std.specs.List.{Contains}
-use Rattle.std.specs.Bool.{MatchBool}
 use Rattle.tla_values.specs.Data.{Val}
 use Rattle.tla_values.specs.SetOperations.{GivesSet, InBigUnion}
 use Rattle.tla_values.specs.Sets.{IsSet, Member, items_of}

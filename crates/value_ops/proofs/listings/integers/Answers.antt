@@ -1,7 +1,7 @@
-use Rattle.std.proofs.Common.{◌≡◌, ◌++◌, ◌∷◌, [], List, ap, sym, ◌∙◌, arith, pos, ◌+◌}
+use Rattle.std.proofs.Common.{◌≡◌, ◌++◌, ◌∷◌, [], ap, sym, ◌∙◌, arith, pos, ◌+◌}
 use Rattle.std.specs.Prelude.{◌+ℤ◌}
 use Rattle.std.proofs.lemmas.Int.{ints, to_z-of_z}
-use Rattle.tla_values.specs.Data.{Val, integer}
+use Rattle.tla_values.specs.Data.{integer}
 use Rattle.value_ops.specs.Listed.{ints_from}
 use Rattle.value_ops.proofs.Intervals.{ints_push}
 use Rattle.value_ops.proofs.listings.integers.Goals as goal

@@ -1,5 +1,4 @@
-use Rattle.std.proofs.Common.{◌≡◌, ◌++◌, ◌∷◌, ◌<◌, [], List, take, drop, length, ap, sym, ◌∙◌, append_assoc, arith}
-use Rattle.tla_values.specs.Data.{Val}
+use Rattle.std.proofs.Common.{◌++◌, ◌∷◌, [], take, drop, ap, sym, ◌∙◌, append_assoc, arith}
 use Rattle.tla_values.specs.Functions.{values_in}
 use Rattle.value_ops.proofs.Parts.{part_more, part_none}
 use Rattle.value_ops.proofs.sequences.push_values.Goals as goal

@@ -1,4 +1,4 @@
-use Rattle.std.proofs.Common.{Err, ap, subst, sym}
+use Rattle.std.proofs.Common.{Err, subst, sym}
 use Rattle.std.specs.List.{Contains}
 use Rattle.tla_values.specs.SetOperations.{GivesSet}
 use Rattle.tla_values.specs.declared.fault.OpFault.{OpFault}

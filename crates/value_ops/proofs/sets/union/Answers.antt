@@ -1,4 +1,4 @@
-use Rattle.std.proofs.Common.{◌≡◌, ◌↔◌, List, subst, sym, ap, ◌∙◌, true, false}
+use Rattle.std.proofs.Common.{◌≡◌, ◌↔◌, List, subst, sym, ap, ◌∙◌, true}
 use Rattle.std.specs.List.{Contains}
 use Rattle.tla_values.specs.Data.{Val}
 use Rattle.tla_values.specs.SetLaws.{ordered}

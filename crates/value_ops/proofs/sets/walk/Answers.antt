@@ -1,4 +1,4 @@
-use Rattle.std.proofs.Common.{◌≡◌, ◌≤◌, ◌⊎◌, inl, inr, ◌++◌, [], length, drop, cond, ap, ◌∙◌, arith}
+use Rattle.std.proofs.Common.{◌≤◌, ◌⊎◌, inl, inr, ◌++◌, [], length, drop, cond, ap, ◌∙◌, arith}
 use Rattle.value_ops.proofs.Walking.{ended, tail_is}
 use Rattle.value_ops.proofs.sets.walk.Goals as goal
 use Rattle.value_ops.proofs.sets.walk.Goals.{then-loop-i-test+else-j-ys, else-loop-i-test}
