@@ -1,17 +1,16 @@
 -- Pairs that are sorted, and keys that come twice.
-use Rattle.std.proofs.Common.{◌≡◌, inl, inr, ℕ, zero, suc, ◌+◌, ◌<◌, ◌≤◌, max, List, [], ◌∷◌, length, map, get_or, ap, sym, ◌∙◌, subst, refl, arith, true, false, Bool, cond}
+use Rattle.std.proofs.Common.{◌≡◌, inl, inr, ℕ, zero, suc, ◌+◌, ◌<◌, ◌≤◌, max, List, [], ◌∷◌, length, map, get_or, ap, subst, refl, arith, true, false, Bool, cond}
 use Rattle.std.specs.declared.cmp.Ordering.{Ordering}
 use Rattle.std.specs.declared.cmp.Ordering.TheVariants.{Less, Equal, Greater}
 use Rattle.std.specs.Ordering.{is_lt, is_eq, ordering_reverse, ordering_then}
-use Rattle.std.specs.List.{Contains, count_by, AllByRecursion}
+use Rattle.std.specs.List.{Contains, AllByRecursion}
 use Rattle.std.specs.List.Sorted.{IsStrictlySortedBy, IsPermutation}
 use Rattle.std.proofs.lemmas.List.Sorted.{sum_by-IsPermutation, Contains-permutation, IsPermutation-sym}
-use Rattle.std.proofs.lemmas.List.Sums.{sum_by-cons}
 use Rattle.tla_values.specs.Data.{Val, function, pairs_of, depth, pairs_depth}
 use Rattle.tla_values.specs.IsValue.{IsValue, HaveCanonical}
 use Rattle.tla_values.specs.Order.{val_cmp, val_eq}
-use Rattle.tla_values.specs.OrderLaws.{val_total, val_same, val_eq_equiv}
-use Rattle.tla_values.specs.Ascending.{cons_cases, head_in, tail_in, none_in, below, not_itself}
+use Rattle.tla_values.specs.OrderLaws.{val_total, val_eq_equiv}
+use Rattle.tla_values.specs.Ascending.{cons_cases, head_in, tail_in, none_in}
 use Rattle.tla_values.specs.Functions.{HasKeyTwice, IsFunctionOf}
 use Rattle.tla_values.specs.FunctionLaws.{pairs_ascending, entries-pairs_of, key_count, count_cons, at_most_one}
 use Rattle.tla_values.specs.View.{pair_cmp}

@@ -1,11 +1,10 @@
 -- What the operations on functions and sequences answer, by their pairs.
-use Rattle.std.specs.Prelude.{◌≡◌, ◌⊎◌, ◌↔◌, ℕ, ◌+◌, ◌-◌, ◌<◌, ◌≤◌, max, ℤ, pos, ◌≤ℤ◌, ◌<ℤ◌, List, [], ◌∷◌, ◌++◌, length, map, take, drop, Contains, Option, Some, None, Result, Ok, Err}
+use Rattle.std.specs.Prelude.{◌≡◌, ◌⊎◌, ◌↔◌, ℕ, ◌+◌, ◌<◌, ◌≤◌, max, ℤ, pos, ◌≤ℤ◌, ◌<ℤ◌, List, [], ◌∷◌, ◌++◌, length, take, drop, Contains, Option, Some, None, Result, Ok, Err}
 use Rattle.tla_values.specs.Data.{Val, function, integer, int_of, depth}
 use Rattle.tla_values.specs.IsValue.{IsValue, max_members, max_depth}
 use Rattle.tla_values.specs.Functions.{HasKeyTwice, IsFunction, IsSequence, InDomain, HasPair, sequence_of, values_in}
 use Rattle.tla_values.specs.Integers.{the_term}
 use Rattle.tla_values.specs.SetOperations.{GivesSet}
-use Rattle.tla_values.specs.declared.fault.EvalKind.{EvalKind}
 use Rattle.tla_values.specs.declared.fault.EvalKind.TheVariants.{NotFunction, NotSequence, NotInteger, OutsideDomain, EmptySequence, BadRange, TooLarge, TooDeep}
 use Rattle.tla_values.specs.declared.fault.OpFault.{OpFault}
 use Rattle.tla_values.specs.declared.fault.OpFault.TheVariants.{Refused, NoMemory}

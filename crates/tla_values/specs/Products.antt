@@ -1,6 +1,6 @@
 -- The large sets that are made of other sets: of subsets, of functions, of tuples and of records.
-use Rattle.std.specs.Prelude.{◌≡◌, ◌⊎◌, ◌↔◌, ℕ, suc, List, [], ◌∷◌, Result, Ok, Err}
-use Rattle.tla_values.specs.Data.{Val, model, truth, integer, string, set, function}
+use Rattle.std.specs.Prelude.{◌≡◌, ◌⊎◌, ◌↔◌, ℕ, suc, List, [], ◌∷◌, Result, Err}
+use Rattle.tla_values.specs.Data.{Val, string, set}
 use Rattle.tla_values.specs.IsValue.{IsValue}
 use Rattle.tla_values.specs.Sets.{Member}
 use Rattle.tla_values.specs.Functions.{IsFunction, InDomain, HasPair, sequence_of}

@@ -1,5 +1,4 @@
-use Rattle.std.proofs.Common.{◌≡◌, ◌<◌, ◌++◌, ◌∷◌, [], List, length, sym, ◌∙◌, arith, rules}
-use Rattle.tla_values.specs.Data.{Val}
+use Rattle.std.proofs.Common.{◌<◌, length, sym, ◌∙◌, arith}
 use Rattle.tla_values.proofs.Entries.{entries_more}
 use Rattle.tla_values.proofs.value.copy_pairs.Goals as goal
 
