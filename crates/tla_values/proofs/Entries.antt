@@ -1,12 +1,12 @@
 -- The pairs of a function as they are held.
-use Rattle.std.proofs.Common.{◌≡◌, inl, inr, ℕ, zero, suc, ◌+◌, ◌<◌, ◌≤◌, List, [], ◌∷◌, ◌++◌, length, map, get_or, ap, sym, ◌∙◌, subst, refl, arith, Some, None, Err}
+use Rattle.std.proofs.Common.{◌≡◌, inl, inr, ℕ, zero, suc, ◌+◌, ◌<◌, ◌≤◌, List, [], ◌∷◌, ◌++◌, length, take, map, get_or, ap, sym, ◌∙◌, subst, refl, arith, Some, None, Err}
 use Rattle.std.specs.declared.cmp.Ordering.TheVariants.{Less, Equal, Greater}
 use Rattle.std.specs.Ordering.{is_lt, ordering_reverse}
 use Rattle.std.specs.List.{Contains, slice_get}
 use Rattle.std.specs.List.Sorted.{IsStrictlySortedBy, IsSortedBy, IsBinarySearchResult}
 use Rattle.std.proofs.lemmas.Bool.{cases_lt}
 use Rattle.std.proofs.lemmas.Cmp.{tied_itself}
-use Rattle.std.proofs.lemmas.List.{get_or-map}
+use Rattle.std.proofs.lemmas.List.{get_or-map, take_more}
 use Rattle.std.proofs.lemmas.List.Sorted.{searchable_from_sorted}
 use Rattle.std.proofs.lemmas.Map.Keys.{Less-from_sorted}
 use Rattle.tla_values.specs.Data.{Val, Pairs, no_pairs, more_pairs, pairs_of, entries}
@@ -105,3 +105,10 @@ pairs_after (p ∷ ps) k v = ap (more_pairs p.0 p.1) (pairs_after ps k v)
 
 pub one_more : (es ds : List Entry) (ps : List (Val × Val)) (e : Entry) → ds ≡ es ++ e ∷ [] → entries_view es ≡ pairs_of ps → entries_view ds ≡ pairs_of (ps ++ (e.key, e.value) ∷ [])
 one_more es ds ps e is h = ap entries_view is ∙ entries_after es e ∙ ap (λ qs. after qs e.key e.value) h ∙ sym (pairs_after ps e.key e.value)
+
+entries_push : (es : List Entry) (e : Entry) → entries (entries_view (es ++ e ∷ [])) ≡ entries (entries_view es) ++ (e.key, e.value) ∷ []
+entries_push [] e = refl
+entries_push (d ∷ ds) e = ap (λ ps. (d.key, d.value) ∷ ps) (entries_push ds e)
+
+pub entries_more : (es : List Entry) (i : ℕ) (e : Entry) → i < length es → e ≡ get_or es i e → entries (entries_view (take (i + 1) es)) ≡ entries (entries_view (take i es)) ++ (e.key, e.value) ∷ []
+entries_more es i e h is = rw (take_more es i e, ← is) (entries_push (take i es) e)

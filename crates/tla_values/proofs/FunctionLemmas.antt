@@ -1,27 +1,19 @@
 -- Pairs that are sorted, and keys that come twice.
-use Rattle.std.proofs.Common.{◌≡◌, inl, inr, ℕ, zero, suc, ◌+◌, ◌<◌, ◌≤◌, max, List, [], ◌∷◌, length, map, get_or, ap, sym, ◌∙◌, subst, refl, arith, true, false, Bool, cond}
+use Rattle.std.proofs.Common.{◌≡◌, inl, inr, ℕ, zero, suc, ◌+◌, ◌<◌, ◌≤◌, max, List, [], ◌∷◌, length, map, get_or, ap, subst, refl, arith, true, false, Bool, cond}
 use Rattle.std.specs.declared.cmp.Ordering.{Ordering}
 use Rattle.std.specs.declared.cmp.Ordering.TheVariants.{Less, Equal, Greater}
 use Rattle.std.specs.Ordering.{is_lt, is_eq, ordering_reverse, ordering_then}
-use Rattle.std.specs.List.{Contains, count_by, AllByRecursion}
+use Rattle.std.specs.List.{Contains, AllByRecursion}
 use Rattle.std.specs.List.Sorted.{IsStrictlySortedBy, IsPermutation}
 use Rattle.std.proofs.lemmas.List.Sorted.{sum_by-IsPermutation, Contains-permutation, IsPermutation-sym}
-use Rattle.std.proofs.lemmas.List.Sums.{sum_by-cons}
 use Rattle.tla_values.specs.Data.{Val, function, pairs_of, depth, pairs_depth}
 use Rattle.tla_values.specs.IsValue.{IsValue, HaveCanonical}
 use Rattle.tla_values.specs.Order.{val_cmp, val_eq}
-use Rattle.tla_values.specs.OrderLaws.{val_total, val_same, val_eq_equiv}
-use Rattle.tla_values.specs.Ascending.{cons_cases, head_in, tail_in, none_in, below, not_itself}
+use Rattle.tla_values.specs.OrderLaws.{val_total, val_eq_equiv}
+use Rattle.tla_values.specs.Ascending.{cons_cases, head_in, tail_in, none_in}
 use Rattle.tla_values.specs.Functions.{HasKeyTwice, IsFunctionOf}
-use Rattle.tla_values.specs.FunctionLaws.{key_cmp, key_total, pairs_ascending, entries-pairs_of}
+use Rattle.tla_values.specs.FunctionLaws.{pairs_ascending, entries-pairs_of, key_count, count_cons, at_most_one}
 use Rattle.tla_values.specs.View.{pair_cmp}
-
--- how many of the pairs have the key
-abbrev key_count : Val → List (Val × Val) → ℕ
-key_count key ps = count_by (λ (p : Val × Val). val_eq p.0 key) ps
-
-count_cons : (key : Val) (p : Val × Val) (ps : List (Val × Val)) → key_count key (p ∷ ps) ≡ cond (val_eq p.0 key) 1 0 + key_count key ps
-count_cons key p ps = sum_by-cons (λ (q : Val × Val). cond (val_eq q.0 key) 1 0) p ps
 
 -- two pairs side by side with one key
 pub two_alike : (ps : List (Val × Val)) (i j : ℕ) (p q : Val × Val) → j ≡ i + 1 → j < length ps → p ≡ get_or ps i p → q ≡ get_or ps j q → val_eq p.0 q.0 ≡ true → HasKeyTwice ps
@@ -77,37 +69,6 @@ ascending_from_neighbours (p ∷ q ∷ ps) h =
     further : (k l : Val) (ks : List Val) → val_cmp k l ≡ Less → AllByRecursion (λ j. val_cmp l j ≡ Less) ks → AllByRecursion (λ j. val_cmp k j ≡ Less) ks
     further k l [] e a = tt
     further k l (j ∷ ks) e a = (val_total.trans k l j e a.0, further k l ks e a.1)
-
--- no key comes twice where the keys ascend
-none_alike : (ps : List (Val × Val)) (key : Val) → ((p : Val × Val) → Contains ps p → p.0 ≡ key → ⊥) → key_count key ps ≡ 0
-none_alike [] key h = refl
-none_alike (p ∷ ps) key h =
-    let rest = none_alike ps key (λ q g e. h q (tail_in p ps q g) e) in
-    omega (arith, count_cons key p ps, none (val_eq p.0 key) (λ e. h p (head_in p ps) (val_same p.0 key e)), rest)
-  where
-    none : (b : Bool) → (b ≡ true → ⊥) → cond b 1 0 ≤ 0
-    none true f = absurd (f refl)
-    none false f = omega arith
-
-at_most_one : (ps : List (Val × Val)) (key : Val) → IsStrictlySortedBy key_cmp ps → key_count key ps ≤ 1
-unfolding IsStrictlySortedBy
-at_most_one [] key s = omega arith
-at_most_one (p ∷ ps) key s = either (at_most_one ps key s.1) (val_eq p.0 key) refl
-  where
-    most_one : (b : Bool) → cond b 1 0 ≤ 1
-    most_one true = omega arith
-    most_one false = omega arith
-
-    none : (b : Bool) → b ≡ false → cond b 1 0 ≤ 0
-    none true e = cc
-    none false e = omega arith
-
-    either : key_count key ps ≤ 1 → (b : Bool) → val_eq p.0 key ≡ b → key_count key (p ∷ ps) ≤ 1
-    either few true e =
-        let k : p.0 ≡ key = val_same p.0 key e in
-        let rest : key_count key ps ≡ 0 = none_alike ps key (λ q g f. not_itself val_cmp val_total p.0 q.0 (k ∙ sym f) (below key_cmp key_total p ps q s g)) in
-        omega (arith, count_cons key p ps, rest, most_one (val_eq p.0 key))
-    either few false e = omega (arith, count_cons key p ps, few, none (val_eq p.0 key) e)
 
 pub no_key_twice : (xs ps : List (Val × Val)) → IsPermutation xs ps → IsStrictlySortedBy val_cmp (map (λ p. p.0) ps) → ¬ HasKeyTwice xs
 no_key_twice xs ps perm s t =

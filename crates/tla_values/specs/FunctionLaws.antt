@@ -1,18 +1,19 @@
 -- Two functions with the same pairs are equal, and what follows.
-use Rattle.std.specs.Prelude.{◌≡◌, List, [], ◌∷◌, map, refl, Contains}
-use Rattle.std.proofs.Common.{ap, sym, ◌∙◌, subst, inl, inr}
+use Rattle.std.specs.Prelude.{◌≡◌, ℕ, ◌+◌, ◌≤◌, Bool, true, false, cond, List, [], ◌∷◌, map, refl, Contains}
+use Rattle.std.proofs.Common.{ap, sym, ◌∙◌, subst, inl, inr, arith}
 use Rattle.std.specs.declared.cmp.Ordering.{Ordering}
 use Rattle.std.specs.declared.cmp.Ordering.TheVariants.{Less}
 use Rattle.std.specs.Cmp.{IsTotalOrder}
-use Rattle.std.specs.List.{AllByRecursion}
+use Rattle.std.specs.List.{AllByRecursion, count_by}
 use Rattle.std.specs.List.Sorted.{IsStrictlySortedBy}
+use Rattle.std.proofs.lemmas.List.Sums.{sum_by-cons}
 use Rattle.std.proofs.lemmas.Map.Keys.{sorted_tail}
 use Rattle.tla_values.specs.Data.{Val, model, truth, integer, string, set, function, Pairs, no_pairs, more_pairs, pairs_of, entries}
-use Rattle.tla_values.specs.Order.{val_cmp}
-use Rattle.tla_values.specs.OrderLaws.{val_total}
+use Rattle.tla_values.specs.Order.{val_cmp, val_eq}
+use Rattle.tla_values.specs.OrderLaws.{val_total, val_same}
 use Rattle.tla_values.specs.Ascending.{cons_cases, head_in, tail_in, none_in, below, not_itself, ascending_unique}
 use Rattle.tla_values.specs.IsValue.{IsValue, IsOrdered}
-use Rattle.tla_values.specs.Functions.{IsFunction, pairs_in, keys_in, FunctionsByPairs, OneValueAtKey, DomainByPairs}
+use Rattle.tla_values.specs.Functions.{HasKeyTwice, IsFunction, pairs_in, keys_in, FunctionsByPairs, OneValueAtKey, DomainByPairs}
 
 pub pairs_of-entries : (ps : Pairs) → pairs_of (entries ps) ≡ ps
 pairs_of-entries no_pairs = refl
@@ -124,3 +125,45 @@ in_keys (p ∷ ps) r h =
 
 pub domain_by_pairs : DomainByPairs
 domain_by_pairs f key = (key_in (pairs_in f) key, λ h. in_keys (pairs_in f) (key, h.0) h.1)
+
+-- how many of the pairs have the key
+abbrev pub key_count : Val → List (Val × Val) → ℕ
+key_count key ps = count_by (λ (p : Val × Val). val_eq p.0 key) ps
+
+pub count_cons : (key : Val) (p : Val × Val) (ps : List (Val × Val)) → key_count key (p ∷ ps) ≡ cond (val_eq p.0 key) 1 0 + key_count key ps
+count_cons key p ps = sum_by-cons (λ (q : Val × Val). cond (val_eq q.0 key) 1 0) p ps
+
+-- no key comes twice where the keys ascend
+pub none_alike : (ps : List (Val × Val)) (key : Val) → ((p : Val × Val) → Contains ps p → p.0 ≡ key → ⊥) → key_count key ps ≡ 0
+none_alike [] key h = refl
+none_alike (p ∷ ps) key h =
+    let rest = none_alike ps key (λ q g e. h q (tail_in p ps q g) e) in
+    omega (arith, count_cons key p ps, none (val_eq p.0 key) (λ e. h p (head_in p ps) (val_same p.0 key e)), rest)
+  where
+    none : (b : Bool) → (b ≡ true → ⊥) → cond b 1 0 ≤ 0
+    none true f = absurd (f refl)
+    none false f = omega arith
+
+pub at_most_one : (ps : List (Val × Val)) (key : Val) → IsStrictlySortedBy key_cmp ps → key_count key ps ≤ 1
+unfolding IsStrictlySortedBy
+at_most_one [] key s = omega arith
+at_most_one (p ∷ ps) key s = either (at_most_one ps key s.1) (val_eq p.0 key) refl
+  where
+    most_one : (b : Bool) → cond b 1 0 ≤ 1
+    most_one true = omega arith
+    most_one false = omega arith
+
+    none : (b : Bool) → b ≡ false → cond b 1 0 ≤ 0
+    none true e = cc
+    none false e = omega arith
+
+    either : key_count key ps ≤ 1 → (b : Bool) → val_eq p.0 key ≡ b → key_count key (p ∷ ps) ≤ 1
+    either few true e =
+        let k : p.0 ≡ key = val_same p.0 key e in
+        let rest : key_count key ps ≡ 0 = none_alike ps key (λ q g f. not_itself val_cmp val_total p.0 q.0 (k ∙ sym f) (below key_cmp key_total p ps q s g)) in
+        omega (arith, count_cons key p ps, rest, most_one (val_eq p.0 key))
+    either few false e = omega (arith, count_cons key p ps, few, none (val_eq p.0 key) e)
+
+-- where the keys ascend no key comes twice
+pub ascending_once : (ps : List (Val × Val)) → IsStrictlySortedBy val_cmp (map (λ p. p.0) ps) → ¬ HasKeyTwice ps
+ascending_once ps s t = omega (arith, t.twice, at_most_one ps t.key (pairs_ascending ps s))

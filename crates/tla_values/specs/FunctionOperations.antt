@@ -1,13 +1,10 @@
 -- What the operations on functions and sequences answer, by their pairs.
-use Rattle.std.specs.Prelude.{◌≡◌, ◌⊎◌, ◌↔◌, ℕ, ◌+◌, ◌-◌, ◌<◌, ◌≤◌, max, ℤ, pos, ◌≤ℤ◌, ◌<ℤ◌, List, [], ◌∷◌, ◌++◌, length, map, take, drop, Contains, Result, Ok, Err}
-use Rattle.std.specs.List.Sorted.{IsStrictlySortedBy}
-use Rattle.tla_values.specs.Data.{Val, function, integer, depth}
-use Rattle.tla_values.specs.Order.{val_cmp}
+use Rattle.std.specs.Prelude.{◌≡◌, ◌⊎◌, ◌↔◌, ℕ, ◌+◌, ◌<◌, ◌≤◌, max, ℤ, pos, ◌≤ℤ◌, ◌<ℤ◌, List, [], ◌∷◌, ◌++◌, length, take, drop, Contains, Option, Some, None, Result, Ok, Err}
+use Rattle.tla_values.specs.Data.{Val, function, integer, int_of, depth}
 use Rattle.tla_values.specs.IsValue.{IsValue, max_members, max_depth}
-use Rattle.tla_values.specs.Functions.{IsFunction, IsSequence, InDomain, HasPair, sequence_of, values_in}
+use Rattle.tla_values.specs.Functions.{HasKeyTwice, IsFunction, IsSequence, InDomain, HasPair, sequence_of, values_in}
 use Rattle.tla_values.specs.Integers.{the_term}
 use Rattle.tla_values.specs.SetOperations.{GivesSet}
-use Rattle.tla_values.specs.declared.fault.EvalKind.{EvalKind}
 use Rattle.tla_values.specs.declared.fault.EvalKind.TheVariants.{NotFunction, NotSequence, NotInteger, OutsideDomain, EmptySequence, BadRange, TooLarge, TooDeep}
 use Rattle.tla_values.specs.declared.fault.OpFault.{OpFault}
 use Rattle.tla_values.specs.declared.fault.OpFault.TheVariants.{Refused, NoMemory}
@@ -18,10 +15,10 @@ pub record IsFunctionWith (P : Val → Val → Type 0) (f : Val) : Type 0 where
   pub is_function : IsFunction f
   pub same : (key v : Val) → HasPair f key v ↔ P key v
 
--- more pairs than a function may have meet P
+-- more pairs than a function may have meet P, and no key comes twice
 pub record AreTooManyPairs (P : Val → Val → Type 0) : Type 0 where
   pub some : List (Val × Val)
-  pub ascending : IsStrictlySortedBy val_cmp (map (λ p. p.0) some)
+  pub once : ¬ HasKeyTwice some
   pub each : (key v : Val) → Contains some (key, v) → P key v
   pub many : max_members < length some
 
@@ -122,3 +119,20 @@ Appends s v r = OnSequence 0 s (λ vs o. GivesSequence (vs ++ v ∷ []) o) r
 
 abbrev pub Concatenates : Val → Val → Result Val OpFault → Type 0
 Concatenates s t r = OnSequence 0 s (λ vs o. OnSequence 1 t (λ ws p. GivesSequence (vs ++ ws) p) o) r
+
+-- Of the values vs those from the m-th to the n-th, which count from 1: none where m is above n, and
+-- else both must count a value.
+abbrev pub GivesPart : List Val → ℤ → ℤ → Result Val OpFault → Type 0
+GivesPart vs m n r =
+    ((n <ℤ m) × GivesSequence [] r)
+    ⊎ ((from to : ℕ) × (m ≡ pos (from + 1)) × (n ≡ pos to) × (from < to) × (to ≤ length vs) × GivesSequence (drop from (take to vs)) r)
+    ⊎ ((m ≤ℤ n) × ((m <ℤ pos 1) ⊎ (pos (length vs) <ℤ n)) × (r ≡ Err (Refused BadRange the_term)))
+
+-- the same where the bounds may be no integers, the second and the third operand
+abbrev pub GivesPartBetween : List Val → Option ℤ → Option ℤ → Result Val OpFault → Type 0
+GivesPartBetween vs (Some m) (Some n) r = GivesPart vs m n r
+GivesPartBetween vs (Some m) None r = r ≡ Err (Refused NotInteger 2)
+GivesPartBetween vs None n r = r ≡ Err (Refused NotInteger 1)
+
+abbrev pub TakesPart : Val → Val → Val → Result Val OpFault → Type 0
+TakesPart s m n r = OnSequence 0 s (λ vs o. GivesPartBetween vs (int_of m) (int_of n) o) r

@@ -1,8 +1,7 @@
 -- What the operations on integers answer.
-use Rattle.std.specs.Prelude.{◌≡◌, ℕ, zero, suc, Bool, true, false, ℤ, pos, negsuc, neg_ℤ, ◌+ℤ◌, ◌-ℤ◌, ◌*ℤ◌, ◌≤ℤ◌, ◌<ℤ◌, nat_lt, int_lt, int_le, if◌then◌else◌, Result, Ok, Err}
+use Rattle.std.specs.Prelude.{◌≡◌, ℕ, zero, Bool, ℤ, pos, negsuc, neg_ℤ, ◌+ℤ◌, ◌-ℤ◌, ◌*ℤ◌, ◌≤ℤ◌, ◌<ℤ◌, nat_lt, int_lt, int_le, if◌then◌else◌, Result, Ok, Err}
 use Rattle.std.specs.Int.{int_div_euclid, int_rem_euclid, int_pow}
 use Rattle.tla_values.specs.Data.{Val, integer}
-use Rattle.tla_values.specs.declared.fault.EvalKind.{EvalKind}
 use Rattle.tla_values.specs.declared.fault.EvalKind.TheVariants.{NotInteger, Overflow, BadDivisor, BadPower}
 use Rattle.tla_values.specs.declared.fault.OpFault.{OpFault}
 use Rattle.tla_values.specs.declared.fault.OpFault.TheVariants.{Refused}

@@ -15,3 +15,4 @@ pub mod HashInput
 pub mod Integers
 pub mod SetOperations
 pub mod FunctionOperations
+pub mod Products

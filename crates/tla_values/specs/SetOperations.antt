@@ -1,12 +1,11 @@
 -- What the operations on sets answer, by membership.
-use Rattle.std.specs.Prelude.{◌≡◌, ◌⊎◌, ◌↔◌, ℕ, ◌<◌, ◌≤◌, ℤ, pos, ◌≤ℤ◌, List, length, Contains, Result, Ok, Err}
+use Rattle.std.specs.Prelude.{◌≡◌, ◌⊎◌, ◌↔◌, ◌<◌, ◌≤◌, ℤ, pos, ◌≤ℤ◌, List, length, Contains, Result, Ok, Err}
 use Rattle.std.specs.List.Sorted.{IsStrictlySortedBy}
 use Rattle.tla_values.specs.Data.{Val, set, integer, members, depth}
 use Rattle.tla_values.specs.Order.{val_cmp}
 use Rattle.tla_values.specs.IsValue.{IsValue, max_members, max_depth}
 use Rattle.tla_values.specs.Sets.{IsSet, Member}
 use Rattle.tla_values.specs.Integers.{the_term, int_operands}
-use Rattle.tla_values.specs.declared.fault.EvalKind.{EvalKind}
 use Rattle.tla_values.specs.declared.fault.EvalKind.TheVariants.{NotSet, TooLarge, TooDeep}
 use Rattle.tla_values.specs.declared.fault.OpFault.{OpFault}
 use Rattle.tla_values.specs.declared.fault.OpFault.TheVariants.{Refused, NoMemory}

@@ -4,7 +4,7 @@ ghost use Rattle.std.specs.Cmp.Lexicographic.{slice_cmp};
 ghost use Rattle.std.specs.List.Sorted.{IsBinarySearchResult, IsSearchInRange};
 ghost use Rattle.std.specs.Option.{option_map};
 ghost use Rattle.tla_values.specs.Data.{model, string, integer, truth, function, int_of, bool_of, text_of, Val};
-ghost use Rattle.tla_values.specs.Functions.{Applies, DomainByPairs, FunctionsByPairs, IsSequence, OneValueAtKey, keys_in, sequence_of, values_in};
+ghost use Rattle.tla_values.specs.Functions.{Applies, DomainByPairs, FunctionsByPairs, IsSequence, OneValueAtKey, keys_in, pairs_in, sequence_of, values_in};
 ghost use Rattle.tla_values.specs.IsValue.{IsValue};
 ghost use Rattle.tla_values.specs.Kind.{kind_of};
 ghost use Rattle.tla_values.specs.Order.{val_cmp, val_eq, kind_rank};
@@ -281,6 +281,16 @@ impl Value {
         }
     }
 
+    /// A copy of the pairs of a function in order, and none where it is no function.
+    pub fn pairs(&self, alloc: Global) -> Result<Vec<(Value, Value)>, AllocError>
+        ensures { IfOk result (λ pairs. pairs.items ≡ pairs_in self.now) }
+    {
+        match &self.node {
+            Node::Function(entries) => copy_pairs(alloc, entries),
+            _ => Ok(Vec::new(alloc)),
+        }
+    }
+
     /// Whether `v` is a member of this set.
     pub fn contains(&self, v: &Value) -> bool
         ensures { IsTrue result ↔ Member v.now self.now }
@@ -430,6 +440,18 @@ fn compare_entries(a: &Vec<Entry>, b: &Vec<Entry>) -> Ordering
         }
     }
     a.len().cmp(&b.len())
+}
+
+fn copy_pairs(alloc: Global, entries: &Vec<Entry>) -> Result<Vec<(Value, Value)>, AllocError>
+    ensures { IfOk result (λ pairs. pairs.items ≡ pairs_in (function (entries_view entries.now.items))) }
+{
+    let mut pairs = Vec::with_capacity(alloc, entries.len())?;
+    for entry in entries {
+        let key = entry.key.copy()?;
+        let value = entry.value.copy()?;
+        pairs.push((key, value))?;
+    }
+    Ok(pairs)
 }
 
 /// Whether the keys are 1 to the number of the pairs.

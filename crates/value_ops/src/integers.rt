@@ -1,4 +1,5 @@
-ghost use Rattle.std.specs.Prelude.{◌≡◌};
+ghost use Rattle.std.specs.Prelude.{◌≡◌, ◌≤ℤ◌, if◌then◌else◌, negsuc, pos};
+ghost use Rattle.tla_values.specs.Data.{integer};
 ghost use Rattle.tla_values.specs.Integers.{
   Division,
   difference_of,
@@ -7,6 +8,7 @@ ghost use Rattle.tla_values.specs.Integers.{
   is_at_most,
   is_less,
   negation_of,
+  power as power_int,
   power_of,
   product_of,
   quotient_of,
@@ -70,6 +72,48 @@ pub fn modulo(a: &Value, b: &Value) -> Result<Value, OpFault>
         return Err(OpFault::Refused(EvalKind::BadDivisor, THE_TERM));
     }
     Ok(Value::int(x.rem_euclid(y)))
+}
+
+/// `a ^ b`, where `b` must not be negative, and not 0 if `a` is 0.
+pub fn power(a: &Value, b: &Value) -> Result<Value, OpFault>
+    ensures { result ≡ power_of a.now b.now }
+{
+    let (x, y) = operands(a, b)?;
+    if y < 0 || (x == 0 && y == 0) {
+        return Err(OpFault::Refused(EvalKind::BadPower, THE_TERM));
+    }
+    match u32::try_from(y) {
+        Ok(exponent) => or_overflow(x.checked_pow(exponent)),
+        Err(_) => large_power(x, y),
+    }
+}
+
+/// `x ^ y` where `y` is so large that only 0, 1 and -1 have a power that fits.
+fn large_power(x: i64, y: i64) -> Result<Value, OpFault>
+    requires { pos 4294967296 ≤ℤ y }
+    ensures { result ≡ power_int x y }
+{
+    if x == 0 {
+        return Ok(Value::int(0));
+    }
+    if x == 1 {
+        return Ok(Value::int(1));
+    }
+    if x == -1 {
+        return Ok(unit(y.unsigned_abs() % 2 == 0));
+    }
+    Err(OpFault::Refused(EvalKind::Overflow, THE_TERM))
+}
+
+/// 1 or -1.
+fn unit(is_positive: bool) -> Value
+    ensures { result ≡ (if is_positive then integer (pos 1) else integer (negsuc 0)) }
+{
+    if is_positive {
+        Value::int(1)
+    } else {
+        Value::int(-1)
+    }
 }
 
 /// `a < b`.

@@ -2,9 +2,19 @@
 //! whole term.
 #![tactic(auto)]
 
+mod functions;
 mod integers;
+mod listings;
+mod sequences;
+mod sets;
+#[cfg(test)]
+mod tests;
 
-pub use integers::{add, at_most, div, division_law, less, modulo, mul, negate, sub};
+pub use functions::{apply_at, domain, except_one, merge, single};
+pub use integers::{add, at_most, div, division_law, less, modulo, mul, negate, power, sub};
+pub use listings::{big_union, interval};
+pub use sequences::{append, concat, head, len_of, subseq, tail};
+pub use sets::{cardinality, intersect, minus, union};
 
 /// In a fault, the number that stands for the whole term in place of an operand.
 const THE_TERM: u8 = 255;

@@ -1,5 +1,5 @@
-use Rattle.std.proofs.Common.{◌≡◌, ℕ, ◌+◌, ◌<◌, ◌≤◌, length, get_or, pos, refl, ap, sym, ◌∙◌, arith, true, false}
-use Rattle.tla_values.specs.Data.{Val, integer, function, Pairs, no_pairs}
+use Rattle.std.proofs.Common.{◌≡◌, ◌+◌, get_or, pos, refl, ap, ◌∙◌, arith}
+use Rattle.tla_values.specs.Data.{integer, function}
 use Rattle.tla_values.specs.declared.value.Entry.{Entry}
 use Rattle.tla_values.proofs.SequenceLemmas.{numbered_by_places, places_of_numbered, tree_of_sequence}
 use Rattle.tla_values.proofs.value.are_numbered.Goals as goal

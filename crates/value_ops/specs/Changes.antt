@@ -1,0 +1,14 @@
+-- Pairs of a function that are changed or left out, for helpers of the operations on functions.
+use Rattle.std.specs.Prelude.{cond, List, [], ◌∷◌}
+use Rattle.tla_values.specs.Data.{Val}
+use Rattle.tla_values.specs.Order.{val_eq}
+use Rattle.value_ops.specs.Among.{among}
+
+-- the pair with another value, if it has the key
+abbrev pub replaced : Val → Val → Val × Val → Val × Val
+replaced key new p = (p.0, cond (val_eq p.0 key) new p.1)
+
+-- the pairs whose keys are not among the keys ks
+abbrev pub outside : List Val → List (Val × Val) → List (Val × Val)
+outside ks [] = []
+outside ks (p ∷ ps) = cond (among ks p.0) (outside ks ps) (p ∷ outside ks ps)
