@@ -56,10 +56,10 @@ pub trait Steps {
     fn assumes(&self) -> u32
         ensures { result ≡ (system self.now).assumes };
 
-    /// Nothing where the assumption is TRUE, or its place where it is FALSE. Assumptions are counted from 0.
+    /// Nothing where the assumption is TRUE, or its place where it is FALSE. Assumptions are counted from 0; where there
+    /// is none of the number, the answer tells nothing.
     fn assumed(&self, alloc: Global, index: u32) -> Result<Option<Place>, StepFault>
-        requires { index < (system self.now).assumes }
-        ensures { Tells (system self.now) index result };
+        ensures { index < (system self.now).assumes → Tells (system self.now) index result };
 
     /// The first states, each once.
     fn initial(&self, alloc: Global, bound: u32) -> Result<StateList, StepFault>
