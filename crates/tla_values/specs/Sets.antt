@@ -64,7 +64,7 @@ MakesSet xs (Err NoMemory) = Unit {0}
 abbrev pub SetsByMembers : Type 0
 SetsByMembers = (s t : Val) → IsValue s → IsValue t → IsSet s → IsSet t → ((v : Val) → Member v s ↔ Member v t) → s ≡ t
 
--- there is a set of the values xs, or they are too many, or too deep, and never two of these
+-- of these no two hold: there is a set of the values xs; they are too many; their set would be too deep
 pub record SetAnswers (xs : List Val) : Type 0 where
   pub not_large : (s : Val) → IsSetOf xs s → IsTooLarge xs → ⊥
   pub not_deep : (s : Val) → IsSetOf xs s → IsTooDeep xs → ⊥

@@ -296,7 +296,7 @@ impl Value {
         ensures { IsTrue result ↔ Member v.now self.now }
     {
         match &self.node {
-            Node::Set(items) => items.binary_search(v).is_ok(),
+            Node::Set(items) => items.as_slice().binary_search(v).is_ok(),
             _ => false,
         }
     }
