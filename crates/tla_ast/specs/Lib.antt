@@ -1,7 +1,11 @@
 pub mod Laid
 pub mod LexedEnds
+pub mod LitCodes
+pub mod Literals
+pub mod Lits
 pub mod Nests
 pub mod Opens
+pub mod Shallower
 pub mod Spellings
 pub mod Shapes
 pub mod Tokens

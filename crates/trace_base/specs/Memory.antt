@@ -1,5 +1,5 @@
 -- What callers know of files and of a sink in memory, and what a call of each answers.
-use Rattle.std.specs.Prelude.{◌≡◌, ◌⊎◌, ℕ, ◌+◌, ◌-◌, ◌≤◌, ◌<◌, List, ◌++◌, length, take, drop, map, slice_get, option_map, Contains, Option, Some, None, Vec, Result, Ok, Err}
+use Rattle.std.specs.Prelude.{◌≡◌, ◌⊎◌, ℕ, ◌+◌, ◌-◌, ◌≤◌, ◌<◌, Bool, true, false, List, ◌++◌, length, take, drop, map, slice_get, option_map, Contains, Option, Some, None, Vec, Result, Ok, Err}
 use Rattle.std.specs.Global.{Global}
 use Rattle.trace_base.specs.Device.{File, found, count_after, TakesOf}
 use Rattle.trace_base.specs.declared.device.OpenFault.{OpenFault}
@@ -33,6 +33,11 @@ abbrev pub FindsAt : List ℕ → List File → Option ℕ → Type 0
 FindsAt name fs None = found name fs ≡ None
 FindsAt name fs (Some i) = (f : File) × (slice_get fs i ≡ Some f) × (found name fs ≡ Some f.1)
 
+-- the file is there and all its bytes are left, or it is not and no file is open
+abbrev pub Finds : List ℕ → List File → Bool → Option (List ℕ) → Type 0
+Finds name fs true left = (bytes : List ℕ) × (found name fs ≡ Some bytes) × (left ≡ Some bytes)
+Finds name fs false left = (found name fs ≡ None) × (left ≡ None)
+
 -- the call was counted, and the files and the numbers are as before
 pub record IsCalled (before after : InMemory) : Type 0 where
   pub files : after.files ≡ before.files
@@ -56,6 +61,24 @@ NextAnswers before (Ok count) room after = (FailsNext before.failing before.call
     × (count ≤ length room) × TakesOf before.left count room after.left × (after.faults ≡ before.faults)
 NextAnswers before (Err _) room after =
     FailsNext before.failing before.calls × (after.left ≡ before.left) × (after.faults ≡ count_after before.faults)
+
+-- Files in memory that never fail: the files, and what is left of the open one.
+pub record Sure : Type 0 where
+  pub files : List File
+  pub left : Option (List ℕ)
+
+-- Missing exactly where there is no such file, and no other refusal. Without one the file is open with
+-- all its bytes left.
+abbrev pub OpensSurely : List ℕ → List File → Result (Unit {0}) OpenFault → Option (List ℕ) → Type 0
+OpensSurely name files (Ok _) left = (bytes : List ℕ) × (found name files ≡ Some bytes) × (left ≡ Some bytes)
+OpensSurely name files (Err Missing) left = (found name files ≡ None) × (left ≡ None)
+OpensSurely name files (Err Failed) left = ⊥
+OpensSurely name files (Err NoMemory) left = ⊥
+
+-- the next bytes of the open file, without a fault
+abbrev pub TakesSurely : Option (List ℕ) → Result ℕ Fault → List ℕ → Option (List ℕ) → Type 0
+TakesSurely before (Ok count) room after = (count ≤ length room) × TakesOf before count room after
+TakesSurely before (Err _) room after = ⊥
 
 -- A sink in memory: its bytes, how many it has room for, the numbers of the calls that fail, how many
 -- calls there were, and how many of them were faults.

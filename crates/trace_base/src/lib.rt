@@ -2,12 +2,14 @@
 #![tactic(auto)]
 
 mod device;
+mod held;
 mod host;
 mod memory;
 mod names;
 mod place;
 mod reading;
 mod sinks;
+mod sure;
 mod text;
 mod turns;
 
@@ -18,6 +20,7 @@ pub use names::Names;
 pub use place::{LineAt, Place};
 pub use reading::{ReadFault, read_file};
 pub use sinks::MemorySink;
+pub use sure::SureFiles;
 pub use text::Text;
 
 /// Want of memory: the one refusal that any call that allocates may give.

@@ -9,6 +9,7 @@ use crate::names::Names;
 use crate::place::{LineAt, Place};
 use crate::reading::{ReadFault, read_file};
 use crate::sinks::MemorySink;
+use crate::sure::SureFiles;
 use crate::text::Text;
 use std::alloc::{AllocError, Global};
 use std::collections::HashMap;
@@ -24,11 +25,24 @@ fn bytes(alloc: Global, count: u32) -> Result<Vec<u8>, AllocError> {
 }
 
 /// A file `long` of 40,000 bytes and an empty file `none`.
-fn two_files(alloc: Global, failing: &[u64]) -> Result<MemoryFiles, AllocError> {
+fn two(alloc: Global) -> Result<Vec<(Text, Vec<u8>)>, AllocError>
+    ensures { IfOk result (λ v. AreDistinct (files_of v.items)) }
+{
     let long = (Text::from_text(alloc, "long")?, bytes(alloc, 40_000)?);
     let none = (Text::from_text(alloc, "none")?, Vec::new(alloc));
-    let files = Vec::from_array(alloc, [long, none])?;
+    Vec::from_array(alloc, [long, none])
+}
+
+fn two_files(alloc: Global, failing: &[u64]) -> Result<MemoryFiles, AllocError> {
+    let files = two(alloc)?;
     Ok(MemoryFiles::new(files, Vec::from_slice(alloc, failing)?))
+}
+
+/// What reading a file that never fails answers, with the length for the bytes.
+fn sure_answer(alloc: Global, name: &str, limit: usize) -> Result<Result<usize, ReadFault>, AllocError> {
+    let mut files = SureFiles::new(two(alloc)?);
+    let read = read_file(alloc, &mut files, name, limit);
+    Ok(read.map(|v| v.len()))
 }
 
 /// What reading answers, with the length for the bytes, and the count of faults after it.
@@ -108,6 +122,24 @@ fn files_and_sinks(rt: HostRuntime) -> Result<(), Fail> {
     let mut files = two_files(alloc, &[])?;
     let read = read_file(alloc, &mut files, "long", 40_000);
     assert!(rt; matches!(&read, Ok(v) if v.as_slice() == bytes(alloc, 40_000)?.as_slice()));
+
+    let sure: [(&str, usize, Result<usize, ReadFault>); 4] = [
+        ("long", 40_000, Ok(40_000)),
+        ("long", 39_999, Err(ReadFault::TooLong)),
+        ("none", 0, Ok(0)),
+        ("other", 9, Err(ReadFault::Missing)),
+    ];
+    for (name, limit, want) in sure {
+        assert_eq!(rt; sure_answer(alloc, name, limit)?, want, "{name} {limit}");
+    }
+    let mut files = SureFiles::new(two(alloc)?);
+    let mut room = [7; 4];
+    assert_eq!(rt; (files.next(&mut room), Files::faults(&files)), (Ok(0), 0));
+    assert_eq!(rt; files.open("long"), Ok(()));
+    assert_eq!(rt; files.next(&mut room), Ok(4));
+    assert_eq!(rt; (files.next(&mut room), room), (Ok(4), [4, 5, 6, 7]));
+    assert_eq!(rt; files.open("other"), Err(OpenFault::Missing));
+    assert_eq!(rt; files.next(&mut room), Ok(0));
 
     let buffer = Vec::with_capacity(alloc, 5)?;
     let mut sink = MemorySink::new(buffer, 5, Vec::from_slice(alloc, &[2])?);

@@ -2,7 +2,7 @@ use Rattle.std.proofs.Common.{◌≡◌, ◌∙◌, true, sym, refl}
 use Rattle.std.specs.Str.{bytes_eq}
 use Rattle.std.proofs.lemmas.Option.{slice_get_read}
 use Rattle.trace_base.proofs.Filling.{found_here, file_at}
-use Rattle.trace_base.proofs.memory.position.Goals as goal
+use Rattle.trace_base.proofs.held.position.Goals as goal
 
 pub returns-then-eq : goal.returns-then-eq
 returns-then-eq c =

@@ -1,0 +1,6 @@
+pub mod Given
+pub mod Keywords
+pub mod Marks
+pub mod Reads
+pub mod Statements
+pub mod Steps

@@ -1,0 +1,68 @@
+//! Why a text is no configuration.
+
+ghost use Rattle.std.specs.Prelude.{◌≡◌};
+ghost use Rattle.tla_config.specs.declared.fault.ConfigFault.TheVariants.{NoMemory};
+ghost use Rattle.tla_config.specs.declared.fault.Stop.TheVariants as stops;
+
+use std::alloc::{AllocError, AllocFailed};
+use trace_base::{Place, Text};
+
+/// What a text that is no configuration has.
+#[derive(Debug, Drop)]
+pub enum ConfigKind {
+    /// What no statement of this project's profile goes on with, or what is no token.
+    Syntax,
+    /// A statement of TLC that is outside this project's profile, by its keyword.
+    Unsupported(Text),
+    /// A second INIT, NEXT or SPECIFICATION, by this word, or a second assignment of one name, by
+    /// the name.
+    Twice(Text),
+    /// The end, where the text has neither SPECIFICATION alone nor INIT and NEXT without it.
+    NoBehaviour,
+}
+
+/// Why a text is no configuration, and where; or memory was wanting.
+#[derive(Debug, Drop)]
+pub enum ConfigFault {
+    Refused(ConfigKind, Place),
+    NoMemory,
+}
+
+impl From<AllocError> for ConfigFault {
+    ghost from_gives = { λ _ e. e ≡ NoMemory };
+
+    fn from(_e: AllocError) -> ConfigFault {
+        ConfigFault::NoMemory
+    }
+}
+
+impl<T: Drop> From<AllocFailed<T>> for ConfigFault {
+    ghost from_gives = { λ _ e. e ≡ NoMemory };
+
+    fn from(_e: AllocFailed<T>) -> ConfigFault {
+        ConfigFault::NoMemory
+    }
+}
+
+/// Why reading stops at a mark.
+#[derive(Debug, Drop)]
+pub(crate) enum Stop {
+    Refused(ConfigKind),
+    NoMemory,
+}
+
+impl From<AllocError> for Stop {
+    ghost from_gives = { λ _ e. e ≡ stops.NoMemory };
+
+    fn from(_e: AllocError) -> Stop {
+        Stop::NoMemory
+    }
+}
+
+impl<T: Drop> From<AllocFailed<T>> for Stop {
+    ghost from_gives = { λ _ e. e ≡ stops.NoMemory };
+
+    fn from(_e: AllocFailed<T>) -> Stop {
+        Stop::NoMemory
+    }
+}

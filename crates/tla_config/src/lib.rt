@@ -1,0 +1,14 @@
+//! The configuration of a specification, in the form of TLC's configuration file.
+#![tactic(auto)]
+
+mod reading;
+mod expects;
+mod fault;
+mod keyword;
+mod mark;
+mod sets;
+mod step;
+mod values;
+
+pub use reading::config;
+pub use fault::{ConfigFault, ConfigKind};
