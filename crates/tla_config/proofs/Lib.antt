@@ -1,3 +1,5 @@
 pub mod Begun
+pub mod Ends
+pub mod Outcomes
 pub mod Walks
 pub mod Runs

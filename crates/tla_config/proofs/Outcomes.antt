@@ -1,0 +1,223 @@
+-- The outcome of tokens is what comes of them, and it is the only one.
+use Rattle.std.proofs.Common.{◌≡◌, ℕ, ◌+◌, ◌≤◌, ◌<◌, max, suc, Bool, true, false, List, [], ◌∷◌, ◌++◌, map, length, Option, Some, None, Result, Ok, Err, refl, sym, ap, subst, ◌∙◌, arith, inl, inr, append_assoc}
+use Rattle.std.specs.Prelude.{ℤ, pos, negsuc, ◌⊎◌, ◌&&◌, ◌||◌, ◌==◌, if◌then◌else◌}
+use Rattle.trace_base.specs.declared.place.Place.{Place}
+use Rattle.tla_ast.specs.declared.token.Token.{Token}
+use Rattle.tla_ast.specs.declared.token.Kind.{Kind}
+use Rattle.tla_ast.specs.declared.token.Kind.TheVariants as tokens
+use Rattle.tla_ast.specs.declared.token.Word.{Word}
+use Rattle.tla_ast.specs.declared.token.Word.TheVariants as word
+use Rattle.tla_ast.specs.declared.token.Symbol.{Symbol}
+use Rattle.tla_ast.specs.declared.token.Symbol.TheVariants as symbol
+use Rattle.tla_ast.specs.Opens.{is_end}
+use Rattle.tla_ast.specs.Laid.{EndsOnce, NoEnd}
+use Rattle.tla_ast.specs.Lits.{Lit}
+use Rattle.tla_ast.specs.declared.config.Config.{Config}
+use Rattle.tla_config.specs.declared.mark.Mark.{Mark}
+use Rattle.tla_config.specs.declared.mark.Mark.TheVariants.{Name, Number, Str, Truth, Constants, Equal, Replaces, Minus, Open, Close, Comma, End, Other}
+use Rattle.tla_config.specs.declared.keyword.Keyword.{Keyword}
+use Rattle.tla_config.specs.declared.keyword.Keyword.TheVariants as keyword
+use Rattle.tla_config.specs.declared.keyword.Part.{Part}
+use Rattle.tla_config.specs.declared.keyword.Listed.{Listed}
+use Rattle.tla_config.specs.declared.expects.Expects.{Expects}
+use Rattle.tla_config.specs.declared.expects.Expects.TheVariants as expects
+use Rattle.tla_config.specs.declared.expects.Assigned.{Assigned}
+use Rattle.tla_config.specs.declared.expects.Further.{Further}
+use Rattle.tla_config.specs.declared.expects.Further.TheVariants as further
+use Rattle.tla_config.specs.declared.fault.ConfigKind.{ConfigKind}
+use Rattle.tla_config.specs.declared.fault.ConfigKind.TheVariants.{Syntax, Unsupported, Twice, NoBehaviour}
+use Rattle.tla_config.specs.Keywords.{keyword_of}
+use Rattle.tla_config.specs.Marks.{mark_of, marks_of, word_mark, symbol_mark, kind_mark}
+use Rattle.tla_config.specs.Statements.{name_mark, Statement, statements_marks, AreStatements}
+use Rattle.tla_config.specs.Given.{nothing_given, after_all, is_chosen, is_assigned, NothingTwice, has_behaviour}
+use Rattle.tla_config.specs.Steps.{Next, step, statement_step, word_step, further_step, assigned_step, end_step, value_step, negative_step, first_member_step, separator_step, sign_step, replacement_step, first_step, name_step, choice_step, truth_step, close_step, read_on, reads}
+use Rattle.tla_config.specs.Reads.{Outcome, Writes, Begins, BeginsNew, AreWhole, IsUnsupported, Why, Stops, Gives, OfTokens}
+use Rattle.tla_config.proofs.Walks.{Reached, walk, walk_on, walk_further, walk_front, walk_stops, walk_one}
+use Rattle.tla_config.proofs.Begun.{Whole, sound}
+use Rattle.tla_config.proofs.Ends.{Leads, leads, statements_new}
+use Rattle.tla_config.proofs.Runs.{statements_run}
+
+-- where a text begins
+abbrev first : Expects
+first = expects.Statement further.Nothing
+
+-- what a step of the reader that refuses means where the marks are read without its tests
+abbrev Cause : Expects → Config → Mark → ConfigKind → Type 0
+Cause e c m Syntax = step false false e c m ≡ Err Syntax
+Cause e c m (Unsupported w) = (f : Further) × ((e ≡ expects.Statement f) × ((at : Place) × ((m ≡ Name w at) × (keyword_of w ≡ Some keyword.Unsupported))))
+Cause e c m (Twice w) = (at : Place) × ((m ≡ Name w at) × ((p : Reached) × ((step false false e c m ≡ Ok p) × (step true false e c m ≡ Err (Twice w)))))
+Cause e c m NoBehaviour = (f : Further) × ((e ≡ expects.Statement f) × ((m ≡ End) × (has_behaviour c ≡ false)))
+
+abbrev OnErr : Next → (ConfigKind → Type 0) → Type 0
+OnErr (Ok p) P = Unit {0}
+OnErr (Err k) P = P k
+
+twice_if : (b : Bool) (t : List ℕ) (p : Reached) (P : ConfigKind → Type 0) → (b ≡ true → P (Twice t)) → OnErr (if true && b then Err (Twice t) else Ok p) P
+twice_if true t p P h = h refl
+twice_if false t p P h = tt
+
+if_true : (b : Bool) (t : List ℕ) (p : Reached) → b ≡ true → ◌≡◌ {A = Next} (if true && b then Err (Twice t) else Ok p) (Err (Twice t))
+if_true true t p h = refl
+if_true false t p h = absurd cc
+
+caused_end : (f : Further) (c : Config) (b : Bool) → has_behaviour c ≡ b
+    → OnErr (if b then Ok (first, c) else Err NoBehaviour) (Cause (expects.Statement f) c End)
+caused_end f c true h = tt
+caused_end f c false h = (f, (refl, (refl, h)))
+
+caused_further : (f : Further) (c : Config) (text : List ℕ) (at : Place) → keyword_of text ≡ None
+    → OnErr (further_step true f c text at) (Cause (expects.Statement f) c (Name text at))
+caused_further further.Nothing c text at h = ap (word_step false further.Nothing c text at) h
+caused_further (further.Name l) c text at h = tt
+caused_further further.Assignment c text at h =
+    let p : Reached = (expects.Sign (record { name = text; at = at }), c) in
+    twice_if (is_assigned text c.givens) text p (Cause (expects.Statement further.Assignment) c (Name text at))
+    (λ e. (at, (refl, (p, (ap (word_step false further.Assignment c text at) h, ap (word_step true further.Assignment c text at) h ∙ if_true (is_assigned text c.givens) text p e)))))
+
+caused_word : (k : Option Keyword) (f : Further) (c : Config) (text : List ℕ) (at : Place) → keyword_of text ≡ k
+    → OnErr (word_step true f c text at k) (Cause (expects.Statement f) c (Name text at))
+caused_word (Some (keyword.Chooses p)) f c text at h =
+    let r : Reached = (expects.Choice p, c) in
+    twice_if (is_chosen c p) text r (Cause (expects.Statement f) c (Name text at))
+    (λ e. (at, (refl, (r, (ap (word_step false f c text at) h, ap (word_step true f c text at) h ∙ if_true (is_chosen c p) text r e)))))
+caused_word (Some (keyword.Lists l)) f c text at h = tt
+caused_word (Some keyword.Deadlock) f c text at h = tt
+caused_word (Some keyword.Unsupported) f c text at h = (f, (refl, (at, (refl, h))))
+caused_word None f c text at h = caused_further f c text at h
+
+caused_statement : (f : Further) (c : Config) (m : Mark) → OnErr (statement_step true true f c m) (Cause (expects.Statement f) c m)
+caused_statement f c (Name text at) = caused_word (keyword_of text) f c text at refl
+caused_statement f c Constants = tt
+caused_statement f c End = caused_end f c (has_behaviour c) refl
+caused_statement f c _ = refl
+
+caused_first : (c : Config) (m : Mark) → OnErr (first_step true c m) (Cause expects.FirstAssignment c m)
+caused_first c (Name text at) =
+    let p : Reached = (expects.Sign (record { name = text; at = at }), c) in
+    twice_if (is_assigned text c.givens) text p (Cause expects.FirstAssignment c (Name text at))
+    (λ e. (at, (refl, (p, (refl, if_true (is_assigned text c.givens) text p e)))))
+caused_first c _ = refl
+
+caused_choice : (p : Part) (c : Config) (m : Mark) → OnErr (choice_step p c m) (Cause (expects.Choice p) c m)
+caused_choice p c (Name text at) = tt
+caused_choice p c _ = refl
+
+caused_name : (l : Listed) (c : Config) (m : Mark) → OnErr (name_step l c m) (Cause (expects.FirstName l) c m)
+caused_name l c (Name text at) = tt
+caused_name l c _ = refl
+
+caused_truth : (c : Config) (m : Mark) → OnErr (truth_step c m) (Cause expects.Truth c m)
+caused_truth c (Truth b) = tt
+caused_truth c _ = refl
+
+caused_sign : (a : Assigned) (c : Config) (m : Mark) → OnErr (sign_step a c m) (Cause (expects.Sign a) c m)
+caused_sign a c Equal = tt
+caused_sign a c Replaces = tt
+caused_sign a c _ = refl
+
+caused_replacement : (a : Assigned) (c : Config) (m : Mark) → OnErr (replacement_step a c m) (Cause (expects.Replacement a) c m)
+caused_replacement a c (Name text at) = tt
+caused_replacement a c _ = refl
+
+-- a step that refuses for one cause
+abbrev IsSyntax : Next → Type 0
+IsSyntax n = OnErr n (λ k. k ≡ Syntax)
+
+full_syntax : (b : Bool) (p : Reached) → IsSyntax (if b then Err Syntax else Ok p)
+full_syntax true p = refl
+full_syntax false p = tt
+
+value_syntax : (a : Assigned) (sets : List (List Lit)) (c : Config) (m : Mark) → IsSyntax (value_step a sets c m)
+value_syntax a sets c (Name text at) = tt
+value_syntax a sets c (Number (pos n)) = tt
+value_syntax a sets c (Number (negsuc n)) = refl
+value_syntax a sets c (Str s) = tt
+value_syntax a sets c (Truth b) = tt
+value_syntax a sets c Minus = tt
+value_syntax a sets c Open = full_syntax (length sets == 32) (expects.FirstMember a ([] ∷ sets), c)
+value_syntax a sets c _ = refl
+
+close_syntax : (a : Assigned) (sets : List (List Lit)) (c : Config) → IsSyntax (close_step a sets c)
+close_syntax a [] c = refl
+close_syntax a (set ∷ sets) c = tt
+
+negative_syntax : (a : Assigned) (sets : List (List Lit)) (c : Config) (m : Mark) → IsSyntax (negative_step a sets c m)
+negative_syntax a sets c (Number (pos n)) = tt
+negative_syntax a sets c (Number (negsuc n)) = refl
+negative_syntax a sets c _ = refl
+
+first_syntax : (a : Assigned) (sets : List (List Lit)) (c : Config) (m : Mark) → IsSyntax (first_member_step a sets c m)
+first_syntax a sets c Close = close_syntax a sets c
+first_syntax a sets c (Name text at) = tt
+first_syntax a sets c (Number z) = value_syntax a sets c (Number z)
+first_syntax a sets c (Str s) = tt
+first_syntax a sets c (Truth b) = tt
+first_syntax a sets c Minus = tt
+first_syntax a sets c Open = value_syntax a sets c Open
+first_syntax a sets c _ = refl
+
+separator_syntax : (a : Assigned) (sets : List (List Lit)) (c : Config) (m : Mark) → IsSyntax (separator_step a sets c m)
+separator_syntax a sets c Close = close_syntax a sets c
+separator_syntax a sets c Comma = tt
+separator_syntax a sets c _ = refl
+
+syntax_caused : (e : Expects) (c : Config) (m : Mark) (n : Next) → step false false e c m ≡ n → IsSyntax n → OnErr n (Cause e c m)
+syntax_caused e c m (Ok p) h g = tt
+syntax_caused e c m (Err k) h g = subst (Cause e c m) (sym g) (h ∙ ap (λ k. Err k) g)
+
+caused : (e : Expects) (c : Config) (m : Mark) → OnErr (step true true e c m) (Cause e c m)
+caused (expects.Statement f) c m = caused_statement f c m
+caused (expects.Choice p) c m = caused_choice p c m
+caused (expects.FirstName l) c m = caused_name l c m
+caused expects.Truth c m = caused_truth c m
+caused expects.FirstAssignment c m = caused_first c m
+caused (expects.Sign a) c m = caused_sign a c m
+caused (expects.Replacement a) c m = caused_replacement a c m
+caused (expects.Value a sets) c m = syntax_caused (expects.Value a sets) c m _ refl (value_syntax a sets c m)
+caused (expects.Number a sets) c m = syntax_caused (expects.Number a sets) c m _ refl (negative_syntax a sets c m)
+caused (expects.FirstMember a sets) c m = syntax_caused (expects.FirstMember a sets) c m _ refl (first_syntax a sets c m)
+caused (expects.Separator a sets) c m = syntax_caused (expects.Separator a sets) c m _ refl (separator_syntax a sets c m)
+
+at_error : (n : Next) (k : ConfigKind) (P : ConfigKind → Type 0) → n ≡ Err k → OnErr n P → P k
+at_error (Ok p) k P e h = absurd cc
+at_error (Err j) k P e h = let same : j ≡ k = cc in subst P same h
+
+-- what is allowed once is allowed
+once_or : (b : Bool) (t : List ℕ) (p q : Reached) → ◌≡◌ {A = Next} (if true && b then Err (Twice t) else Ok p) (Ok q) → ◌≡◌ {A = Next} (Ok p) (Ok q)
+once_or true t p q h = absurd cc
+once_or false t p q h = h
+
+once_further : (f : Further) (c : Config) (text : List ℕ) (at : Place) (p : Reached) → further_step true f c text at ≡ Ok p → further_step false f c text at ≡ Ok p
+once_further further.Nothing c text at p h = h
+once_further (further.Name l) c text at p h = h
+once_further further.Assignment c text at p h = once_or (is_assigned text c.givens) text _ p h
+
+once_word : (k : Option Keyword) (f : Further) (c : Config) (text : List ℕ) (at : Place) (p : Reached) → word_step true f c text at k ≡ Ok p → word_step false f c text at k ≡ Ok p
+once_word (Some (keyword.Chooses t)) f c text at p h = once_or (is_chosen c t) text _ p h
+once_word (Some (keyword.Lists l)) f c text at p h = h
+once_word (Some keyword.Deadlock) f c text at p h = h
+once_word (Some keyword.Unsupported) f c text at p h = h
+once_word None f c text at p h = once_further f c text at p h
+
+once_statement : (q : Bool) (f : Further) (c : Config) (m : Mark) (p : Reached) → statement_step true q f c m ≡ Ok p → statement_step false q f c m ≡ Ok p
+once_statement q f c (Name text at) p h = once_word (keyword_of text) f c text at p h
+once_statement q f c _ p h = h
+
+once_first : (c : Config) (m : Mark) (p : Reached) → first_step true c m ≡ Ok p → first_step false c m ≡ Ok p
+once_first c (Name text at) p h = once_or (is_assigned text c.givens) text _ p h
+once_first c _ p h = h
+
+once_step : (q : Bool) (e : Expects) (c : Config) (m : Mark) (p : Reached) → step true q e c m ≡ Ok p → step false q e c m ≡ Ok p
+once_step q (expects.Statement f) c m p h = once_statement q f c m p h
+once_step q expects.FirstAssignment c m p h = once_first c m p h
+once_step q _ c m p h = h
+
+once_on : (n l : Next) (k j : Expects → Config → Option Reached) (p : Reached) → ((r : Reached) → n ≡ Ok r → l ≡ Ok r)
+    → ((e : Expects) (c : Config) → k e c ≡ Some p → j e c ≡ Some p) → walk_on n k ≡ Some p → walk_on l j ≡ Some p
+once_on (Ok r) l k j p f g h = ap (λ x. walk_on x j) (f r refl) ∙ g r.0 r.1 h
+once_on (Err e) l k j p f g h = absurd cc
+
+once_walk : (q : Bool) (e : Expects) (c : Config) (ms : List Mark) (p : Reached) → walk true q e c ms ≡ Some p → walk false q e c ms ≡ Some p
+once_walk q e c [] p h = h
+once_walk q e c (m ∷ ms) p h =
+    once_on (step true q e c m) (step false q e c m) (λ f d. walk true q f d ms) (λ f d. walk false q f d ms) p (once_step q e c m) (λ f d. once_walk q f d ms p) h
