@@ -38,17 +38,17 @@ use Rattle.tla_config.proofs.Ends.{Leads, leads, statements_new}
 use Rattle.tla_config.proofs.Runs.{statements_run}
 
 -- where a text begins
-abbrev first : Expects
+abbrev pub first : Expects
 first = expects.Statement further.Nothing
 
 -- what a step of the reader that refuses means where the marks are read without its tests
-abbrev Cause : Expects → Config → Mark → ConfigKind → Type 0
+abbrev pub Cause : Expects → Config → Mark → ConfigKind → Type 0
 Cause e c m Syntax = step false false e c m ≡ Err Syntax
 Cause e c m (Unsupported w) = (f : Further) × ((e ≡ expects.Statement f) × ((at : Place) × ((m ≡ Name w at) × (keyword_of w ≡ Some keyword.Unsupported))))
 Cause e c m (Twice w) = (at : Place) × ((m ≡ Name w at) × ((p : Reached) × ((step false false e c m ≡ Ok p) × (step true false e c m ≡ Err (Twice w)))))
 Cause e c m NoBehaviour = (f : Further) × ((e ≡ expects.Statement f) × ((m ≡ End) × (has_behaviour c ≡ false)))
 
-abbrev OnErr : Next → (ConfigKind → Type 0) → Type 0
+abbrev pub OnErr : Next → (ConfigKind → Type 0) → Type 0
 OnErr (Ok p) P = Unit {0}
 OnErr (Err k) P = P k
 
@@ -165,7 +165,7 @@ syntax_caused : (e : Expects) (c : Config) (m : Mark) (n : Next) → step false 
 syntax_caused e c m (Ok p) h g = tt
 syntax_caused e c m (Err k) h g = subst (Cause e c m) (sym g) (h ∙ ap (λ k. Err k) g)
 
-caused : (e : Expects) (c : Config) (m : Mark) → OnErr (step true true e c m) (Cause e c m)
+pub caused : (e : Expects) (c : Config) (m : Mark) → OnErr (step true true e c m) (Cause e c m)
 caused (expects.Statement f) c m = caused_statement f c m
 caused (expects.Choice p) c m = caused_choice p c m
 caused (expects.FirstName l) c m = caused_name l c m
@@ -178,7 +178,7 @@ caused (expects.Number a sets) c m = syntax_caused (expects.Number a sets) c m _
 caused (expects.FirstMember a sets) c m = syntax_caused (expects.FirstMember a sets) c m _ refl (first_syntax a sets c m)
 caused (expects.Separator a sets) c m = syntax_caused (expects.Separator a sets) c m _ refl (separator_syntax a sets c m)
 
-at_error : (n : Next) (k : ConfigKind) (P : ConfigKind → Type 0) → n ≡ Err k → OnErr n P → P k
+pub at_error : (n : Next) (k : ConfigKind) (P : ConfigKind → Type 0) → n ≡ Err k → OnErr n P → P k
 at_error (Ok p) k P e h = absurd cc
 at_error (Err j) k P e h = let same : j ≡ k = cc in subst P same h
 
@@ -207,7 +207,7 @@ once_first : (c : Config) (m : Mark) (p : Reached) → first_step true c m ≡ O
 once_first c (Name text at) p h = once_or (is_assigned text c.givens) text _ p h
 once_first c _ p h = h
 
-once_step : (q : Bool) (e : Expects) (c : Config) (m : Mark) (p : Reached) → step true q e c m ≡ Ok p → step false q e c m ≡ Ok p
+pub once_step : (q : Bool) (e : Expects) (c : Config) (m : Mark) (p : Reached) → step true q e c m ≡ Ok p → step false q e c m ≡ Ok p
 once_step q (expects.Statement f) c m p h = once_statement q f c m p h
 once_step q expects.FirstAssignment c m p h = once_first c m p h
 once_step q _ c m p h = h
@@ -217,7 +217,134 @@ once_on : (n l : Next) (k j : Expects → Config → Option Reached) (p : Reache
 once_on (Ok r) l k j p f g h = ap (λ x. walk_on x j) (f r refl) ∙ g r.0 r.1 h
 once_on (Err e) l k j p f g h = absurd cc
 
-once_walk : (q : Bool) (e : Expects) (c : Config) (ms : List Mark) (p : Reached) → walk true q e c ms ≡ Some p → walk false q e c ms ≡ Some p
+pub once_walk : (q : Bool) (e : Expects) (c : Config) (ms : List Mark) (p : Reached) → walk true q e c ms ≡ Some p → walk false q e c ms ≡ Some p
 once_walk q e c [] p h = h
 once_walk q e c (m ∷ ms) p h =
     once_on (step true q e c m) (step false q e c m) (λ f d. walk true q f d ms) (λ f d. walk false q f d ms) p (once_step q e c m) (λ f d. once_walk q f d ms p) h
+
+-- the End, and other marks
+abbrev pub ends : Mark → Bool
+ends End = true
+ends _ = false
+
+same_statement : (o : Bool) (f : Further) (c : Config) (m : Mark) → ends m ≡ false → statement_step o true f c m ≡ statement_step o false f c m
+same_statement o f c End h = absurd cc
+same_statement o f c _ h = refl
+
+pub same_step : (o : Bool) (e : Expects) (c : Config) (m : Mark) → ends m ≡ false → step o true e c m ≡ step o false e c m
+same_step o (expects.Statement f) c m h = same_statement o f c m h
+same_step o _ c m h = refl
+
+word_ends : (w : Word) → ends (word_mark w) ≡ false
+word_ends word.True = refl
+word_ends word.False = refl
+word_ends word.Constant = refl
+word_ends word.Constants = refl
+word_ends _ = refl
+
+symbol_ends : (s : Symbol) → ends (symbol_mark s) ≡ false
+symbol_ends symbol.Equal = refl
+symbol_ends symbol.LeftArrow = refl
+symbol_ends symbol.Minus = refl
+symbol_ends symbol.OpenBrace = refl
+symbol_ends symbol.CloseBrace = refl
+symbol_ends symbol.Comma = refl
+symbol_ends _ = refl
+
+kind_ends : (k : Kind) (at : Place) → is_end k ≡ false → ends (kind_mark k at) ≡ false
+kind_ends (tokens.Word w) at h = word_ends w
+kind_ends (tokens.Symbol s) at h = symbol_ends s
+kind_ends tokens.End at h = absurd cc
+kind_ends _ at h = refl
+
+has_end : (b : Bool) (f : Further) (c : Config) (p : Reached)
+    → ◌≡◌ {A = Next} (if b then Ok (first, c) else Err NoBehaviour) (Ok p) → (b ≡ true) × (p.1 ≡ c)
+has_end true f c p h = let same : (first, c) ≡ p = cc in (refl, sym (ap (λ (r : Reached). r.1) same))
+has_end false f c p h = absurd cc
+
+-- the End stands where a statement may begin, behind what has a behaviour
+pub end_ok : (e : Expects) (c : Config) (p : Reached) → step true true e c End ≡ Ok p
+    → (f : Further) × ((e ≡ expects.Statement f) × ((has_behaviour c ≡ true) × (p.1 ≡ c)))
+end_ok (expects.Statement f) c p h = let r = has_end (has_behaviour c) f c p h in (f, (refl, (r.0, r.1)))
+end_ok _ c p h = absurd cc
+
+-- the token where reading stops
+pub record Halted (e : Expects) (c : Config) (ts : List Token) (o : Outcome) : Type 0 where
+  pub before : List Token
+  pub token : Token
+  pub rest : List Token
+  pub whole : ts ≡ before ++ token ∷ rest
+  pub expected : Expects
+  pub given : Config
+  pub reached : walk true false e c (marks_of before) ≡ Some (expected, given)
+  pub kind : ConfigKind
+  pub stops : step true true expected given (mark_of token) ≡ Err kind
+  pub gives : o ≡ Err (kind, token.place)
+
+-- or all was read
+pub record Ended (e : Expects) (c : Config) (ts : List Token) (o : Outcome) : Type 0 where
+  pub before : List Token
+  pub last : Token
+  pub whole : ts ≡ before ++ last ∷ []
+  pub is_last : mark_of last ≡ End
+  pub further : Further
+  pub given : Config
+  pub reached : walk true false e c (marks_of before) ≡ Some (expects.Statement further, given)
+  pub behaviour : has_behaviour given ≡ true
+  pub gives : o ≡ Ok given
+
+abbrev pub Comes : Expects → Config → List Token → Outcome → Type 0
+Comes e c ts o = Halted e c ts o ⊎ Ended e c ts o
+
+halted_here : (e : Expects) (c : Config) (t : Token) (ts : List Token) (k : ConfigKind) (o : Outcome) → step true true e c (mark_of t) ≡ Err k → o ≡ Err (k, t.place)
+    → Halted e c (t ∷ ts) o
+halted_here e c t ts k o h g =
+    record { before = []; token = t; rest = ts; whole = refl; expected = e; given = c; reached = refl; kind = k; stops = h; gives = g }
+
+last_comes : (n : Next) (e : Expects) (c : Config) (t : Token) → step true true e c (mark_of t) ≡ n → mark_of t ≡ End
+    → Comes e c (t ∷ []) (read_on n t.place (λ f d. Ok d))
+last_comes (Err k) e c t h is = inl (halted_here e c t [] k _ h refl)
+last_comes (Ok p) e c t h is =
+    let r = end_ok e c p (subst (λ m. step true true e c m ≡ Ok p) is h) in
+    inr (record {
+      before = []; last = t; whole = refl; is_last = is; further = r.0; given = c;
+      reached = ap (λ x. Some (x, c)) r.1.0;
+      behaviour = r.1.1.0;
+      gives = ap (λ d. Ok d) r.1.1.1;
+    })
+
+later : (e f : Expects) (c d : Config) (t : Token) (ts : List Token) (o : Outcome) → step true false e c (mark_of t) ≡ Ok (f, d)
+    → Comes f d ts o → Comes e c (t ∷ ts) o
+later e f c d t ts o h (inl r) =
+    inl (record {
+      before = t ∷ r.before; token = r.token; rest = r.rest; whole = ap (λ us. t ∷ us) r.whole; expected = r.expected; given = r.given;
+      reached = ap (λ n. walk_on n (λ a b. walk true false a b (marks_of r.before))) h ∙ r.reached;
+      kind = r.kind; stops = r.stops; gives = r.gives;
+    })
+later e f c d t ts o h (inr r) =
+    inr (record {
+      before = t ∷ r.before; last = r.last; whole = ap (λ us. t ∷ us) r.whole; is_last = r.is_last; further = r.further; given = r.given;
+      reached = ap (λ n. walk_on n (λ a b. walk true false a b (marks_of r.before))) h ∙ r.reached;
+      behaviour = r.behaviour; gives = r.gives;
+    })
+
+first_comes : (n : Next) (e : Expects) (c : Config) (t : Token) (ts : List Token) → step true true e c (mark_of t) ≡ n → ends (mark_of t) ≡ false
+    → ((f : Expects) (d : Config) → Comes f d ts (reads f d ts)) → Comes e c (t ∷ ts) (read_on n t.place (λ f d. reads f d ts))
+first_comes (Err k) e c t ts h is r = inl (halted_here e c t ts k _ h refl)
+first_comes (Ok p) e c t ts h is r = later e p.0 c p.1 t ts _ (sym (same_step true e c (mark_of t) is) ∙ h) (r p.0 p.1)
+
+pub comes : (b : List Token) (t : Token) → NoEnd b → mark_of t ≡ End → (e : Expects) (c : Config) → Comes e c (b ++ t ∷ []) (reads e c (b ++ t ∷ []))
+comes [] t once is e c = last_comes (step true true e c (mark_of t)) e c t refl is
+comes (s ∷ b) t once is e c =
+    first_comes (step true true e c (mark_of s)) e c s (b ++ t ∷ []) refl (kind_ends s.kind s.place once.0) (λ f d. comes b t once.1 is f d)
+
+pub map_append : (b : List Token) (t : Token) → marks_of (b ++ t ∷ []) ≡ marks_of b ++ mark_of t ∷ []
+map_append [] t = refl
+map_append (s ∷ b) t = ap (λ ms. mark_of s ∷ ms) (map_append b t)
+
+pub some_inj : (p q : Reached) → Some p ≡ Some q → p ≡ q
+some_inj p q h = cc
+
+pub none_some : (o : Option Reached) (p : Reached) → o ≡ None → o ≡ Some p → ⊥
+none_some None p h g = cc
+none_some (Some q) p h g = cc

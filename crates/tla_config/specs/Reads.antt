@@ -77,9 +77,12 @@ pub record Stops (name : List ℕ) (tokens : List Token) (kind : ConfigKind) (at
 -- the tokens are statements and the End, none of the statements gives what was given before it, and they
 -- give this configuration, which has a behaviour
 pub record Gives (name : List ℕ) (tokens : List Token) (config : Config) : Type 0 where
+  pub before : List Token
+  pub last : Token
+  pub whole : tokens ≡ before ++ last ∷ []
+  pub is_end : mark_of last ≡ End
   pub statements : List Statement
-  pub are : AreStatements statements
-  pub whole : marks_of tokens ≡ statements_marks statements (End ∷ [])
+  pub writes : Writes statements (marks_of before)
   pub new : NothingTwice (nothing_given name) statements
   pub behaviour : has_behaviour config ≡ true
   pub gives : config ≡ after_all (nothing_given name) statements
