@@ -1,6 +1,7 @@
 pub mod Begun
 pub mod Ends
-pub mod Laws
+pub mod Meets
+pub mod Only
 pub mod Outcomes
 pub mod Walks
 pub mod Runs

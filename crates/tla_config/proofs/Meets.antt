@@ -30,7 +30,7 @@ use Rattle.tla_config.proofs.Runs.{statements_run}
 use Rattle.tla_config.proofs.Outcomes.{first, Cause, OnErr, caused, at_error, once_walk, once_step, Halted, Ended, Comes, comes, some_inj, none_some, map_append, ends, same_step, end_ok}
 
 -- a keyword outside the profile, where a statement may begin
-unsupported_step : (o q : Bool) (f : Further) (c : Config) (w : List ℕ) (at : Place) → keyword_of w ≡ Some keyword.Unsupported
+pub unsupported_step : (o q : Bool) (f : Further) (c : Config) (w : List ℕ) (at : Place) → keyword_of w ≡ Some keyword.Unsupported
     → step o q (expects.Statement f) c (Name w at) ≡ Err (Unsupported w)
 unsupported_step o q f c w at h = ap (word_step o f c w at) h
 
@@ -50,20 +50,20 @@ written_walk c ms b =
 
 module _ (name : List ℕ) where
   -- statements that give nothing twice are walked
-  new_walk : (ms : List Mark) (b : BeginsNew name ms) (o q : Bool)
+  pub new_walk : (ms : List Mark) (b : BeginsNew name ms) (o q : Bool)
       → (p : Reached) × (walk o q first (nothing_given name) (ms ++ b.behind) ≡ Some p)
   new_walk ms b o q =
       let r = statements_run o q b.statements further.Nothing (nothing_given name) [] b.writes.are (λ e. b.new) in
       (_, ap (walk o q first (nothing_given name)) b.writes.whole ∙ r.1)
 
-  whole_walk : (ms : List Mark) (w : AreWhole name ms) (o q : Bool)
+  pub whole_walk : (ms : List Mark) (w : AreWhole name ms) (o q : Bool)
       → (g : Further) × (walk o q first (nothing_given name) ms ≡ Some (expects.Statement g, after_all (nothing_given name) w.statements))
   whole_walk ms w o q =
       let r = statements_run o q w.statements further.Nothing (nothing_given name) [] w.writes.are (λ e. w.new) in
       (r.0, ap (walk o q first (nothing_given name)) w.writes.whole ∙ r.1)
 
   -- and what is walked is written
-  whole_from : (ms : List Mark) (g : Further) (d : Config) → walk true false first (nothing_given name) ms ≡ Some (expects.Statement g, d) → AreWhole name ms
+  pub whole_from : (ms : List Mark) (g : Further) (d : Config) → walk true false first (nothing_given name) ms ≡ Some (expects.Statement g, d) → AreWhole name ms
   whole_from ms g d h =
       let w : Whole ms = sound true ms first (nothing_given name) g d h in
       record {
@@ -73,7 +73,7 @@ module _ (name : List ℕ) where
             (ap (walk true false first (nothing_given name)) (sym w.whole) ∙ h);
       }
 
-  begins_new : (ms : List Mark) (e : Expects) (c : Config) → walk true false first (nothing_given name) ms ≡ Some (e, c) → BeginsNew name ms
+  pub begins_new : (ms : List Mark) (e : Expects) (c : Config) → walk true false first (nothing_given name) ms ≡ Some (e, c) → BeginsNew name ms
   begins_new ms e c h =
       let l = leads true e c in
       let w = whole_from (ms ++ l.marks) l.further l.given (walk_further true false first e (nothing_given name) c ms l.marks h ∙ l.there) in
@@ -90,13 +90,13 @@ module _ (name : List ℕ) where
     lenient = once_walk false first (nothing_given name) before (e, c) reached
 
     -- whole statements stand before: a statement may begin
-    at_statement : (w : AreWhole name before) → (g : Further) × ((e ≡ expects.Statement g) × (after_all (nothing_given name) w.statements ≡ c))
+    pub at_statement : (w : AreWhole name before) → (g : Further) × ((e ≡ expects.Statement g) × (after_all (nothing_given name) w.statements ≡ c))
     at_statement w =
         let r = whole_walk before w true false in
         let same : (e, c) ≡ (expects.Statement r.0, after_all (nothing_given name) w.statements) = some_inj (e, c) (expects.Statement r.0, after_all (nothing_given name) w.statements) (sym reached ∙ r.1) in
         (r.0, (ap (λ (p : Reached). p.0) same, sym (ap (λ (p : Reached). p.1) same)))
 
-    not_begun : (k : ConfigKind) → step false false e c m ≡ Err k → Begins (before ++ m ∷ []) → ⊥
+    pub not_begun : (k : ConfigKind) → step false false e c m ≡ Err k → Begins (before ++ m ∷ []) → ⊥
     not_begun k h b =
         let r = written_walk (nothing_given name) (before ++ m ∷ []) b in
         none_some _ r.0 (walk_stops false false first e (nothing_given name) c before b.behind m k lenient h) r.1
@@ -117,7 +117,7 @@ module _ (name : List ℕ) where
         let r = at_statement w in
         end_not_syntax (has_behaviour c) c (subst (λ x. step true true x c End ≡ Err Syntax) r.1.0 (subst (λ x. step true true e c x ≡ Err Syntax) is_end h))
 
-    why : (k : ConfigKind) → step true true e c m ≡ Err k → Cause e c m k → Why name before m k
+    pub why : (k : ConfigKind) → step true true e c m ≡ Err k → Cause e c m k → Why name before m k
     why Syntax h g = (not_begun Syntax g, not_unsupported g, not_ended h)
     why (Unsupported w) h g =
         record {

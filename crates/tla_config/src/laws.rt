@@ -1,0 +1,14 @@
+//! Laws of what a configuration's text gives.
+
+ghost use Rattle.tla_config.specs.Reads.{OneConfiguration, SomeConfiguration};
+
+use tla_ast::{one_outcome, tokens_end_once};
+
+/// Each text has exactly one outcome: its configuration, or why and where it has none.
+pub fn one_configuration()
+    ensures one { OneConfiguration }
+    ensures some { SomeConfiguration }
+{
+    one_outcome();
+    tokens_end_once();
+}
