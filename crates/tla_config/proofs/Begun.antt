@@ -135,7 +135,6 @@ whole_rest further.Assignment ms w = record { assignments = []; further = tt; re
 one_more : (s : Statement) (rest : List Mark) → IsStatement s → Whole rest → Whole (statement_marks s rest)
 one_more s rest i w = record { statements = s ∷ w.statements; are = (i, w.are); whole = ap (statement_marks s) w.whole }
 
-
 -- behind a value in the innermost open set: the set's members so far end with it, or go on
 members_from : (v : Value) (set : List Lit) (sets : List (List Lit)) (ms rest : List Mark) → levels v + length (set ∷ sets) ≤ 32
     → ms ≡ value_marks v rest → Behind (set ∷ sets) rest → MembersThen (length sets) (Behind sets) ms
@@ -143,8 +142,13 @@ members_from v set sets ms rest small e (inl h) =
     record { members = last v; rest = h.0; shallow = small; whole = e ∙ ap (value_marks v) h.1.0; tail = h.1.1 }
 members_from v set sets ms rest small e (inr h) =
     let r = h.1.1 in
-    record { members = more v r.members; rest = r.rest; shallow = both_shallow (levels v) (levels_of r.members) (length sets) small r.shallow;
-        whole = e ∙ ap (value_marks v) (h.1.0 ∙ ap (λ xs. Comma ∷ xs) r.whole); tail = r.tail }
+    record {
+      members = more v r.members;
+      rest = r.rest;
+      shallow = both_shallow (levels v) (levels_of r.members) (length sets) small r.shallow;
+      whole = e ∙ ap (value_marks v) (h.1.0 ∙ ap (λ xs. Comma ∷ xs) r.whole);
+      tail = r.tail;
+    }
 
 separated : (set : List Lit) (sets : List (List Lit)) (ms : List Mark)
     → MarkThen Close (Behind sets) ms ⊎ MarkThen Comma (ValueThen (set ∷ sets)) ms → Behind (set ∷ sets) ms
@@ -248,20 +252,20 @@ module _ (o : Bool) where
   further_grows further.Assignment c text at ms e =
       assigned_grows c text at ms _
       (λ m. let n : Named = record { text = text; at = at } in
-        record {
-          assignments = record { name = n; meaning = m.meaning } ∷ m.tail.assignments;
-          further = ((e, m.shallow), m.tail.further);
-          rest = m.tail.rest;
-          whole = ap (λ xs. Name text at ∷ xs) (m.whole ∙ ap (meaning_marks m.meaning) m.tail.whole);
-          tail = m.tail.tail;
-        })
+      record {
+        assignments = record { name = n; meaning = m.meaning } ∷ m.tail.assignments;
+        further = ((e, m.shallow), m.tail.further);
+        rest = m.tail.rest;
+        whole = ap (λ xs. Name text at ∷ xs) (m.whole ∙ ap (meaning_marks m.meaning) m.tail.whole);
+        tail = m.tail.tail;
+      })
 
   word_grows : (k : Option Keyword) (f : Further) (c : Config) (text : List ℕ) (at : Place) (ms : List Mark) → keyword_of text ≡ k
       → OnNext (word_step o f c text at k) ms (Rest f (Name text at ∷ ms))
   word_grows (Some (keyword.Chooses p)) f c text at ms e =
       either_next (o && is_chosen c p) (kinds.Twice text) _ ms _
       (λ h. let w : Named = record { text = text; at = at } in
-        whole_rest f (Name text at ∷ ms) (subst (λ xs. Whole (Name text at ∷ xs)) (sym h.1.1.0) (one_more (choice w p h.0) h.1.0 e h.1.1.1)))
+      whole_rest f (Name text at ∷ ms) (subst (λ xs. Whole (Name text at ∷ xs)) (sym h.1.1.0) (one_more (choice w p h.0) h.1.0 e h.1.1.1)))
   word_grows (Some (keyword.Lists l)) f c text at ms e =
       λ h. let w : Named = record { text = text; at = at } in
       let ns = h.1.1.1 in

@@ -135,17 +135,21 @@ assignments_new q [] c rest p h g = tt
 assignments_new q (a ∷ bs) c rest p h g =
     let behind_a = meaning_marks a.meaning (assignments_marks bs rest) in
     let w = sym (word_walk true q further.Assignment c a.name None behind_a h.0.0) ∙ g in
-    let new : is_assigned a.name.text c.givens ≡ false = was_new (is_assigned a.name.text c.givens) a.name.text _ (λ e d. walk true q e d behind_a) p w in
-    (new, assignments_new q bs (with_given c (given_at a)) rest p h.1
-    (sym (assigned_run true q a c (assignments_marks bs rest) h.0.1 (λ e. new)) ∙ w))
+    let new : is_assigned a.name.text c.givens ≡ false = was_new (is_assigned a.name.text c.givens) a.name.text _ (λ e d. walk true q e d behind_a) p w in (
+      new,
+      assignments_new q bs (with_given c (given_at a)) rest p h.1
+          (sym (assigned_run true q a c (assignments_marks bs rest) h.0.1 (λ e. new)) ∙ w),
+    )
 
 statement_new : (q : Bool) (s : Statement) (f : Further) (c : Config) (rest : List Mark) (p : Reached) → IsStatement s
     → walk true q (expects.Statement f) c (statement_marks s rest) ≡ Some p → IsNew c s
 statement_new q (constants a bs) f c rest p h g =
     let behind_a = meaning_marks a.meaning (assignments_marks bs rest) in
-    let new : is_assigned a.name.text c.givens ≡ false = was_new (is_assigned a.name.text c.givens) a.name.text _ (λ e d. walk true q e d behind_a) p g in
-    (new, assignments_new q bs (with_given c (given_at a)) rest p h.1
-    (sym (assigned_run true q a c (assignments_marks bs rest) h.0 (λ e. new)) ∙ g))
+    let new : is_assigned a.name.text c.givens ≡ false = was_new (is_assigned a.name.text c.givens) a.name.text _ (λ e d. walk true q e d behind_a) p g in (
+      new,
+      assignments_new q bs (with_given c (given_at a)) rest p h.1
+          (sym (assigned_run true q a c (assignments_marks bs rest) h.0 (λ e. new)) ∙ g),
+    )
 statement_new q (choice w t n) f c rest p h g =
     was_new (is_chosen c t) w.text _ (λ e d. walk true q e d (name_mark n ∷ rest)) p
     (sym (word_walk true q f c w (Some (keyword.Chooses t)) (name_mark n ∷ rest) h) ∙ g)

@@ -127,9 +127,11 @@ module _ (name : List ℕ) where
           is_keyword = g.1.1.1.1;
         }
     why (Twice w) h g =
-        let p = g.1.1.0 in
-        (begins (before ++ m ∷ []) p.0 p.1 (walk_one false false first e (nothing_given name) c before m p lenient g.1.1.1.0),
-         not_new (Twice w) g.1.1.1.1, (g.0, g.1.0))
+        let p = g.1.1.0 in (
+          begins (before ++ m ∷ []) p.0 p.1 (walk_one false false first e (nothing_given name) c before m p lenient g.1.1.1.0),
+          not_new (Twice w) g.1.1.1.1,
+          (g.0, g.1.0),
+        )
     why NoBehaviour h g =
         let w = whole_from before g.0 c (reached ∙ ap (λ x. Some (x, c)) g.1.0) in
         (g.1.1.0, (w, ap has_behaviour (at_statement w).1.1 ∙ g.1.1.1))
@@ -140,7 +142,10 @@ module _ (name : List ℕ) where
       let m = mark_of h.token in
       let cause : Cause h.expected h.given m h.kind = at_error (step true true h.expected h.given m) h.kind (Cause h.expected h.given m) h.stops (caused h.expected h.given m) in
       let stops : Stops name ts h.kind h.token.place = record {
-        before = h.before; token = h.token; behind = h.rest; whole = h.whole;
+        before = h.before;
+        token = h.token;
+        behind = h.rest;
+        whole = h.whole;
         begins = begins_new before h.expected h.given h.reached;
         why = why before h.expected h.given m h.reached h.kind h.stops cause;
         here = refl;
@@ -152,7 +157,13 @@ module _ (name : List ℕ) where
       let w = whole_from (marks_of h.before) h.further h.given h.reached in
       let same : after_all (nothing_given name) w.statements ≡ h.given = (at_statement (marks_of h.before) (expects.Statement h.further) h.given End h.reached w).1.1 in
       let gives : Gives name ts h.given = record {
-        before = h.before; last = h.last; whole = h.whole; is_end = h.is_last; statements = w.statements; writes = w.writes; new = w.new;
+        before = h.before;
+        last = h.last;
+        whole = h.whole;
+        is_end = h.is_last;
+        statements = w.statements;
+        writes = w.writes;
+        new = w.new;
         behaviour = h.behaviour;
         gives = sym same;
       } in
@@ -167,8 +178,8 @@ module _ (name : List ℕ) where
   of_reads ts e =
       let is_end : mark_of e.last ≡ End = ap (λ k. kind_mark k e.last.place) e.is_last in
       let o : (us : List Token) → us ≡ e.before ++ e.last ∷ [] → OfTokens name us (reads first (nothing_given name) us) =
-          λ us same. subst (λ xs. OfTokens name xs (reads first (nothing_given name) xs)) (sym same)
-          (of_comes (e.before ++ e.last ∷ []) _ (comes e.before e.last e.once is_end first (nothing_given name))) in
+      λ us same. subst (λ xs. OfTokens name xs (reads first (nothing_given name) xs)) (sym same)
+      (of_comes (e.before ++ e.last ∷ []) _ (comes e.before e.last e.once is_end first (nothing_given name))) in
       o ts e.whole
 
 answers_by : (P Q : Outcome → Type 0) (r : Result Config ConfigFault) → ((o : Outcome) → P o → Q o) → Answers P r → Answers Q r

@@ -158,7 +158,7 @@ module _ (name : List ℕ) where
       let r = whole_walk name (marks_of g.before) whole true false in
       let given = after_all (nothing_given name) g.statements in
       let goes : step true true (expects.Statement r.0) given (mark_of g.last) ≡ Ok (first, given) =
-          ap (step true true (expects.Statement r.0) given) g.is_end ∙ ended (has_behaviour given) given (ap has_behaviour (sym g.gives) ∙ g.behaviour) in
+      ap (step true true (expects.Statement r.0) given) g.is_end ∙ ended (has_behaviour given) given (ap has_behaviour (sym g.gives) ∙ g.behaviour) in
       ap (λ x. Ok x) g.gives
       ∙ sym (ap (reads first (nothing_given name)) g.whole ∙ reads_walk g.before (g.last ∷ []) first (expects.Statement r.0) (nothing_given name) given r.1
       ∙ ap (λ n. read_on n g.last.place (λ f d. reads f d [])) goes)

@@ -307,7 +307,12 @@ last_comes (Err k) e c t h is = inl (halted_here e c t [] k _ h refl)
 last_comes (Ok p) e c t h is =
     let r = end_ok e c p (subst (λ m. step true true e c m ≡ Ok p) is h) in
     inr (record {
-      before = []; last = t; whole = refl; is_last = is; further = r.0; given = c;
+      before = [];
+      last = t;
+      whole = refl;
+      is_last = is;
+      further = r.0;
+      given = c;
       reached = ap (λ x. Some (x, c)) r.1.0;
       behaviour = r.1.1.0;
       gives = ap (λ d. Ok d) r.1.1.1;
@@ -317,15 +322,28 @@ later : (e f : Expects) (c d : Config) (t : Token) (ts : List Token) (o : Outcom
     → Comes f d ts o → Comes e c (t ∷ ts) o
 later e f c d t ts o h (inl r) =
     inl (record {
-      before = t ∷ r.before; token = r.token; rest = r.rest; whole = ap (λ us. t ∷ us) r.whole; expected = r.expected; given = r.given;
+      before = t ∷ r.before;
+      token = r.token;
+      rest = r.rest;
+      whole = ap (λ us. t ∷ us) r.whole;
+      expected = r.expected;
+      given = r.given;
       reached = ap (λ n. walk_on n (λ a b. walk true false a b (marks_of r.before))) h ∙ r.reached;
-      kind = r.kind; stops = r.stops; gives = r.gives;
+      kind = r.kind;
+      stops = r.stops;
+      gives = r.gives;
     })
 later e f c d t ts o h (inr r) =
     inr (record {
-      before = t ∷ r.before; last = r.last; whole = ap (λ us. t ∷ us) r.whole; is_last = r.is_last; further = r.further; given = r.given;
+      before = t ∷ r.before;
+      last = r.last;
+      whole = ap (λ us. t ∷ us) r.whole;
+      is_last = r.is_last;
+      further = r.further;
+      given = r.given;
       reached = ap (λ n. walk_on n (λ a b. walk true false a b (marks_of r.before))) h ∙ r.reached;
-      behaviour = r.behaviour; gives = r.gives;
+      behaviour = r.behaviour;
+      gives = r.gives;
     })
 
 first_comes : (n : Next) (e : Expects) (c : Config) (t : Token) (ts : List Token) → step true true e c (mark_of t) ≡ n → ends (mark_of t) ≡ false

@@ -1,16 +1,18 @@
 //! The configuration of a specification, in the form of TLC's configuration file.
 #![tactic(auto)]
 
-mod reading;
 mod expects;
 mod fault;
 mod keyword;
 mod laws;
 mod mark;
+mod reading;
 mod sets;
 mod step;
+#[cfg(test)]
+mod tests;
 mod values;
 
+pub use fault::{ConfigFault, ConfigKind};
 pub use laws::one_configuration;
 pub use reading::config;
-pub use fault::{ConfigFault, ConfigKind};

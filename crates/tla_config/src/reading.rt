@@ -39,7 +39,12 @@ fn refused(stop: Stop, place: Place) -> ConfigFault
 }
 
 /// What comes of one token.
-fn take(alloc: Global, expects: Expects, token: &Token, config: &mut Config) -> Result<Expects, ConfigFault>
+fn take(
+    alloc: Global,
+    expects: Expects,
+    token: &Token,
+    config: &mut Config,
+) -> Result<Expects, ConfigFault>
     ensures { Takes expects config.old token.now result config.new }
 {
     let mark = mark_of(token)?;

@@ -209,12 +209,7 @@ fn end(config: &Config) -> Result<Expects, Stop>
 }
 
 /// What stands where a statement may begin.
-fn statement(
-    alloc: Global,
-    may: Further,
-    mark: Mark,
-    config: &mut Config,
-) -> Result<Expects, Stop>
+fn statement(alloc: Global, may: Further, mark: Mark, config: &mut Config) -> Result<Expects, Stop>
     ensures { Goes (statement_step true true may config.old mark) result config.new }
 {
     match mark {
