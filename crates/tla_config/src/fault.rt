@@ -2,9 +2,10 @@
 
 ghost use Rattle.std.specs.Prelude.{◌≡◌};
 ghost use Rattle.tla_config.specs.declared.fault.ConfigFault.TheVariants.{NoMemory};
+ghost use Rattle.tla_config.specs.declared.fault.ConfigKind.TheVariants.{Syntax};
 ghost use Rattle.tla_config.specs.declared.fault.Stop.TheVariants as stops;
 
-use std::alloc::{AllocError, AllocFailed};
+use std::alloc::AllocError;
 use trace_base::{Place, Text};
 
 /// What a text that is no configuration has.
@@ -36,14 +37,6 @@ impl From<AllocError> for ConfigFault {
     }
 }
 
-impl<T: Drop> From<AllocFailed<T>> for ConfigFault {
-    ghost from_gives = { λ _ e. e ≡ NoMemory };
-
-    fn from(_e: AllocFailed<T>) -> ConfigFault {
-        ConfigFault::NoMemory
-    }
-}
-
 /// Why reading stops at a mark.
 #[derive(Debug, Drop)]
 pub(crate) enum Stop {
@@ -59,10 +52,9 @@ impl From<AllocError> for Stop {
     }
 }
 
-impl<T: Drop> From<AllocFailed<T>> for Stop {
-    ghost from_gives = { λ _ e. e ≡ stops.NoMemory };
-
-    fn from(_e: AllocFailed<T>) -> Stop {
-        Stop::NoMemory
-    }
+/// What no statement goes on with.
+pub(crate) fn syntax() -> Stop
+    ensures { result ≡ stops.Refused Syntax }
+{
+    Stop::Refused(ConfigKind::Syntax)
 }

@@ -8,7 +8,7 @@ ghost use Rattle.tla_config.specs.Given.{is_chosen, is_assigned, has_behaviour, 
 ghost use Rattle.tla_config.specs.Steps.{Goes, step, statement_step, word_step, further_step, assigned_step, choice_step, name_step, truth_step, first_step, sign_step, replacement_step, end_step};
 
 use crate::expects::{Assigned, Expects, Further};
-use crate::fault::{ConfigKind, Stop};
+use crate::fault::{ConfigKind, Stop, syntax};
 use crate::keyword::{Keyword, Listed, Part, keyword_of};
 use crate::mark::Mark;
 use crate::sets::Sets;
@@ -40,7 +40,7 @@ fn first(mark: Mark, config: &Config) -> Result<Expects, Stop>
 {
     match mark {
         Mark::Name(name, at) => assigned(name, at, config),
-        _ => Err(Stop::Refused(ConfigKind::Syntax)),
+        _ => Err(syntax()),
     }
 }
 
@@ -66,7 +66,7 @@ fn listed(alloc: Global, listed: Listed, mark: Mark, config: &mut Config) -> Res
             config.unchecked.push(line)?;
             Ok(Expects::Statement(Further::Name(listed)))
         }
-        _ => Err(Stop::Refused(ConfigKind::Syntax)),
+        _ => Err(syntax()),
     }
 }
 
@@ -83,7 +83,7 @@ fn choice(part: Part, mark: Mark, config: &mut Config) -> Result<Expects, Stop>
             }
             Ok(Expects::Statement(Further::Nothing))
         }
-        _ => Err(Stop::Refused(ConfigKind::Syntax)),
+        _ => Err(syntax()),
     }
 }
 
@@ -102,7 +102,7 @@ fn truth(alloc: Global, mark: Mark, config: &mut Config) -> Result<Expects, Stop
 {
     match mark {
         Mark::Truth(_) => deadlock(alloc, config),
-        _ => Err(Stop::Refused(ConfigKind::Syntax)),
+        _ => Err(syntax()),
     }
 }
 
@@ -113,7 +113,7 @@ fn sign(alloc: Global, assigned: Assigned, mark: Mark, config: &Config) -> Resul
     match mark {
         Mark::Equal => Ok(Expects::Value(assigned, Sets::new(alloc))),
         Mark::Replaces => Ok(Expects::Replacement(assigned)),
-        _ => Err(Stop::Refused(ConfigKind::Syntax)),
+        _ => Err(syntax()),
     }
 }
 
@@ -130,7 +130,7 @@ fn replacement(assigned: Assigned, mark: Mark, config: &mut Config) -> Result<Ex
             })?;
             Ok(Expects::Statement(Further::Assignment))
         }
-        _ => Err(Stop::Refused(ConfigKind::Syntax)),
+        _ => Err(syntax()),
     }
 }
 
@@ -156,7 +156,7 @@ fn further(
     ensures { Goes (further_step true further config.old name at) result config.new }
 {
     match further {
-        Further::Nothing => Err(Stop::Refused(ConfigKind::Syntax)),
+        Further::Nothing => Err(syntax()),
         Further::Name(list) => listed(alloc, list, Mark::Name(name, at), config),
         Further::Assignment => assigned(name, at, config),
     }
@@ -216,7 +216,7 @@ fn statement(alloc: Global, may: Further, mark: Mark, config: &mut Config) -> Re
         Mark::Name(name, at) => word(alloc, may, name, at, config),
         Mark::Constants => Ok(Expects::FirstAssignment),
         Mark::End => end(config),
-        _ => Err(Stop::Refused(ConfigKind::Syntax)),
+        _ => Err(syntax()),
     }
 }
 

@@ -4,7 +4,7 @@ ghost use Rattle.std.specs.Prelude.{◌≡◌, IfOk, OnOk, Ok};
 ghost use Rattle.tla_config.specs.Steps.{Goes, placed, value_step, negative_step, close_step, first_member_step, separator_step};
 
 use crate::expects::{Assigned, Expects, Further};
-use crate::fault::{ConfigKind, Stop};
+use crate::fault::{Stop, syntax};
 use crate::mark::Mark;
 use crate::sets::Sets;
 use std::alloc::Global;
@@ -53,7 +53,7 @@ pub(crate) fn value(
         Mark::Name(name, _) => place(Literal::Model(name), assigned, sets, config),
         Mark::Number(number) => {
             if number < 0 {
-                return Err(Stop::Refused(ConfigKind::Syntax));
+                return Err(syntax());
             }
             place(Literal::Number(number), assigned, sets, config)
         }
@@ -62,12 +62,12 @@ pub(crate) fn value(
         Mark::Minus => Ok(Expects::Number(assigned, sets)),
         Mark::Open => {
             if sets.len() == MOST {
-                return Err(Stop::Refused(ConfigKind::Syntax));
+                return Err(syntax());
             }
             sets.push(Literals::new(alloc))?;
             Ok(Expects::FirstMember(assigned, sets))
         }
-        _ => Err(Stop::Refused(ConfigKind::Syntax)),
+        _ => Err(syntax()),
     }
 }
 
@@ -83,11 +83,11 @@ pub(crate) fn negative(
     match mark {
         Mark::Number(number) => {
             if number < 0 {
-                return Err(Stop::Refused(ConfigKind::Syntax));
+                return Err(syntax());
             }
             place(Literal::Number(-number), assigned, sets, config)
         }
-        _ => Err(Stop::Refused(ConfigKind::Syntax)),
+        _ => Err(syntax()),
     }
 }
 
@@ -97,7 +97,7 @@ fn close(assigned: Assigned, mut sets: Sets, config: &mut Config) -> Result<Expe
 {
     match sets.pop() {
         Some(set) => place(Literal::Set(set), assigned, sets, config),
-        None => Err(Stop::Refused(ConfigKind::Syntax)),
+        None => Err(syntax()),
     }
 }
 
@@ -129,6 +129,6 @@ pub(crate) fn separator(
     match mark {
         Mark::Close => close(assigned, sets, config),
         Mark::Comma => Ok(Expects::Value(assigned, sets)),
-        _ => Err(Stop::Refused(ConfigKind::Syntax)),
+        _ => Err(syntax()),
     }
 }
