@@ -30,7 +30,8 @@ fn two(alloc: Global) -> Result<Vec<(Text, Vec<u8>)>, AllocError>
 {
     let long = (Text::from_text(alloc, "long")?, bytes(alloc, 40_000)?);
     let none = (Text::from_text(alloc, "none")?, Vec::new(alloc));
-    Vec::from_array(alloc, [long, none])
+    let files = Vec::from_array(alloc, [long, none])?;
+    Ok(files)
 }
 
 fn two_files(alloc: Global, failing: &[u64]) -> Result<MemoryFiles, AllocError> {
@@ -39,7 +40,11 @@ fn two_files(alloc: Global, failing: &[u64]) -> Result<MemoryFiles, AllocError> 
 }
 
 /// What reading a file that never fails answers, with the length for the bytes.
-fn sure_answer(alloc: Global, name: &str, limit: usize) -> Result<Result<usize, ReadFault>, AllocError> {
+fn sure_answer(
+    alloc: Global,
+    name: &str,
+    limit: usize,
+) -> Result<Result<usize, ReadFault>, AllocError> {
     let mut files = SureFiles::new(two(alloc)?);
     let read = read_file(alloc, &mut files, name, limit);
     Ok(read.map(|v| v.len()))
