@@ -5,3 +5,8 @@ pub mod Listing
 pub mod Pairs
 pub mod Parts
 pub mod Intervals
+pub mod Choosing
+pub mod Made
+pub mod Ways
+pub mod Taking
+pub mod Adapted

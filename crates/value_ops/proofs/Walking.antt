@@ -11,7 +11,7 @@ when_append : (b : Bool) (v : Val) (out rest : List Val) → (out ++ when b v []
 when_append true v out rest = append_assoc out (v ∷ []) rest
 when_append false v out rest = ap (λ zs. zs ++ rest) (append-nil out)
 
-first_drop : (xs : List Val) (i : ℕ) (x : Val) → i < length xs → x ≡ get_or xs i x → drop i xs ≡ x ∷ drop (i + 1) xs
+pub first_drop : (xs : List Val) (i : ℕ) (x : Val) → i < length xs → x ≡ get_or xs i x → drop i xs ≡ x ∷ drop (i + 1) xs
 first_drop xs i x h e = rw (add-one, drop-cons xs i x, ← e) refl
 
 pub less_step : (k : Keep) (out xs ys : List Val) (i j : ℕ) (x y : Val) → i < length xs → j < length ys → x ≡ get_or xs i x → y ≡ get_or ys j y → val_cmp x y ≡ Less

@@ -4,3 +4,6 @@ pub mod Walk
 pub mod Changes
 pub mod Among
 pub mod Listed
+pub mod Choices
+pub mod PartList
+pub mod NoSet
