@@ -1,10 +1,10 @@
-ghost use Rattle.std.specs.Prelude.{◌≡◌, ◌++◌, ◌<◌, ◌≤◌, [], ◌∷◌, IfOk, MatchOption, MatchResult, OnOk, get_or, length};
+ghost use Rattle.std.specs.Prelude.{◌≡◌, ◌++◌, ◌<◌, ◌≤◌, [], ◌∷◌, Contains, IfOk, MatchOption, MatchResult, OnOk, get_or, length, map};
 ghost use Rattle.std.specs.List.{zip};
 ghost use Rattle.tla_values.specs.Data.{Val, string};
 ghost use Rattle.tla_values.specs.FunctionOperations.{GivesValue};
 ghost use Rattle.tla_values.specs.Functions.{IsFunctionOf};
-ghost use Rattle.tla_values.specs.Products.{ListsFunctions};
-ghost use Rattle.tla_values.specs.SetOperations.{GivesSet};
+ghost use Rattle.tla_values.specs.Products.{InProduct, InRecordSet, ListsFunctions, ListsRecords, ListsTuples};
+ghost use Rattle.tla_values.specs.SetOperations.{AreDifferent, GivesSet};
 ghost use Rattle.tla_values.specs.Sets.{items_of};
 ghost use Rattle.tla_values.specs.declared.fault.OpFault.TheVariants.{NoMemory};
 ghost use Rattle.value_ops.specs.Choices.{
@@ -16,13 +16,17 @@ ghost use Rattle.value_ops.specs.Choices.{
   choice,
   ways,
 };
+ghost use Rattle.tla_values.specs.IsValue.{IsValue};
+ghost use Rattle.value_ops.specs.NoSet.{no_set_from};
 ghost use Rattle.value_ops.specs.PartList.{part_list};
 
 use crate::THE_TERM;
 use crate::functions::push_pair;
+use crate::listings::integers;
 use crate::sets::{expect_set, refusal, set_from};
 use std::alloc::{AllocError, Global};
 use tla_values::{EvalKind, OpFault, Value};
+use trace_base::Text;
 
 /// How many members a set may have.
 const MAX_MEMBERS: usize = 100_000;
@@ -44,6 +48,85 @@ pub fn function_set(alloc: Global, a: &Value, b: &Value) -> Result<Value, OpFaul
     expect_set(b, 1)?;
     let keys = a.members();
     functions_on(alloc, keys, Parts::Same(b, keys.len()))
+}
+
+/// The tuples of one member of each part, in the order of the parts.
+pub fn product(alloc: Global, parts: &[Value]) -> Result<Value, OpFault>
+    requires { length parts.now ≤ 255 }
+    ensures { ListsTuples parts.now result }
+{
+    match expect_sets(parts) {
+        Ok(()) => tuples(alloc, parts),
+        Err(fault) => Err(fault),
+    }
+}
+
+fn tuples(alloc: Global, parts: &[Value]) -> Result<Value, OpFault>
+    requires few { length parts.now ≤ 255 }
+    requires sets { no_set_from 0 parts.now ≡ None }
+    ensures { GivesSet (InProduct parts.now) result }
+{
+    are_values(parts);
+    let keys = integers(alloc, 1, parts.len() as u32)?;
+    functions_on(alloc, keys.as_slice(), Parts::Each(parts))
+}
+
+/// The records that have in the field of each name a member of the part beside it.
+pub fn record_set(alloc: Global, names: &[Text], parts: &[Value]) -> Result<Value, OpFault>
+    requires few { length parts.now ≤ 255 }
+    requires as_many { length names.now ≡ length parts.now }
+    requires different { AreDifferent names.now }
+    ensures { ListsRecords names.now parts.now result }
+{
+    match expect_sets(parts) {
+        Ok(()) => records(alloc, names, parts),
+        Err(fault) => Err(fault),
+    }
+}
+
+fn records(alloc: Global, names: &[Text], parts: &[Value]) -> Result<Value, OpFault>
+    requires few { length parts.now ≤ 255 }
+    requires as_many { length names.now ≡ length parts.now }
+    requires different { AreDifferent names.now }
+    requires sets { no_set_from 0 parts.now ≡ None }
+    ensures { GivesSet (InRecordSet names.now parts.now) result }
+{
+    are_values(parts);
+    let keys = strings(alloc, names)?;
+    are_values(keys.as_slice());
+    functions_on(alloc, keys.as_slice(), Parts::Each(parts))
+}
+
+/// The names as strings.
+fn strings(alloc: Global, names: &[Text]) -> Result<Vec<Value>, AllocError>
+    ensures { IfOk result (λ keys. keys.items ≡ map string names.now) }
+{
+    let mut keys = Vec::new(alloc);
+    for name in names {
+        let key = Value::string(alloc, name.copy()?)?;
+        keys.push(key)?;
+    }
+    Ok(keys)
+}
+
+/// That all operands are sets.
+fn expect_sets(parts: &[Value]) -> Result<(), OpFault>
+    requires { length parts.now ≤ 255 }
+    ensures { MatchResult result (λ _. no_set_from 0 parts.now ≡ None) (λ e. no_set_from 0 parts.now ≡ Some e) }
+{
+    for i in 0..parts.len() {
+        expect_set(&parts[i], i as u8)?;
+    }
+    Ok(())
+}
+
+/// That what is held are values.
+fn are_values(values: &[Value])
+    ensures { (v : Val) → Contains values.now v → IsValue v }
+{
+    for v in values {
+        v.is_value();
+    }
 }
 
 /// The set of the functions that have at each key a member of the part beside it.
