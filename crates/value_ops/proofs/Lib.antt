@@ -10,3 +10,4 @@ pub mod Made
 pub mod Ways
 pub mod Taking
 pub mod Adapted
+pub mod Subsets

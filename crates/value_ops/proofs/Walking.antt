@@ -7,7 +7,7 @@ use Rattle.tla_values.specs.Order.{val_cmp}
 use Rattle.value_ops.specs.Walk.{when, merged}
 use Rattle.value_ops.specs.declared.sets.Keep.{Keep}
 
-when_append : (b : Bool) (v : Val) (out rest : List Val) → (out ++ when b v []) ++ rest ≡ out ++ when b v rest
+pub when_append : (b : Bool) (v : Val) (out rest : List Val) → (out ++ when b v []) ++ rest ≡ out ++ when b v rest
 when_append true v out rest = append_assoc out (v ∷ []) rest
 when_append false v out rest = ap (λ zs. zs ++ rest) (append-nil out)
 

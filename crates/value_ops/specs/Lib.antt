@@ -5,5 +5,6 @@ pub mod Changes
 pub mod Among
 pub mod Listed
 pub mod Choices
+pub mod Subsets
 pub mod PartList
 pub mod NoSet

@@ -1,11 +1,11 @@
-ghost use Rattle.std.specs.Prelude.{◌≡◌, ◌++◌, ◌<◌, ◌≤◌, [], ◌∷◌, Contains, IfOk, MatchOption, MatchResult, OnOk, get_or, length, map};
+ghost use Rattle.std.specs.Prelude.{◌≡◌, ◌++◌, ◌<◌, ◌≤◌, ◌^◌, [], ◌∷◌, Contains, IfOk, MatchOption, MatchResult, OnOk, get_or, length, map};
 ghost use Rattle.std.specs.List.{zip};
 ghost use Rattle.tla_values.specs.Data.{Val, string};
 ghost use Rattle.tla_values.specs.FunctionOperations.{GivesValue};
 ghost use Rattle.tla_values.specs.Functions.{IsFunctionOf};
 ghost use Rattle.tla_values.specs.Products.{InProduct, InRecordSet, ListsFunctions, ListsRecords, ListsTuples};
-ghost use Rattle.tla_values.specs.SetOperations.{AreDifferent, GivesSet};
-ghost use Rattle.tla_values.specs.Sets.{items_of};
+ghost use Rattle.tla_values.specs.SetOperations.{AreDifferent, GivesSet, ListsSubsets};
+ghost use Rattle.tla_values.specs.Sets.{IsSetOf, items_of};
 ghost use Rattle.tla_values.specs.declared.fault.OpFault.TheVariants.{NoMemory};
 ghost use Rattle.value_ops.specs.Choices.{
   AreKeysAndParts,
@@ -19,11 +19,12 @@ ghost use Rattle.value_ops.specs.Choices.{
 ghost use Rattle.tla_values.specs.IsValue.{IsValue};
 ghost use Rattle.value_ops.specs.NoSet.{no_set_from};
 ghost use Rattle.value_ops.specs.PartList.{part_list};
+ghost use Rattle.value_ops.specs.Subsets.{AreMembers, IsSubsetOf, subset};
 
 use crate::THE_TERM;
 use crate::functions::push_pair;
 use crate::listings::integers;
-use crate::sets::{expect_set, refusal, set_from};
+use crate::sets::{expect_set, push_if, refusal, set_from};
 use std::alloc::{AllocError, Global};
 use tla_values::{EvalKind, OpFault, Value};
 use trace_base::Text;
@@ -36,6 +37,59 @@ const MAX_MEMBERS: usize = 100_000;
 enum Parts<'a> {
     Same(&'a Value, usize),
     Each(&'a [Value]),
+}
+
+/// `SUBSET a`.
+pub fn powerset(alloc: Global, a: &Value) -> Result<Value, OpFault>
+    ensures { ListsSubsets a.now result }
+{
+    a.is_value();
+    expect_set(a, 0)?;
+    let members = a.members();
+    if members.len() > 16 {
+        return Err(OpFault::Refused(EvalKind::TooLarge, THE_TERM));
+    }
+    let subsets = all_subsets(alloc, members, 1 << members.len())?;
+    set_from(alloc, subsets)
+}
+
+/// The sets of some of the members, of which there are `count`.
+fn all_subsets(alloc: Global, members: &[Value], count: usize) -> Result<Vec<Value>, OpFault>
+    requires fit { AreMembers members.now }
+    requires all { count ≡ 2 ^ length members.now }
+    ensures { MatchResult result (λ sets. AreNumbered (IsSubsetOf members.now) count sets.items) (λ e. e ≡ NoMemory) }
+{
+    let mut subsets = Vec::new(alloc);
+    for number in 0..count {
+        let some = some_of(alloc, members, number)?;
+        let subset = subset_from(alloc, some)?;
+        push_value(&mut subsets, subset)?;
+    }
+    Ok(subsets)
+}
+
+/// A copy of the members whose binary digits in the number are 1.
+fn some_of(alloc: Global, members: &[Value], number: usize) -> Result<Vec<Value>, AllocError>
+    ensures { IfOk result (λ some. some.items ≡ subset members.now number) }
+{
+    let mut some = Vec::new(alloc);
+    let mut rest = number;
+    for i in 0..members.len() {
+        push_if(&mut some, &members[i], rest % 2 == 1)?;
+        rest /= 2;
+    }
+    Ok(some)
+}
+
+/// The set of values that are in ascending order already.
+fn subset_from(alloc: Global, members: Vec<Value>) -> Result<Value, OpFault>
+    requires { AreMembers members.items }
+    ensures { GivesValue (IsSetOf members.items) result }
+{
+    match Value::make_set(alloc, members) {
+        Ok(subset) => Ok(subset),
+        Err(fault) => Err(refusal(fault)),
+    }
 }
 
 /// `[a -> b]`.
