@@ -11,3 +11,4 @@ pub mod Ways
 pub mod Taking
 pub mod Adapted
 pub mod Subsets
+pub mod Joining
