@@ -1,3 +1,5 @@
+ghost use Rattle.std.specs.Prelude.{◌≡◌, ◌∷◌, IfOk, []};
+
 use super::*;
 use std::alloc::{AllocError, Global};
 use tla_values::{EvalKind, OpFault, Value};
@@ -141,6 +143,36 @@ fn single_maps(alloc: Global) -> bool {
     }
 }
 
+/// The sequence of so many integers from the first on.
+fn counted(alloc: Global, first: i64, count: u32) -> Result<Value, OpFault> {
+    let mut items = Vec::new(alloc);
+    for k in 0..count {
+        let item = Value::int(first.saturating_add(i64::from(k)));
+        items.push(item).map_err(AllocError::from)?;
+    }
+    match Value::sequence(alloc, items) {
+        Ok(sequence) => Ok(sequence),
+        Err(_) => Err(OpFault::NoMemory),
+    }
+}
+
+/// 50,000 pairs beside 100,000 others: the first 50,000 come from the shorter sequence.
+fn large_functions_merge(alloc: Global) -> Result<bool, OpFault> {
+    let short = counted(alloc, 1, 50_000)?;
+    let long = counted(alloc, 2, 100_000)?;
+    let merged = merge(alloc, &short, &long)?;
+    let outside = single(alloc, &int(0), &int(0))?;
+    let last_of_short = gives_int(apply_at(&merged, &int(50_000)), 50_000);
+    let first_of_long = gives_int(apply_at(&merged, &int(50_001)), 50_002);
+    let whole = merged.len() == 100_000 && last_of_short && first_of_long;
+    Ok(whole && refuses(merge(alloc, &outside, &long), EvalKind::TooLarge, 255))
+}
+
+#[test]
+fn large_functions_are_merged(rt: HostRuntime) {
+    assert!(rt; large_functions_merge(rt.alloc()) == Ok(true));
+}
+
 #[test]
 fn sequences_are_taken_apart(rt: HostRuntime) {
     let alloc = rt.alloc();
@@ -260,7 +292,9 @@ fn functions_are_listed(rt: HostRuntime) {
     );
 }
 
-fn two(alloc: Global, a: Value, b: Value) -> Result<Vec<Value>, AllocError> {
+fn two(alloc: Global, a: Value, b: Value) -> Result<Vec<Value>, AllocError>
+    ensures { IfOk result (λ v. v.items ≡ a ∷ b ∷ []) }
+{
     let mut values = Vec::new(alloc);
     values.push(a)?;
     values.push(b)?;
@@ -314,35 +348,36 @@ fn tuples_are_listed(rt: HostRuntime) {
     );
 }
 
-fn names(alloc: Global, a: &str, b: &str) -> Result<Vec<Text>, AllocError> {
+fn names(alloc: Global, a: &str, b: &str) -> Result<Vec<Text>, AllocError>
+    ensures { IfOk result (λ v. v.items ≡ a.now ∷ b.now ∷ []) }
+{
     let mut names = Vec::new(alloc);
     names.push(Text::from_text(alloc, a)?)?;
     names.push(Text::from_text(alloc, b)?)?;
     Ok(names)
 }
 
-/// The records with b in {1, 2} and a in {3}, the names not in order.
-fn records_are_all(alloc: Global) -> Result<bool, OpFault> {
+/// The records with these values of b and of a, whose names are given out of order.
+fn records(alloc: Global, of_b: Value, of_a: Value) -> Result<Value, OpFault> {
     let names = names(alloc, "b", "a")?;
-    let parts = two(alloc, set(alloc, &[1, 2]), set(alloc, &[3]))?;
-    let records = record_set(alloc, names.as_slice(), parts.as_slice())?;
-    let mut right = records.len() == 2;
-    for i in 0..records.len() {
-        let b = Value::string(alloc, Text::from_text(alloc, "b")?)?;
-        let a = Value::string(alloc, Text::from_text(alloc, "a")?)?;
-        if let Some(record) = records.member_at(i) {
-            right = right && gives_int(apply_at(record, &a), 3);
-            right = right && gives_int(apply_at(record, &b), i as i64 + 1);
-        }
-    }
-    Ok(right)
+    let parts = two(alloc, of_b, of_a)?;
+    record_set(alloc, names.as_slice(), parts.as_slice())
 }
 
-fn no_set_at_second(alloc: Global) -> Result<bool, OpFault> {
-    let names = names(alloc, "a", "b")?;
-    let parts = two(alloc, set(alloc, &[]), int(3))?;
-    let answer = record_set(alloc, names.as_slice(), parts.as_slice());
-    Ok(refuses(answer, EvalKind::NotSet, 1))
+/// The record with these values of b and of a.
+fn record(alloc: Global, of_b: i64, of_a: i64) -> Result<Value, OpFault> {
+    let b = Value::string(alloc, Text::from_text(alloc, "b")?)?;
+    let a = Value::string(alloc, Text::from_text(alloc, "a")?)?;
+    let b = single(alloc, &b, &int(of_b))?;
+    let a = single(alloc, &a, &int(of_a))?;
+    merge(alloc, &b, &a)
+}
+
+fn records_are_all(alloc: Global) -> Result<bool, OpFault> {
+    let records = records(alloc, set(alloc, &[1, 2]), set(alloc, &[3]))?;
+    let low = record(alloc, 1, 3)?;
+    let high = record(alloc, 2, 3)?;
+    Ok(records.contains(&low) && records.contains(&high) && records.len() == 2)
 }
 
 /// No name has one record, which is empty.
@@ -356,7 +391,13 @@ fn records_are_listed(rt: HostRuntime) {
     let alloc = rt.alloc();
     assert!(rt; records_are_all(alloc) == Ok(true));
     assert!(rt; record_of_nothing(alloc) == Ok(true));
-    assert!(rt; no_set_at_second(alloc) == Ok(true));
+    assert!(rt;
+        refuses(
+            records(alloc, set(alloc, &[]), int(3)),
+            EvalKind::NotSet,
+            1
+        )
+    );
 }
 
 /// Two sets of 100,000 integers, one of them from 1 on, are united and taken from each other.
