@@ -1,5 +1,5 @@
 -- The functions on a set, the tuples and the records are functions with a member of a part at each key.
-use Rattle.std.proofs.Common.{◌≡◌, ◌↔◌, ◌⊎◌, inl, inr, ℕ, zero, suc, ◌+◌, ◌<◌, ◌≤◌, ℤ, pos, List, [], ◌∷◌, length, map, replicate, get_or, drop, add-one, Result, Err, ap, sym, ◌∙◌, subst, refl, arith}
+use Rattle.std.proofs.Common.{◌≡◌, ◌↔◌, inl, inr, ℕ, zero, suc, ◌+◌, ◌<◌, ◌≤◌, ℤ, pos, List, [], ◌∷◌, length, map, replicate, get_or, drop, add-one, Result, Err, ap, sym, ◌∙◌, subst, refl, arith}
 use Rattle.std.specs.Prelude.{◌+ℤ◌, ◌≤ℤ◌, ◌<ℤ◌}
 use Rattle.std.specs.List.Sorted.{IsStrictlySortedBy}
 use Rattle.std.specs.List.{Contains, zip}
@@ -15,7 +15,7 @@ use Rattle.tla_values.specs.IsValue.{IsValue}
 use Rattle.tla_values.specs.Sets.{IsSet, Member, items_of}
 use Rattle.tla_values.specs.SetLaws.{ordered}
 use Rattle.tla_values.specs.SetOperations.{AreDifferent}
-use Rattle.tla_values.specs.Functions.{IsFunction, IsFunctionOf, InDomain, HasPair, pairs_in, keys_in, values_in, numbered_from, sequence_of}
+use Rattle.tla_values.specs.Functions.{IsFunction, IsFunctionOf, InDomain, HasPair, pairs_in, keys_in, values_in, numbered_from}
 use Rattle.tla_values.specs.FunctionLaws.{function_is, keys_ordered, pairs_ordered, pairs_ascending, key_cmp, key_total, key_in, in_keys, entries-pairs_of, one_value_at_key}
 use Rattle.tla_values.specs.Products.{AreOneOfEach, InFunctionSet, InProduct, InRecordSet, HasFields, IsName, OnAllSets}
 use Rattle.tla_values.specs.declared.fault.EvalKind.TheVariants.{NotSet}
@@ -74,19 +74,24 @@ in_function_set d c f p h q k = (there, back)
   where
     there : IsChoice (items_of d) (replicate (length (items_of d)) c) f → InFunctionSet d c f
     there (vs, one, o) =
-        let l = length-chosen (items_of d) (replicate (length (items_of d)) c) vs (domain_and_range d c p h q k) one in
-        (o.valid, o.is_function, (λ key. domain_is (items_of d) vs f key l o), λ key v g.
-        let w = of_a_part (replicate (length (items_of d)) c) vs v one (value_of_zip (items_of d) vs (key, v) ((o.same key v).0 g)) in
-        subst (λ (s : Val). Member v s) (sym (in_replicate (length (items_of d)) c w.0 w.1)) w.2)
+        let l = length-chosen (items_of d) (replicate (length (items_of d)) c) vs (domain_and_range d c p h q k) one in (
+          o.valid,
+          o.is_function,
+          (λ key. domain_is (items_of d) vs f key l o),
+          λ key v g.
+              let w = of_a_part (replicate (length (items_of d)) c) vs v one (value_of_zip (items_of d) vs (key, v) ((o.same key v).0 g)) in
+              subst (λ (s : Val). Member v s) (sym (in_replicate (length (items_of d)) c w.0 w.1)) w.2,
+        )
 
     back : InFunctionSet d c f → IsChoice (items_of d) (replicate (length (items_of d)) c) f
     back (valid, is_function, domain, range) =
         let ks : keys_in f ≡ items_of d = ascending_unique val_cmp val_total (keys_in f) (items_of d) (keys_ordered f valid is_function).ascending (ordered d p h).ascending domain in
         let l : length (values_in f) ≡ length (items_of d) = halves_length (pairs_in f) ∙ ap (λ js. length js) ks in
-        let pairs : zip (items_of d) (values_in f) ≡ pairs_in f = ap (λ js. zip js (values_in f)) (sym ks) ∙ zip_halves (pairs_in f) in
-        (values_in f,
-        subst (λ n. AreOneOfEach (values_in f) (replicate n c)) l (all_of_one (values_in f) c (λ v g. let w = at_value (pairs_in f) v g in range w.0 v w.1)),
-        record { valid = valid; is_function = is_function; same = λ key v. subst (λ (ps : List (Val × Val)). Contains (pairs_in f) (key, v) ↔ Contains ps (key, v)) (sym pairs) (λ g. g, λ g. g) })
+        let pairs : zip (items_of d) (values_in f) ≡ pairs_in f = ap (λ js. zip js (values_in f)) (sym ks) ∙ zip_halves (pairs_in f) in (
+          values_in f,
+          subst (λ n. AreOneOfEach (values_in f) (replicate n c)) l (all_of_one (values_in f) c (λ v g. let w = at_value (pairs_in f) v g in range w.0 v w.1)),
+          record { valid = valid; is_function = is_function; same = λ key v. subst (λ (ps : List (Val × Val)). Contains (pairs_in f) (key, v) ↔ Contains ps (key, v)) (sym pairs) (λ g. g, λ g. g) },
+        )
       where
         at_value : (ps : List (Val × Val)) (v : Val) → Contains (map (λ p. p.1) ps) v → (key : Val) × Contains ps (key, v)
         at_value [] v g = absurd (none_in v g)
@@ -162,10 +167,10 @@ integer_keys ps y few l e valid = record {
   few = omega (arith, length-ints (pos 1) y, few);
   different = ascending_different val_cmp val_total (ints_from (pos 1) y) (ascending_ints (pos 1) y);
   inner = λ k h.
-  let w = in_ints (pos 1) y k h in
-  let low : pos 1 ≤ℤ w.0 = w.2 in
-  let high : w.0 <ℤ (pos 1 +ℤ pos y) = w.3 in
-  subst (λ (v : Val). IsInner v) (sym w.1) (small w.0 (omega (arith, ints, few)) (omega (arith, ints, few)));
+      let w = in_ints (pos 1) y k h in
+      let low : pos 1 ≤ℤ w.0 = w.2 in
+      let high : w.0 <ℤ (pos 1 +ℤ pos y) = w.3 in
+      subst (λ (v : Val). IsInner v) (sym w.1) (small w.0 (omega (arith, ints, few)) (omega (arith, ints, few)));
   valid = valid;
   sets = all_are_sets 0 ps e;
 }
@@ -262,11 +267,14 @@ values_of [] (p ∷ ps) f l h = absurd (omega (arith, l))
 values_of (n ∷ ns) [] f l h = absurd h
 values_of (n ∷ ns) (p ∷ ps) f l h =
     let fewer : length ns ≡ length ps = omega (arith, l) in
-    let w = values_of ns ps f fewer h.1 in
-    (h.0.0 ∷ w.0, (h.0.2, w.1), λ r g. elim (cons_cases (string n, h.0.0) (zip (map string ns) w.0) r g) [
-      | inl e ↦ subst (λ (s : Val × Val). HasPair f s.0 s.1) e h.0.1
-      | inr i ↦ w.2 r i
-    ])
+    let w = values_of ns ps f fewer h.1 in (
+      h.0.0 ∷ w.0,
+      (h.0.2, w.1),
+      λ r g. elim (cons_cases (string n, h.0.0) (zip (map string ns) w.0) r g) [
+        | inl e ↦ subst (λ (s : Val × Val). HasPair f s.0 s.1) e h.0.1
+        | inr i ↦ w.2 r i
+      ],
+    )
 
 pub in_record_set : (ns : List (List ℕ)) (ps : List Val) (f : Val) → length ns ≡ length ps → IsChoice (map string ns) ps f ↔ InRecordSet ns ps f
 in_record_set ns ps f l = (there, back)
@@ -279,11 +287,18 @@ in_record_set ns ps f l = (there, back)
     back : InRecordSet ns ps f → IsChoice (map string ns) ps f
     back (valid, is_function, fields, names) =
         let w = values_of ns ps f l fields in
-        let many : length w.0 ≡ length (map string ns) = as_many ps w.0 w.1 ∙ sym l ∙ sym (length-strings ns) in
-        (w.0, w.1, record { valid = valid; is_function = is_function; same = λ key v. (
-          λ h.
-          let named = name_in ns key (names key (in_keys (pairs_in f) (key, v) h)) in
-          let there = key_in (zip (map string ns) w.0) key (subst (λ (ks : List Val). Contains ks key) (sym (firsts-zip (map string ns) w.0 many)) named) in
-          subst (λ (u : Val). Contains (zip (map string ns) w.0) (key, u)) (one_value_at_key f key there.0 v valid (w.2 (key, there.0) there.1) h) there.1,
-          λ h. w.2 (key, v) h,
-        ) })
+        let many : length w.0 ≡ length (map string ns) = as_many ps w.0 w.1 ∙ sym l ∙ sym (length-strings ns) in (
+          w.0,
+          w.1,
+          record {
+            valid = valid;
+            is_function = is_function;
+            same = λ key v. (
+              λ h.
+                  let named = name_in ns key (names key (in_keys (pairs_in f) (key, v) h)) in
+                  let there = key_in (zip (map string ns) w.0) key (subst (λ (ks : List Val). Contains ks key) (sym (firsts-zip (map string ns) w.0 many)) named) in
+                  subst (λ (u : Val). Contains (zip (map string ns) w.0) (key, u)) (one_value_at_key f key there.0 v valid (w.2 (key, there.0) there.1) h) there.1,
+              λ h. w.2 (key, v) h,
+            );
+          },
+        )

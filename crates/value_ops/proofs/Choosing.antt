@@ -1,14 +1,13 @@
 -- One member of each of several sets at once: all ways, each once.
-use Rattle.std.proofs.Common.{◌≡◌, ◌↔◌, inl, inr, ℕ, zero, suc, ◌+◌, ◌*◌, ◌/◌, ◌%◌, ◌<◌, ◌≤◌, List, [], ◌∷◌, length, map, get_or, ap, sym, ◌∙◌, subst, refl, arith}
+use Rattle.std.proofs.Common.{◌≡◌, inl, inr, ℕ, zero, suc, ◌+◌, ◌*◌, ◌/◌, ◌%◌, ◌<◌, ◌≤◌, List, [], ◌∷◌, length, get_or, ap, sym, ◌∙◌, subst, refl, arith}
 use Rattle.std.specs.List.{Contains, zip}
 use Rattle.std.proofs.Math.Nat.{zero-mul, mul-suc, mul_comm, mul-le-mul_left, mod-lt, mod-eq_of_lt, div-eq_of_lt, div-add-mod, div-lt_iff_lt-mul, add-mul-mod_self_left, add-mul-div_left}
 use Rattle.std.proofs.lemmas.List.{get_or_default}
 use Rattle.std.proofs.lemmas.List.Elements.{Contains-get_or}
 use Rattle.std.proofs.lemmas.Slice.Zip.{firsts-zip}
 use Rattle.tla_values.specs.Data.{Val}
-use Rattle.tla_values.specs.Ascending.{cons_cases, head_in, tail_in, none_in}
+use Rattle.tla_values.specs.Ascending.{cons_cases, head_in, tail_in}
 use Rattle.tla_values.specs.FunctionLaws.{in_keys}
-use Rattle.tla_values.specs.Functions.{IsFunctionOf}
 use Rattle.tla_values.specs.Products.{AreOneOfEach}
 use Rattle.tla_values.specs.SetOperations.{AreDifferent}
 use Rattle.tla_values.specs.Sets.{items_of}

@@ -1,5 +1,5 @@
 -- Two lists of pairs that ascend by key, joined: what the walk keeps, and what the pairs are.
-use Rattle.std.proofs.Common.{◌≡◌, ◌↔◌, ◌⊎◌, inl, inr, ℕ, ◌+◌, ◌<◌, ◌≤◌, List, [], ◌∷◌, ◌++◌, length, drop, map, get_or, ap, sym, ◌∙◌, subst, refl, arith, append_assoc, append-nil}
+use Rattle.std.proofs.Common.{◌≡◌, ◌↔◌, ◌⊎◌, inl, inr, ℕ, ◌+◌, ◌<◌, ◌≤◌, List, [], ◌∷◌, ◌++◌, length, drop, map, get_or, ap, sym, ◌∙◌, subst, refl, append_assoc, append-nil}
 use Rattle.std.specs.declared.cmp.Ordering.{Ordering}
 use Rattle.std.specs.declared.cmp.Ordering.TheVariants.{Less, Equal, Greater}
 use Rattle.std.specs.Ordering.{match_ordering, ordering_reverse}
@@ -12,7 +12,7 @@ use Rattle.tla_values.specs.Order.{val_cmp}
 use Rattle.tla_values.specs.OrderLaws.{val_total, val_ties}
 use Rattle.tla_values.specs.IsValue.{IsValue}
 use Rattle.tla_values.specs.Functions.{HasKeyTwice, pairs_in, keys_in}
-use Rattle.tla_values.specs.FunctionLaws.{key_cmp, key_total, key_in, in_keys, keys_ascending, pairs_ordered, one_pair, ascending_once}
+use Rattle.tla_values.specs.FunctionLaws.{key_cmp, key_total, key_in, keys_ascending, pairs_ordered, one_pair, ascending_once}
 use Rattle.tla_values.specs.FunctionOperations.{InMerge}
 use Rattle.value_ops.specs.Changes.{join_beside, joined}
 use Rattle.value_ops.proofs.Made.{sorted_cons}

@@ -1,5 +1,5 @@
 -- From a list of values to the set of those that meet a condition.
-use Rattle.std.proofs.Common.{◌≡◌, ◌↔◌, ◌⊎◌, inl, inr, ℕ, suc, ◌≤◌, max, List, [], ◌∷◌, length, Result, Ok, Err, ap, sym, ◌∙◌, subst, refl, arith}
+use Rattle.std.proofs.Common.{◌≡◌, ◌↔◌, ◌⊎◌, inl, inr, ℕ, suc, ◌≤◌, max, List, [], ◌∷◌, length, Result, Ok, Err, ap, sym, subst, refl, arith}
 use Rattle.std.specs.declared.cmp.Ordering.{Ordering}
 use Rattle.std.specs.Cmp.{IsTotalOrder}
 use Rattle.std.specs.List.{Contains}
@@ -8,7 +8,7 @@ use Rattle.std.specs.List.Sorted.{IsStrictlySortedBy, IsPermutation}
 use Rattle.std.proofs.lemmas.List.Sorted.{IsPermutation-remove, Contains-permutation, length_permutation}
 use Rattle.std.proofs.lemmas.Map.Keys.{sorted_tail}
 use Rattle.tla_values.specs.Data.{Val, model, truth, integer, string, set, function, vals_of, vals_depth, depth}
-use Rattle.tla_values.specs.Ascending.{cons_cases, head_in, tail_in, none_in, below, not_itself}
+use Rattle.tla_values.specs.Ascending.{cons_cases, head_in, tail_in, below, not_itself}
 use Rattle.tla_values.specs.Order.{val_cmp}
 use Rattle.tla_values.specs.OrderLaws.{val_total}
 use Rattle.tla_values.specs.Sets.{IsSet, IsSetOf, MakesSet}

@@ -1,12 +1,12 @@
 -- A function with given pairs, and lists of values by their numbers.
-use Rattle.std.proofs.Common.{◌≡◌, ◌↔◌, ◌⊎◌, inl, inr, ℕ, zero, suc, ◌+◌, ◌<◌, ◌≤◌, max, List, [], ◌∷◌, length, map, Bool, true, false, cond, Err, ap, sym, ◌∙◌, subst, refl, arith}
+use Rattle.std.proofs.Common.{◌≡◌, ◌↔◌, ◌⊎◌, inl, inr, ℕ, zero, suc, ◌<◌, ◌≤◌, List, [], ◌∷◌, length, map, Bool, true, false, cond, Err, ap, sym, ◌∙◌, subst, refl, arith}
 use Rattle.std.specs.declared.cmp.Ordering.{Ordering}
 use Rattle.std.specs.declared.cmp.Ordering.TheVariants.{Less, Equal, Greater}
 use Rattle.std.specs.Ordering.{match_ordering, ordering_reverse}
 use Rattle.std.specs.List.{Contains, AllByRecursion}
 use Rattle.std.specs.List.Sorted.{IsStrictlySortedBy}
 use Rattle.std.proofs.lemmas.Map.Keys.{sorted_tail}
-use Rattle.tla_values.specs.Data.{Val, model, truth, integer, string, set, function, Vals, no_vals, more_vals, members, pairs_of, pairs_depth, depth}
+use Rattle.tla_values.specs.Data.{Val, model, truth, integer, string, set, function, Vals, no_vals, more_vals, members, pairs_of, pairs_depth}
 use Rattle.tla_values.specs.Ascending.{cons_cases, head_in, tail_in, none_in, below}
 use Rattle.tla_values.specs.Order.{val_cmp, val_eq}
 use Rattle.tla_values.specs.OrderLaws.{val_total, val_ties, val_same}
@@ -14,7 +14,7 @@ use Rattle.tla_values.specs.IsValue.{IsValue, IsCanonical, AreCanonical, HaveCan
 use Rattle.tla_values.specs.Sets.{Member}
 use Rattle.tla_values.specs.SetLaws.{member_shallow}
 use Rattle.tla_values.specs.SetOperations.{AreDifferent, AreTooMany}
-use Rattle.tla_values.specs.Functions.{IsFunctionOf, HasKeyTwice, MakesFunction}
+use Rattle.tla_values.specs.Functions.{IsFunctionOf, MakesFunction}
 use Rattle.tla_values.specs.FunctionOperations.{GivesValue}
 use Rattle.tla_values.specs.FunctionLaws.{key_cmp, key_total, keys_ascending, key_in, in_keys, entries-pairs_of, key_count, count_cons, none_alike}
 use Rattle.tla_values.specs.declared.value.ValueFault.{ValueFault}
@@ -150,21 +150,23 @@ function_exists ps a =
     let qs = in_order ps in
     let back = entries-pairs_of (in_order ps) in
     let s = ordered_ascending ps a.different in
-    let inner = λ (p : Val × Val) (h : Contains (in_order ps) p). a.inner p (in_ordered ps p h) in
-    (function (pairs_of (in_order ps)), record {
-      valid = record {
-        canonical = (
-          record {
-            ascending = subst (λ (rs : List (Val × Val)). IsStrictlySortedBy val_cmp (map (λ p. p.0) rs)) (sym back) (keys_ascending (in_order ps) s);
-            few = omega (arith, a.few, length-in_order ps, length-map (in_order ps), ap (λ (rs : List (Val × Val)). length (map (λ p. p.0) rs)) back);
-          },
-          have_canonical (in_order ps) inner,
-        );
-        shallow = omega (arith, pairs_shallow (in_order ps) inner);
-      };
-      is_function = tt;
-      same = λ key v. subst (λ (rs : List (Val × Val)). Contains rs (key, v) ↔ Contains ps (key, v)) (sym back) (in_ordered ps (key, v), ordered_in ps (key, v));
-    })
+    let inner = λ (p : Val × Val) (h : Contains (in_order ps) p). a.inner p (in_ordered ps p h) in (
+      function (pairs_of (in_order ps)),
+      record {
+        valid = record {
+          canonical = (
+            record {
+              ascending = subst (λ (rs : List (Val × Val)). IsStrictlySortedBy val_cmp (map (λ p. p.0) rs)) (sym back) (keys_ascending (in_order ps) s);
+              few = omega (arith, a.few, length-in_order ps, length-map (in_order ps), ap (λ (rs : List (Val × Val)). length (map (λ p. p.0) rs)) back);
+            },
+            have_canonical (in_order ps) inner,
+          );
+          shallow = omega (arith, pairs_shallow (in_order ps) inner);
+        };
+        is_function = tt;
+        same = λ key v. subst (λ (rs : List (Val × Val)). Contains rs (key, v) ↔ Contains ps (key, v)) (sym back) (in_ordered ps (key, v), ordered_in ps (key, v));
+      },
+    )
 
 -- no key comes twice where the keys differ
 different_once : (ps : List (Val × Val)) → AreDifferent (map (λ p. p.0) ps) → (key : Val) → key_count key ps ≤ 1
@@ -219,11 +221,15 @@ numbered : (Q : ℕ → Val → Type 0) (n : ℕ) → ((k : ℕ) → k < n → (
 numbered Q n some once zero h = ([], refl, tt, λ v g. absurd (none_in v g))
 numbered Q n some once (suc m) h =
     let w = numbered Q n some once m (omega (arith, h)) in
-    let u = some m (omega (arith, h)) in
-    (u.0 ∷ w.0, ap suc w.1, (λ g. let k = w.3 u.0 g in omega (arith, k.1, once k.0 m u.0 (omega (arith, k.1, h)) (omega (arith, h)) k.2 u.1), w.2), λ v g. elim (cons_cases u.0 w.0 v g) [
-      | inl e ↦ (m, omega arith, subst (λ (z : Val). Q m z) e u.1)
-      | inr i ↦ let k = w.3 v i in (k.0, omega (arith, k.1), k.2)
-    ])
+    let u = some m (omega (arith, h)) in (
+      u.0 ∷ w.0,
+      ap suc w.1,
+      (λ g. let k = w.3 u.0 g in omega (arith, k.1, once k.0 m u.0 (omega (arith, k.1, h)) (omega (arith, h)) k.2 u.1), w.2),
+      λ v g. elim (cons_cases u.0 w.0 v g) [
+        | inl e ↦ (m, omega arith, subst (λ (z : Val). Q m z) e u.1)
+        | inr i ↦ let k = w.3 v i in (k.0, omega (arith, k.1), k.2)
+      ],
+    )
 
 pub numbered_too_many : (P : Val → Type 0) (Q : ℕ → Val → Type 0) (n : ℕ) → max_members < n → ((k : ℕ) → k < n → (v : Val) × Q k v) → ((j k : ℕ) (v : Val) → j < n → k < n → Q j v → Q k v → j ≡ k)
     → ((k : ℕ) (v : Val) → k < n → Q k v → P v) → AreTooMany P

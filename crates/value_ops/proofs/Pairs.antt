@@ -1,14 +1,12 @@
 -- From a list of pairs to the function with those that meet a condition.
-use Rattle.std.proofs.Common.{◌≡◌, ◌↔◌, ◌⊎◌, inl, inr, ℕ, suc, ◌+◌, ◌≤◌, max, List, [], ◌∷◌, ◌++◌, length, map, Bool, true, false, cond, Result, Ok, Err, ap, sym, ◌∙◌, subst, refl, arith}
+use Rattle.std.proofs.Common.{◌≡◌, ◌↔◌, ◌⊎◌, inl, inr, ℕ, suc, ◌≤◌, max, List, [], ◌∷◌, length, map, Bool, true, false, cond, Result, Ok, Err, ap, sym, ◌∙◌, subst, refl, arith}
 use Rattle.std.specs.List.{Contains}
-use Rattle.std.proofs.lemmas.List.Elements.{Contains-append_left, Contains-append_right, Contains-append_cases}
-use Rattle.std.proofs.lemmas.List.Sums.{sum_by-append}
 use Rattle.tla_values.specs.Data.{Val, model, truth, integer, string, set, function, pairs_of, pairs_depth, depth}
 use Rattle.tla_values.specs.Ascending.{cons_cases, head_in, tail_in, none_in}
 use Rattle.tla_values.specs.Order.{val_eq}
 use Rattle.tla_values.specs.OrderLaws.{val_same, val_eq_equiv}
 use Rattle.tla_values.specs.Functions.{IsFunction, IsFunctionOf, HasKeyTwice, MakesFunction, pairs_in, keys_in, InDomain}
-use Rattle.tla_values.specs.FunctionLaws.{key_count, count_cons, at_most_one, ascending_once, keys_ascending, key_in, in_keys, pairs_ordered}
+use Rattle.tla_values.specs.FunctionLaws.{key_count, count_cons, ascending_once, keys_ascending, key_in, in_keys, pairs_ordered}
 use Rattle.tla_values.specs.IsValue.{IsValue}
 use Rattle.tla_values.specs.FunctionOperations.{GivesFunction, OnFunction, OnFunctions, InExcept}
 use Rattle.std.specs.Option.{option_map, is_some}

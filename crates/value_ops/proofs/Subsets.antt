@@ -1,16 +1,16 @@
 -- The subsets of a set: all of them, each once.
-use Rattle.std.proofs.Common.{◌≡◌, ◌↔◌, ◌⊎◌, inl, inr, ℕ, zero, suc, ◌+◌, ◌*◌, ◌/◌, ◌%◌, ◌^◌, ◌<◌, ◌≤◌, nat_eq, List, [], ◌∷◌, ◌++◌, length, drop, get_or, Bool, true, false, Result, Ok, Err, ap, sym, ◌∙◌, subst, refl, arith}
+use Rattle.std.proofs.Common.{◌≡◌, ◌↔◌, ◌⊎◌, inl, inr, ℕ, zero, suc, ◌+◌, ◌*◌, ◌/◌, ◌%◌, ◌^◌, ◌<◌, ◌≤◌, nat_eq, List, [], ◌∷◌, ◌++◌, length, drop, get_or, Bool, true, false, Err, ap, sym, ◌∙◌, subst, refl, arith}
 use Rattle.std.specs.List.{Contains}
 use Rattle.std.specs.List.Sorted.{IsStrictlySortedBy}
 use Rattle.std.proofs.Math.Nat.{two-pow-succ, mod-lt}
 use Rattle.std.proofs.Math.Pow.{pow_mono}
 use Rattle.std.proofs.lemmas.Map.Keys.{sorted_tail}
-use Rattle.tla_values.specs.Data.{Val, set, vals_of, vals_depth, members, depth}
+use Rattle.tla_values.specs.Data.{Val, set, vals_of}
 use Rattle.tla_values.specs.Ascending.{cons_cases, head_in, tail_in, none_in, below}
 use Rattle.tla_values.specs.Order.{val_cmp}
 use Rattle.tla_values.specs.OrderLaws.{val_total}
-use Rattle.tla_values.specs.IsValue.{IsValue, AreCanonical, max_members}
-use Rattle.tla_values.specs.Sets.{IsSet, IsSetOf, MakesSet, Member, items_of}
+use Rattle.tla_values.specs.IsValue.{IsValue, AreCanonical}
+use Rattle.tla_values.specs.Sets.{IsSet, IsSetOf, MakesSet, items_of}
 use Rattle.tla_values.specs.SetLaws.{depth_all, members-vals_of, ordered, same_members}
 use Rattle.tla_values.specs.SetOperations.{AreDifferent, AreTooMany, InPowerset}
 use Rattle.tla_values.specs.FunctionOperations.{GivesValue}
@@ -162,21 +162,23 @@ all_canonical (v ∷ vs) f = ((f v (head_in v vs)).valid.canonical, all_canonica
 pub subset_exists : (xs : List Val) (n : ℕ) → AreMembers xs → (s : Val) × IsSubsetOf xs n s
 subset_exists xs n a =
     let back = members-vals_of (subset xs n) in
-    let inner = λ (v : Val) (h : Contains (subset xs n) v). a.inner v (subset_in xs n v h) in
-    (set (vals_of (subset xs n)), record {
-      valid = record {
-        canonical = (
-          record {
-            ascending = subst (λ (vs : List Val). IsStrictlySortedBy val_cmp vs) (sym back) (subset_ascending xs n a.ascending);
-            few = omega (arith, a.few, subset_few xs n, ap (λ (vs : List Val). length vs) back);
-          },
-          all_canonical (subset xs n) inner,
-        );
-        shallow = omega (arith, depth_all (subset xs n) 31 (λ v h. (inner v h).shallow));
-      };
-      is_set = tt;
-      same = λ v. subst (λ (vs : List Val). Contains vs v ↔ Contains (subset xs n) v) (sym back) (λ h. h, λ h. h);
-    })
+    let inner = λ (v : Val) (h : Contains (subset xs n) v). a.inner v (subset_in xs n v h) in (
+      set (vals_of (subset xs n)),
+      record {
+        valid = record {
+          canonical = (
+            record {
+              ascending = subst (λ (vs : List Val). IsStrictlySortedBy val_cmp vs) (sym back) (subset_ascending xs n a.ascending);
+              few = omega (arith, a.few, subset_few xs n, ap (λ (vs : List Val). length vs) back);
+            },
+            all_canonical (subset xs n) inner,
+          );
+          shallow = omega (arith, depth_all (subset xs n) 31 (λ v h. (inner v h).shallow));
+        };
+        is_set = tt;
+        same = λ v. subst (λ (vs : List Val). Contains vs v ↔ Contains (subset xs n) v) (sym back) (λ h. h, λ h. h);
+      },
+    )
 
 pub set_members : (a : Val) → IsValue a → IsSet a → AreMembers (items_of a)
 set_members a p h = record { ascending = (ordered a p h).ascending; few = few_items a p; inner = λ v g. member_inner a v p g }
@@ -203,15 +205,18 @@ is_subset a k s o = (o.valid, o.is_set, λ w h. subset_in (items_of a) k w ((o.s
 
 numbered_subset : (a s : Val) → InPowerset a s → (k : ℕ) × (k < 2 ^ length (items_of a)) × IsSubsetOf (items_of a) k s
 numbered_subset a s p =
-    let passes = among (items_of s) in
-    (number passes (items_of a), number_below passes (items_of a), record {
-      valid = p.0;
-      is_set = p.1;
-      same = λ v. (
-        λ h. passed_in passes (items_of a) v (p.2 v h) (contains_has (items_of s) v h),
-        λ h. has_contains (items_of s) v (in_passed passes (items_of a) v h),
-      );
-    })
+    let passes = among (items_of s) in (
+      number passes (items_of a),
+      number_below passes (items_of a),
+      record {
+        valid = p.0;
+        is_set = p.1;
+        same = λ v. (
+          λ h. passed_in passes (items_of a) v (p.2 v h) (contains_has (items_of s) v h),
+          λ h. has_contains (items_of s) v (in_passed passes (items_of a) v h),
+        );
+      },
+    )
 
 one_subset : (xs : List Val) (k : ℕ) (s t : Val) → IsSubsetOf xs k s → IsSubsetOf xs k t → s ≡ t
 one_subset xs k s t m n = same_members s t m.valid n.valid m.is_set n.is_set (λ v. (λ h. (n.same v).1 ((m.same v).0 h), λ h. (m.same v).1 ((n.same v).0 h)))

@@ -1,19 +1,19 @@
 -- The functions that have at each key a member of the part beside it.
-use Rattle.std.proofs.Common.{◌≡◌, ◌↔◌, inl, inr, ℕ, ◌<◌, ◌≤◌, List, [], ◌∷◌, length, map, ap, sym, ◌∙◌, subst, refl, arith, min}
+use Rattle.std.proofs.Common.{◌≡◌, ◌↔◌, inl, inr, ℕ, ◌<◌, List, [], ◌∷◌, length, sym, ◌∙◌, subst, arith}
 use Rattle.std.specs.List.{Contains, zip}
 use Rattle.std.proofs.lemmas.Slice.Zip.{firsts-zip, length-zip}
 use Rattle.tla_values.specs.Data.{Val}
 use Rattle.tla_values.specs.Ascending.{cons_cases, head_in, tail_in, none_in}
 use Rattle.tla_values.specs.Order.{val_cmp}
 use Rattle.tla_values.specs.OrderLaws.{val_total}
-use Rattle.tla_values.specs.IsValue.{IsValue, max_members}
+use Rattle.tla_values.specs.IsValue.{max_members}
 use Rattle.tla_values.specs.Sets.{Member, items_of}
 use Rattle.tla_values.specs.SetLaws.{ordered}
 use Rattle.tla_values.specs.SetOperations.{AreDifferent, AreTooMany}
 use Rattle.tla_values.specs.Functions.{IsFunctionOf}
 use Rattle.tla_values.specs.FunctionLaws.{functions_by_pairs}
 use Rattle.tla_values.specs.Products.{AreOneOfEach}
-use Rattle.value_ops.specs.Choices.{AreNumbered, ArePairs, AreKeysAndParts, IsChoice, IsChoiceOf, IsInner, choice, ways}
+use Rattle.value_ops.specs.Choices.{AreNumbered, ArePairs, AreKeysAndParts, IsChoice, IsChoiceOf, choice, ways}
 use Rattle.value_ops.proofs.Choosing.{choice_each, way_of, way_same, as_many, key_of_zip, beside_same}
 use Rattle.value_ops.proofs.Listing.{ascending_different}
 use Rattle.value_ops.proofs.Made.{function_exists, member_inner, numbered_as, numbered_too_many}
@@ -47,8 +47,8 @@ chosen_pairs keys parts vs a one =
       different = subst (λ (ks : List Val). AreDifferent ks) (sym (firsts-zip keys vs l)) a.different;
       few = omega (arith, a.few, length-zip keys vs, l);
       inner = λ p h.
-      let w = of_a_part parts vs p.1 one (value_of_zip keys vs p h) in
-      (a.inner p.0 (key_of_zip keys vs p l h), member_inner w.0 p.1 (a.valid w.0 w.1) w.2);
+          let w = of_a_part parts vs p.1 one (value_of_zip keys vs p h) in
+          (a.inner p.0 (key_of_zip keys vs p l h), member_inner w.0 p.1 (a.valid w.0 w.1) w.2);
     }
 
 parts_different : (keys parts : List Val) → AreKeysAndParts keys parts → (p : Val) → Contains parts p → AreDifferent (items_of p)

@@ -123,7 +123,11 @@ fn keys_of(alloc: Global, f: &Value) -> Result<Vec<Value>, AllocError>
     Ok(keys)
 }
 
-pub(crate) fn push_pair(pairs: &mut Vec<(Value, Value)>, key: &Value, value: &Value) -> Result<(), AllocError>
+pub(crate) fn push_pair(
+    pairs: &mut Vec<(Value, Value)>,
+    key: &Value,
+    value: &Value,
+) -> Result<(), AllocError>
     ensures { OnOk result (pairs.new.items ≡ pairs.old.items ++ (key.now, value.now) ∷ []) }
 {
     let key = key.copy()?;

@@ -247,8 +247,10 @@ fn subsets_are_listed(rt: HostRuntime) {
 /// The functions on {1, 2} with values in {0, 1}, by which a sequence of two is known.
 fn functions_are_all(alloc: Global) -> Result<bool, OpFault> {
     let functions = function_set(alloc, &set(alloc, &[1, 2]), &set(alloc, &[0, 1]))?;
-    let low = functions.contains(&tuple(alloc, &[0, 0])) && functions.contains(&tuple(alloc, &[0, 1]));
-    let high = functions.contains(&tuple(alloc, &[1, 0])) && functions.contains(&tuple(alloc, &[1, 1]));
+    let low = functions.contains(&tuple(alloc, &[0, 0]))
+        && functions.contains(&tuple(alloc, &[0, 1]));
+    let high = functions.contains(&tuple(alloc, &[1, 0]))
+        && functions.contains(&tuple(alloc, &[1, 1]));
     Ok(low && high && functions.len() == 4)
 }
 
@@ -270,7 +272,11 @@ fn functions_have_limits(alloc: Global) -> Result<bool, OpFault> {
     let seventeen = interval(alloc, &int(1), &int(17))?;
     let deep = nested(alloc, 32)?;
     let shallow = function_set(alloc, &nested(alloc, 31)?, &two)?;
-    let large = refuses(function_set(alloc, &seventeen, &two), EvalKind::TooLarge, 255);
+    let large = refuses(
+        function_set(alloc, &seventeen, &two),
+        EvalKind::TooLarge,
+        255,
+    );
     let on_deep = refuses(function_set(alloc, &deep, &two), EvalKind::TooDeep, 255);
     let in_deep = refuses(function_set(alloc, &two, &deep), EvalKind::TooDeep, 255);
     Ok(shallow.len() == 2 && large && on_deep && in_deep)
@@ -329,7 +335,11 @@ fn tuples_have_limits(alloc: Global) -> Result<bool, OpFault> {
     let one = set(alloc, &[1]);
     let all = product_of_two(alloc, most, other.copy()?)?;
     let large = refuses(product_of_two(alloc, more, other), EvalKind::TooLarge, 255);
-    let deep = refuses(product_of_two(alloc, one, nested(alloc, 32)?), EvalKind::TooDeep, 255);
+    let deep = refuses(
+        product_of_two(alloc, one, nested(alloc, 32)?),
+        EvalKind::TooDeep,
+        255,
+    );
     Ok(all.len() == 100_000 && large && deep)
 }
 
@@ -391,13 +401,7 @@ fn records_are_listed(rt: HostRuntime) {
     let alloc = rt.alloc();
     assert!(rt; records_are_all(alloc) == Ok(true));
     assert!(rt; record_of_nothing(alloc) == Ok(true));
-    assert!(rt;
-        refuses(
-            records(alloc, set(alloc, &[]), int(3)),
-            EvalKind::NotSet,
-            1
-        )
-    );
+    assert!(rt; refuses(records(alloc, set(alloc, &[]), int(3)), EvalKind::NotSet, 1));
 }
 
 /// Two sets of 100,000 integers, one of them from 1 on, are united and taken from each other.

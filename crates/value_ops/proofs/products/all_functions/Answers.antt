@@ -1,5 +1,4 @@
-use Rattle.std.proofs.Common.{◌≡◌, ◌<◌, ◌+◌, List, subst, sym, arith}
-use Rattle.std.specs.List.{zip}
+use Rattle.std.proofs.Common.{◌<◌, ◌+◌, List, subst, sym, arith}
 use Rattle.tla_values.specs.Data.{Val}
 use Rattle.tla_values.specs.Functions.{IsFunctionOf}
 use Rattle.value_ops.specs.Choices.{AreNumbered, ArePairs, IsChoiceOf, choice, ways}

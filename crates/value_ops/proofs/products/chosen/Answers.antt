@@ -1,8 +1,8 @@
-use Rattle.std.proofs.Common.{List, ◌+◌, ◌<◌, ◌/◌, ◌%◌, ◌++◌, ◌∷◌, [], length, drop, ap, ◌∙◌, arith}
+use Rattle.std.proofs.Common.{List, ◌+◌, ◌<◌, ◌/◌, ◌++◌, length, drop, ap, ◌∙◌, arith}
 use Rattle.std.specs.List.{zip}
 use Rattle.std.proofs.Math.Nat.{mod-lt}
 use Rattle.tla_values.specs.Data.{Val}
-use Rattle.value_ops.specs.Choices.{choice, ways}
+use Rattle.value_ops.specs.Choices.{choice}
 use Rattle.value_ops.specs.PartList.{part_list}
 use Rattle.value_ops.proofs.Taking.{some_member, rest_below, one_more}
 use Rattle.value_ops.proofs.products.chosen.Goals as goal
@@ -42,7 +42,7 @@ loop-i-preserved c =
     record {
       below = rest_below ps ms c.loop-i.i c.loop-i.rest below c.members_of-members.ensures.beside c.index-keys-i.result c.loop-i.invariant.below;
       kept =
-      ap (λ (qs : List (Val × Val)). qs ++ zip (drop (c.loop-i.i + 1) ks) (choice (drop (c.loop-i.i + 1) ps) (c.loop-i.rest / length ms))) c.in_ok-push_pair.ensures
-      ∙ one_more c.loop-i.pairs.items ks ps ms c.loop-i.i c.loop-i.rest c.index-keys-i.result c.index-members-rest.result key below c.index-keys-i.is c.members_of-members.ensures.beside c.index-members-rest.is c.loop-i.invariant.below
-      ∙ c.loop-i.invariant.kept;
+          ap (λ (qs : List (Val × Val)). qs ++ zip (drop (c.loop-i.i + 1) ks) (choice (drop (c.loop-i.i + 1) ps) (c.loop-i.rest / length ms))) c.in_ok-push_pair.ensures
+          ∙ one_more c.loop-i.pairs.items ks ps ms c.loop-i.i c.loop-i.rest c.index-keys-i.result c.index-members-rest.result key below c.index-keys-i.is c.members_of-members.ensures.beside c.index-members-rest.is c.loop-i.invariant.below
+          ∙ c.loop-i.invariant.kept;
     }

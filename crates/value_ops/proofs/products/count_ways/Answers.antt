@@ -1,4 +1,4 @@
-use Rattle.std.proofs.Common.{◌<◌, ◌≤◌, ◌⊎◌, inl, inr, length, arith}
+use Rattle.std.proofs.Common.{◌<◌, length, arith}
 use Rattle.tla_values.specs.Data.{truth}
 use Rattle.std.proofs.Common.{true}
 use Rattle.value_ops.specs.PartList.{part_list}

@@ -1,4 +1,4 @@
-use Rattle.std.proofs.Common.{◌≡◌, List, length, replicate, ap, subst, sym}
+use Rattle.std.proofs.Common.{List, length, replicate, subst, sym}
 use Rattle.tla_values.specs.Data.{Val}
 use Rattle.tla_values.specs.Products.{InFunctionSet}
 use Rattle.tla_values.specs.SetOperations.{GivesSet}

@@ -1,6 +1,5 @@
-use Rattle.std.proofs.Common.{◌≡◌, ◌↔◌, ℕ, List, refl, subst, sym}
+use Rattle.std.proofs.Common.{refl, subst}
 use Rattle.std.specs.List.{Contains}
-use Rattle.tla_values.specs.Data.{Val}
 use Rattle.value_ops.specs.Choices.{AreNumbered, IsChoice, IsChoiceOf, ways}
 use Rattle.value_ops.specs.PartList.{part_list}
 use Rattle.value_ops.proofs.Listing.{gives_as}

@@ -1,5 +1,4 @@
 use Rattle.std.proofs.Common.{ℕ, ◌≡◌, inl, inr, List, [], ◌∷◌, get_or, length, ap, sym, subst, ◌∙◌, arith}
-use Rattle.std.specs.List.{Contains}
 use Rattle.tla_values.specs.Ascending.{cons_cases, none_in}
 use Rattle.tla_values.specs.SetOperations.{AreDifferent}
 use Rattle.value_ops.proofs.tests.records.Goals as goal
