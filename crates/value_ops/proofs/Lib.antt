@@ -12,3 +12,4 @@ pub mod Taking
 pub mod Adapted
 pub mod Subsets
 pub mod Joining
+pub mod Shallow

@@ -3,7 +3,17 @@ ghost use Rattle.std.specs.List.{zip};
 ghost use Rattle.tla_values.specs.Data.{Val, string};
 ghost use Rattle.tla_values.specs.FunctionOperations.{GivesValue};
 ghost use Rattle.tla_values.specs.Functions.{IsFunctionOf};
-ghost use Rattle.tla_values.specs.Products.{InProduct, InRecordSet, ListsFunctions, ListsRecords, ListsTuples};
+ghost use Rattle.tla_values.specs.Products.{
+  FunctionsAreValues,
+  InProduct,
+  InRecordSet,
+  ListsFunctions,
+  ListsRecords,
+  ListsTuples,
+  RecordsAreValues,
+  SubsetsAreValues,
+  TuplesAreValues,
+};
 ghost use Rattle.tla_values.specs.SetOperations.{AreDifferent, GivesSet, ListsSubsets};
 ghost use Rattle.tla_values.specs.Sets.{IsSetOf, items_of};
 ghost use Rattle.tla_values.specs.declared.fault.OpFault.TheVariants.{NoMemory};
@@ -150,6 +160,14 @@ fn records(alloc: Global, names: &[Text], parts: &[Value]) -> Result<Value, OpFa
     are_values(keys.as_slice());
     functions_on(alloc, keys.as_slice(), Parts::Each(parts))
 }
+
+/// That none of the sets, functions, tuples and records that these calls list is too deep to be a value.
+pub fn depth_law()
+    ensures subsets { SubsetsAreValues }
+    ensures functions { FunctionsAreValues }
+    ensures tuples { TuplesAreValues }
+    ensures records { RecordsAreValues }
+{}
 
 /// The names as strings.
 fn strings(alloc: Global, names: &[Text]) -> Result<Vec<Value>, AllocError>
