@@ -1,8 +1,10 @@
--- The large sets that are made of other sets: of subsets, of functions, of tuples and of records.
-use Rattle.std.specs.Prelude.{◌≡◌, ◌⊎◌, ◌↔◌, ℕ, suc, List, [], ◌∷◌, Result, Err}
+-- The large sets that are made of other sets: of functions, of tuples and of records. A member of a value is
+-- at most 31 deep, so that a function with such keys and values is at most 32 deep, and a value: the word
+-- "value" leaves out none of those that belong. Where one is 32 deep, it is the set that is too deep.
+use Rattle.std.specs.Prelude.{◌≡◌, ◌⊎◌, ◌↔◌, ℕ, suc, List, [], ◌∷◌, Contains, Result, Err}
 use Rattle.tla_values.specs.Data.{Val, string, set}
-use Rattle.tla_values.specs.IsValue.{IsValue}
-use Rattle.tla_values.specs.Sets.{Member}
+use Rattle.tla_values.specs.IsValue.{IsValue, IsCanonical}
+use Rattle.tla_values.specs.Sets.{IsSet, Member}
 use Rattle.tla_values.specs.Functions.{IsFunction, InDomain, HasPair, sequence_of}
 use Rattle.tla_values.specs.SetOperations.{GivesSet, OnSets}
 use Rattle.tla_values.specs.declared.fault.EvalKind.TheVariants.{NotSet}
@@ -53,3 +55,19 @@ ListsTuples parts r = OnAllSets 0 parts (GivesSet (InProduct parts)) r
 
 abbrev pub ListsRecords : List (List ℕ) → List Val → Result Val OpFault → Type 0
 ListsRecords names parts r = OnAllSets 0 parts (GivesSet (InRecordSet names parts)) r
+
+-- sets of members of a value, functions from one value to another, and tuples and records of members of
+-- values are no deeper than a value may be
+abbrev pub SubsetsAreValues : Type 0
+SubsetsAreValues = (a s : Val) → IsValue a → IsCanonical s → IsSet s → ((v : Val) → Member v s → Member v a) → IsValue s
+
+abbrev pub FunctionsAreValues : Type 0
+FunctionsAreValues =
+    (d c f : Val) → IsValue d → IsValue c → IsCanonical f → IsFunction f → ((key : Val) → InDomain key f → Member key d) → ((key v : Val) → HasPair f key v → Member v c) → IsValue f
+
+abbrev pub TuplesAreValues : Type 0
+TuplesAreValues = (parts vs : List Val) → ((p : Val) → Contains parts p → IsValue p) → AreOneOfEach vs parts → IsCanonical (sequence_of vs) → IsValue (sequence_of vs)
+
+abbrev pub RecordsAreValues : Type 0
+RecordsAreValues =
+    (names : List (List ℕ)) (parts : List Val) (f : Val) → ((p : Val) → Contains parts p → IsValue p) → IsCanonical f → IsFunction f → HasFields names parts f → ((key : Val) → InDomain key f → IsName names key) → IsValue f

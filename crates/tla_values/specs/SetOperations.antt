@@ -1,8 +1,6 @@
 -- What the operations on sets answer, by membership.
-use Rattle.std.specs.Prelude.{◌≡◌, ◌⊎◌, ◌↔◌, ◌<◌, ◌≤◌, ℤ, pos, ◌≤ℤ◌, List, length, Contains, Result, Ok, Err}
-use Rattle.std.specs.List.Sorted.{IsStrictlySortedBy}
+use Rattle.std.specs.Prelude.{◌≡◌, ◌⊎◌, ◌↔◌, ◌<◌, ◌≤◌, ℤ, pos, ◌≤ℤ◌, List, [], ◌∷◌, length, Contains, Result, Ok, Err}
 use Rattle.tla_values.specs.Data.{Val, set, integer, members, depth}
-use Rattle.tla_values.specs.Order.{val_cmp}
 use Rattle.tla_values.specs.IsValue.{IsValue, max_members, max_depth}
 use Rattle.tla_values.specs.Sets.{IsSet, Member}
 use Rattle.tla_values.specs.Integers.{the_term, int_operands}
@@ -16,10 +14,15 @@ pub record IsSetWith (P : Val → Type 0) (s : Val) : Type 0 where
   pub is_set : IsSet s
   pub same : (v : Val) → Member v s ↔ P v
 
+-- nothing stands twice in the list
+abbrev pub AreDifferent : {X : Type 0} → List X → Type 0
+AreDifferent [] = Unit {0}
+AreDifferent (x ∷ xs) = ¬ Contains xs x × AreDifferent xs
+
 -- more values than a set may have meet P
 pub record AreTooMany (P : Val → Type 0) : Type 0 where
   pub some : List Val
-  pub ascending : IsStrictlySortedBy val_cmp some
+  pub different : AreDifferent some
   pub each : (v : Val) → Contains some v → P v
   pub many : max_members < length some
 
@@ -65,7 +68,7 @@ InDifference a b v = Member v a × ¬ Member v b
 abbrev pub InInterval : ℤ → ℤ → Val → Type 0
 InInterval y z v = (n : ℤ) × (v ≡ integer n) × (y ≤ℤ n) × (n ≤ℤ z)
 
--- v is a set of members of a
+-- v is a set of members of a: none of them is deeper than 31, so that each such set is a value
 abbrev pub InPowerset : Val → Val → Type 0
 InPowerset a v = IsValue v × IsSet v × ((w : Val) → Member w v → Member w a)
 

@@ -104,12 +104,20 @@ fn key_of_five(alloc: Global) -> Result<Option<Value>, ValueFault> {
     Ok(five.key_at(0)?)
 }
 
+/// The function of the pairs that a function has.
+fn of_its_pairs(alloc: Global, f: Result<Value, ValueFault>) -> Result<Value, ValueFault> {
+    let pairs = f?.pairs(alloc)?;
+    Value::make_function(alloc, pairs)
+}
+
 #[test]
 fn functions_are_one_however_made(rt: HostRuntime) {
     let alloc = rt.alloc();
     assert!(rt; alike(tuple(alloc, &[1, 2]), identity(alloc, &[2, 1])));
     assert!(rt; alike(tuple(alloc, &[]), identity(alloc, &[])));
     assert!(rt; is_refused(identity(alloc, &[4, 9, 4]), ValueFault::KeyTwice));
+    let again = of_its_pairs(alloc, tuple(alloc, &[7, 8]));
+    assert!(rt; alike(tuple(alloc, &[7, 8]), again));
 }
 
 #[test]

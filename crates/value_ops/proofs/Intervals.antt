@@ -10,9 +10,11 @@ use Rattle.std.proofs.lemmas.List.Elements.{Contains-append_left, Contains-appen
 use Rattle.tla_values.specs.Data.{Val, integer}
 use Rattle.tla_values.specs.Ascending.{cons_cases, head_in, tail_in, none_in}
 use Rattle.tla_values.specs.Order.{val_cmp}
+use Rattle.tla_values.specs.OrderLaws.{val_total}
 use Rattle.tla_values.specs.SetOperations.{AreTooMany, InInterval}
 use Rattle.tla_values.specs.Sets.{items_of, Member}
 use Rattle.value_ops.specs.Listed.{ints_from, members_of_all}
+use Rattle.value_ops.proofs.Listing.{ascending_different}
 
 pub length-ints : (y : ℤ) (n : ℕ) → length (ints_from y n) ≡ n
 length-ints y zero = refl
@@ -76,7 +78,7 @@ nothing_between y z l v = (λ h. absurd (none_in v h), λ h. let low : y ≤ℤ 
 pub too_many_between : (y z : ℤ) → (y +ℤ pos 100000) ≤ℤ z → AreTooMany (InInterval y z)
 too_many_between y z h = record {
   some = ints_from y 100001;
-  ascending = ascending_ints y 100001;
+  different = ascending_different val_cmp val_total (ints_from y 100001) (ascending_ints y 100001);
   each = λ v g. let w = in_ints y 100001 v g in let low : y ≤ℤ w.0 = w.2 in let high : w.0 <ℤ (y +ℤ pos 100001) = w.3 in (w.0, w.1, low, omega (arith, ints));
   many = omega (arith, length-ints y 100001);
 }

@@ -5,3 +5,11 @@ pub mod Listing
 pub mod Pairs
 pub mod Parts
 pub mod Intervals
+pub mod Choosing
+pub mod Made
+pub mod Ways
+pub mod Taking
+pub mod Adapted
+pub mod Subsets
+pub mod Joining
+pub mod Shallow

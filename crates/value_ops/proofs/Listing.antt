@@ -1,15 +1,18 @@
 -- From a list of values to the set of those that meet a condition.
-use Rattle.std.proofs.Common.{◌≡◌, ◌↔◌, ◌⊎◌, inl, inr, ℕ, suc, ◌≤◌, max, List, [], ◌∷◌, length, Result, Ok, Err, ap, sym, ◌∙◌, subst, refl, arith}
-use Rattle.std.specs.declared.cmp.Ordering.TheVariants.{Less}
+use Rattle.std.proofs.Common.{◌≡◌, ◌↔◌, ◌⊎◌, inl, inr, ℕ, suc, ◌≤◌, max, List, [], ◌∷◌, length, Result, Ok, Err, ap, sym, subst, refl, arith}
+use Rattle.std.specs.declared.cmp.Ordering.{Ordering}
+use Rattle.std.specs.Cmp.{IsTotalOrder}
 use Rattle.std.specs.List.{Contains}
-use Rattle.std.specs.List.Sorted.{IsStrictlySortedBy}
+use Rattle.std.specs.List.{remove}
+use Rattle.std.specs.List.Sorted.{IsStrictlySortedBy, IsPermutation}
+use Rattle.std.proofs.lemmas.List.Sorted.{IsPermutation-remove, Contains-permutation, length_permutation}
 use Rattle.std.proofs.lemmas.Map.Keys.{sorted_tail}
 use Rattle.tla_values.specs.Data.{Val, model, truth, integer, string, set, function, vals_of, vals_depth, depth}
-use Rattle.tla_values.specs.Ascending.{cons_cases, head_in, tail_in, none_in, below, not_itself}
+use Rattle.tla_values.specs.Ascending.{cons_cases, head_in, tail_in, below, not_itself}
 use Rattle.tla_values.specs.Order.{val_cmp}
 use Rattle.tla_values.specs.OrderLaws.{val_total}
 use Rattle.tla_values.specs.Sets.{IsSet, IsSetOf, MakesSet}
-use Rattle.tla_values.specs.SetOperations.{GivesSet, OnSets, OnSet}
+use Rattle.tla_values.specs.SetOperations.{GivesSet, OnSets, OnSet, AreDifferent}
 use Rattle.tla_values.specs.declared.value.ValueFault.{ValueFault}
 use Rattle.tla_values.specs.declared.value.ValueFault.TheVariants.{KeyTwice, TooLarge as LargeValue, TooDeep as DeepValue, NoMemory as NoRoom}
 use Rattle.tla_values.specs.declared.fault.EvalKind.TheVariants.{NotBoolean, NotInteger, NotSet, NotFunction, NotSequence, OutsideDomain, Overflow, BadDivisor, BadPower, NoChoice, NoCase, EmptySequence, BadRange, TooLarge, TooDeep, Nested, NotFinite}
@@ -28,43 +31,34 @@ deepest_in (v ∷ vs) n h = elim (either (depth v) (vals_depth (vals_of vs)) n h
     either : (a b n : ℕ) → suc n ≤ max a b → (suc n ≤ a) ⊎ (suc n ≤ b)
     either a b n h = grind arith
 
--- of two ascending lists, the one among the other is no longer
-shorter : (us vs : List Val) → IsStrictlySortedBy val_cmp us → IsStrictlySortedBy val_cmp vs → ((w : Val) → Contains us w → Contains vs w) → length us ≤ length vs
-shorter [] vs s t f = omega arith
-shorter (u ∷ us) [] s t f = absurd (none_in u (f u (head_in u us)))
-shorter (u ∷ us) (v ∷ vs) s t f =
-    elim (cons_cases v vs u (f u (head_in u us))) [
-      | inl e ↦
-          let rest = shorter us vs (sorted_tail val_cmp u us s) (sorted_tail val_cmp v vs t) (λ w h. elim (cons_cases v vs w (f w (tail_in u us w h))) [
-            | inl g ↦ absurd (not_itself val_cmp val_total u w (sym e ∙ g) (below val_cmp val_total u us w s h))
-            | inr g ↦ g
-          ]) in
-          omega (arith, rest)
-      | inr i ↦
-          let low = below val_cmp val_total v vs u t i in
-          let rest = shorter (u ∷ us) vs s (sorted_tail val_cmp v vs t) (λ w h. elim (cons_cases v vs w (f w h)) [
-            | inl g ↦ absurd (beneath u us v w s low h g)
-            | inr g ↦ g
-          ]) in
-          omega (arith, rest)
-    ]
-  where
-    beneath : (a : Val) (zs : List Val) (b w : Val) → IsStrictlySortedBy val_cmp (a ∷ zs) → val_cmp b a ≡ Less → Contains (a ∷ zs) w → b ≡ w → ⊥
-    beneath a zs b w s l h e = elim (cons_cases a zs w h) [
-      | inl g ↦ not_itself val_cmp val_total b a (e ∙ sym g) l
-      | inr g ↦ not_itself val_cmp val_total b w e (val_total.trans b a w l (below val_cmp val_total a zs w s g))
-    ]
+-- in an ascending list nothing stands twice
+pub ascending_different : {X : Type 0} (R : X → X → Ordering) (o : IsTotalOrder R) (xs : List X) → IsStrictlySortedBy R xs → AreDifferent xs
+ascending_different R o [] s = tt
+ascending_different R o (x ∷ xs) s = (λ h. not_itself R o x x refl (below R o x xs x s h), ascending_different R o xs (sorted_tail R x xs s))
+
+-- a list in which nothing stands twice, among another, is no longer
+pub no_longer : {X : Type 0} (us vs : List X) → AreDifferent us → ((w : X) → Contains us w → Contains vs w) → length us ≤ length vs
+no_longer [] vs n f = omega arith
+no_longer (u ∷ us) vs n f =
+    let here = f u (head_in u us) in
+    let there : IsPermutation vs (u ∷ remove vs here.0) = IsPermutation-remove vs here.0 u here.1 (sym here.2) in
+    let rest = no_longer us (remove vs here.0) n.1 (λ w h.
+    elim (cons_cases u (remove vs here.0) w (Contains-permutation vs (u ∷ remove vs here.0) w there (f w (tail_in u us w h)))) [
+      | inl e ↦ absurd (n.0 (subst (λ z. Contains us z) (sym e) h))
+      | inr g ↦ g
+    ]) in
+    omega (arith, rest, length_permutation vs (u ∷ remove vs here.0) there)
 
 pub gives_set : (xs : List Val) (r : Result Val ValueFault) (s : Val) → r ≡ Ok s → MakesSet xs r → GivesSet (Contains xs) (Ok s)
 gives_set xs r s e m = let o : IsSetOf xs s = subst (MakesSet xs) e m in record { valid = o.valid; is_set = o.is_set; same = o.same }
 
 pub refuses_set : (xs : List Val) (f : ValueFault) → MakesSet xs (Err f) → GivesSet (Contains xs) (Err (refusal_of f))
 refuses_set xs KeyTwice m = absurd m
-refuses_set xs LargeValue m = (refl, record { some = m.keys; ascending = m.lists.ascending; each = λ v h. (m.lists.same v).0 h; many = m.large })
+refuses_set xs LargeValue m = (refl, record { some = m.keys; different = ascending_different val_cmp val_total m.keys m.lists.ascending; each = λ v h. (m.lists.same v).0 h; many = m.large })
 refuses_set xs DeepValue m =
     let deep = deepest_in m.keys 31 (omega (arith, m.deep)) in (
       refl,
-      λ a. omega (arith, m.few, a.many, shorter a.some m.keys a.ascending m.lists.ascending (λ w h. (m.lists.same w).1 (a.each w h))),
+      λ a. omega (arith, m.few, a.many, no_longer a.some m.keys a.different (λ w h. (m.lists.same w).1 (a.each w h))),
       record { one = deep.0; meets = (m.lists.same deep.0).0 deep.1; deep = deep.2 },
     )
 refuses_set xs NoRoom m = tt
@@ -73,10 +67,10 @@ refuses_set xs NoRoom m = tt
 pub gives_as : (P Q : Val → Type 0) (r : Result Val OpFault) → ((v : Val) → P v ↔ Q v) → GivesSet P r → GivesSet Q r
 gives_as P Q (Ok s) same g = record { valid = g.valid; is_set = g.is_set; same = λ v. (λ h. (same v).0 ((g.same v).0 h), λ h. (g.same v).1 ((same v).1 h)) }
 gives_as P Q (Err NoMemory) same g = tt
-gives_as P Q (Err (Refused TooLarge n)) same g = (g.0, record { some = g.1.some; ascending = g.1.ascending; each = λ v h. (same v).0 (g.1.each v h); many = g.1.many })
+gives_as P Q (Err (Refused TooLarge n)) same g = (g.0, record { some = g.1.some; different = g.1.different; each = λ v h. (same v).0 (g.1.each v h); many = g.1.many })
 gives_as P Q (Err (Refused TooDeep n)) same g = (
   g.0,
-  λ a. g.1 (record { some = a.some; ascending = a.ascending; each = λ v h. (same v).1 (a.each v h); many = a.many }),
+  λ a. g.1 (record { some = a.some; different = a.different; each = λ v h. (same v).1 (a.each v h); many = a.many }),
   record { one = g.2.one; meets = (same g.2.one).0 g.2.meets; deep = g.2.deep },
 )
 gives_as P Q (Err (Refused NotBoolean n)) same g = absurd g

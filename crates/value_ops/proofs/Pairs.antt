@@ -1,16 +1,14 @@
 -- From a list of pairs to the function with those that meet a condition.
-use Rattle.std.proofs.Common.{◌≡◌, ◌↔◌, ◌⊎◌, inl, inr, ℕ, suc, ◌+◌, ◌≤◌, max, List, [], ◌∷◌, ◌++◌, length, map, Bool, true, false, cond, Result, Ok, Err, ap, sym, ◌∙◌, subst, refl, arith}
+use Rattle.std.proofs.Common.{◌≡◌, ◌↔◌, ◌⊎◌, inl, inr, ℕ, suc, ◌≤◌, max, List, [], ◌∷◌, length, map, Bool, true, false, cond, Result, Ok, Err, ap, sym, ◌∙◌, subst, refl, arith}
 use Rattle.std.specs.List.{Contains}
-use Rattle.std.proofs.lemmas.List.Elements.{Contains-append_left, Contains-append_right, Contains-append_cases}
-use Rattle.std.proofs.lemmas.List.Sums.{sum_by-append}
 use Rattle.tla_values.specs.Data.{Val, model, truth, integer, string, set, function, pairs_of, pairs_depth, depth}
 use Rattle.tla_values.specs.Ascending.{cons_cases, head_in, tail_in, none_in}
 use Rattle.tla_values.specs.Order.{val_eq}
 use Rattle.tla_values.specs.OrderLaws.{val_same, val_eq_equiv}
 use Rattle.tla_values.specs.Functions.{IsFunction, IsFunctionOf, HasKeyTwice, MakesFunction, pairs_in, keys_in, InDomain}
-use Rattle.tla_values.specs.FunctionLaws.{key_count, count_cons, at_most_one, ascending_once, keys_ascending, key_in, in_keys, pairs_ordered}
+use Rattle.tla_values.specs.FunctionLaws.{key_count, count_cons, ascending_once, keys_ascending, key_in, in_keys, pairs_ordered}
 use Rattle.tla_values.specs.IsValue.{IsValue}
-use Rattle.tla_values.specs.FunctionOperations.{GivesFunction, OnFunction, OnFunctions, InMerge, InExcept}
+use Rattle.tla_values.specs.FunctionOperations.{GivesFunction, OnFunction, OnFunctions, InExcept}
 use Rattle.std.specs.Option.{option_map, is_some}
 use Rattle.std.specs.Prelude.{Option, Some, None}
 use Rattle.tla_values.specs.Functions.{Applies}
@@ -21,7 +19,7 @@ use Rattle.tla_values.specs.declared.fault.OpFault.{OpFault}
 use Rattle.tla_values.specs.declared.fault.OpFault.TheVariants.{Refused, NoMemory}
 use Rattle.value_ops.specs.Refusals.{refusal_of}
 use Rattle.value_ops.specs.Among.{among}
-use Rattle.value_ops.specs.Changes.{replaced, outside}
+use Rattle.value_ops.specs.Changes.{replaced}
 use Rattle.value_ops.proofs.Merging.{contains_has, has_contains}
 use Rattle.std.specs.List.{remove}
 use Rattle.std.proofs.lemmas.List.Sorted.{IsPermutation-remove, Contains-permutation, length_permutation}
@@ -157,70 +155,13 @@ in_one k w key v = (
   λ h. let e : ◌≡◌ {A = Val × Val} (k, w) (key, v) = λ i. (sym h.0 i, sym h.1 i) in subst (λ (z : Val × Val). Contains {X = Val × Val} ((k, w) ∷ []) z) e (head_in {X = Val × Val} (k, w) []),
 )
 
--- pairs outside some keys
-among_cases : (ks : List Val) (v : Val) → Contains ks v ⊎ (¬ Contains ks v)
+-- whether a value is in a list
+pub among_cases : (ks : List Val) (v : Val) → Contains ks v ⊎ (¬ Contains ks v)
 among_cases ks v = either (among ks v) refl
   where
     either : (b : Bool) → among ks v ≡ b → Contains ks v ⊎ (¬ Contains ks v)
     either true e = inl (has_contains ks v e)
     either false e = inr (λ h. let f : true ≡ false = sym (contains_has ks v h) ∙ e in cc)
-
-in_outside : (ks : List Val) (ps : List (Val × Val)) (p : Val × Val) → Contains (outside ks ps) p → (¬ Contains ks p.0) × Contains ps p
-in_outside ks [] p h = absurd (none_in p h)
-in_outside ks (q ∷ qs) p h = either (in_outside ks qs p) (among ks q.0) refl h
-  where
-    either : (Contains (outside ks qs) p → (¬ Contains ks p.0) × Contains qs p) → (b : Bool) → among ks q.0 ≡ b → Contains (cond b (outside ks qs) (q ∷ outside ks qs)) p → (¬ Contains ks p.0) × Contains (q ∷ qs) p
-    either ih true e g = let r = ih g in (r.0, tail_in q qs p r.1)
-    either ih false e g = elim (cons_cases q (outside ks qs) p g) [
-      | inl f ↦ (λ k. let c : true ≡ false = sym (contains_has ks q.0 (subst (λ (w : Val × Val). Contains ks w.0) (sym f) k)) ∙ e in cc, subst (λ (w : Val × Val). Contains (q ∷ qs) w) f (head_in q qs))
-      | inr f ↦ let r = ih f in (r.0, tail_in q qs p r.1)
-    ]
-
-outside_in : (ks : List Val) (ps : List (Val × Val)) (p : Val × Val) → ¬ Contains ks p.0 → Contains ps p → Contains (outside ks ps) p
-outside_in ks [] p n h = absurd (none_in p h)
-outside_in ks (q ∷ qs) p n h = either (outside_in ks qs p n) (among ks q.0) refl
-  where
-    either : (Contains qs p → Contains (outside ks qs) p) → (b : Bool) → among ks q.0 ≡ b → Contains (cond b (outside ks qs) (q ∷ outside ks qs)) p
-    either ih true e = elim (cons_cases q qs p h) [
-      | inl f ↦ absurd (n (subst (λ (w : Val × Val). Contains ks w.0) f (has_contains ks q.0 e)))
-      | inr f ↦ ih f
-    ]
-    either ih false e = elim (cons_cases q qs p h) [
-      | inl f ↦ subst (λ (w : Val × Val). Contains (q ∷ outside ks qs) w) f (head_in q (outside ks qs))
-      | inr f ↦ tail_in q (outside ks qs) p (ih f)
-    ]
-
-pub in_merge : (f g key v : Val) → Contains (pairs_in f ++ outside (keys_in f) (pairs_in g)) (key, v) ↔ InMerge f g key v
-in_merge f g key v = (
-  λ h. elim (Contains-append_cases (pairs_in f) (outside (keys_in f) (pairs_in g)) (key, v) h) [
-    | inl a ↦ inl a
-    | inr a ↦ inr (in_outside (keys_in f) (pairs_in g) (key, v) a)
-  ],
-  λ h. elim h [
-    | inl a ↦ Contains-append_left (pairs_in f) (outside (keys_in f) (pairs_in g)) (key, v) a
-    | inr a ↦ Contains-append_right (pairs_in f) (outside (keys_in f) (pairs_in g)) (key, v) (outside_in (keys_in f) (pairs_in g) (key, v) a.0 a.1)
-  ],
-)
-
-count_outside : (ks : List Val) (ps : List (Val × Val)) (key : Val) → key_count key (outside ks ps) ≤ key_count key ps
-count_outside ks [] key = omega arith
-count_outside ks (q ∷ qs) key = either (count_outside ks qs key) (among ks q.0)
-  where
-    either : key_count key (outside ks qs) ≤ key_count key qs → (b : Bool) → key_count key (cond b (outside ks qs) (q ∷ outside ks qs)) ≤ key_count key (q ∷ qs)
-    either ih true = omega (arith, ih, count_cons key q qs)
-    either ih false = omega (arith, ih, count_cons key q qs, count_cons key q (outside ks qs))
-
-pub merge_once : (f g : Val) → IsValue f → IsValue g → ¬ HasKeyTwice (pairs_in f ++ outside (keys_in f) (pairs_in g))
-merge_once f g p q t =
-    let a = at_most_one (pairs_in f) t.key (pairs_ordered f p) in
-    let b = at_most_one (pairs_in g) t.key (pairs_ordered g q) in
-    let c = count_outside (keys_in f) (pairs_in g) t.key in
-    let d : key_count t.key (pairs_in f ++ outside (keys_in f) (pairs_in g)) ≡ key_count t.key (pairs_in f) + key_count t.key (outside (keys_in f) (pairs_in g)) =
-    sum_by-append (λ (w : Val × Val). cond (val_eq w.0 t.key) 1 0) (pairs_in f) (outside (keys_in f) (pairs_in g)) in
-    let left = counted_in (pairs_in f) t.key (omega (arith, a, b, c, d, t.twice)) in
-    let right = counted_in (outside (keys_in f) (pairs_in g)) t.key (omega (arith, a, b, c, d, t.twice)) in
-    let there = key_in (outside (keys_in f) (pairs_in g)) t.key right in
-    (in_outside (keys_in f) (pairs_in g) (t.key, there.0) there.1).0 left
 
 -- pairs of which one is replaced
 map_in : (h : Val × Val → Val × Val) (ps : List (Val × Val)) (p : Val × Val) → Contains ps p → Contains (map h ps) (h p)
@@ -290,19 +231,6 @@ in_except f key new k v d = (there, back)
         subst (λ (z : Val × Val). Contains (map (replaced key new) (pairs_in f)) z) r (map_in (replaced key new) (pairs_in f) (key, w.0) w.1)
     back (inr h) =
         subst (λ (z : Val × Val). Contains (map (replaced key new) (pairs_in f)) z) (replaced_no key new (k, v) h.0) (map_in (replaced key new) (pairs_in f) (k, v) h.1)
-
-pub outside_push : (ks : List Val) (ps : List (Val × Val)) (p : Val × Val) → outside ks (ps ++ p ∷ []) ≡ outside ks ps ++ cond (among ks p.0) [] (p ∷ [])
-outside_push ks [] p = either (among ks p.0)
-  where
-    either : (b : Bool) → cond b [] (p ∷ []) ≡ [] ++ cond b [] (p ∷ [])
-    either true = refl
-    either false = refl
-outside_push ks (q ∷ qs) p = either (outside_push ks qs p) (among ks q.0)
-  where
-    either : outside ks (qs ++ p ∷ []) ≡ outside ks qs ++ cond (among ks p.0) [] (p ∷ []) → (b : Bool)
-        → cond b (outside ks (qs ++ p ∷ [])) (q ∷ outside ks (qs ++ p ∷ [])) ≡ cond b (outside ks qs) (q ∷ outside ks qs) ++ cond (among ks p.0) [] (p ∷ [])
-    either ih true = ih
-    either ih false = ap (λ rs. q ∷ rs) ih
 
 pub among_not : (ks : List Val) (v : Val) → ¬ Contains ks v → among ks v ≡ false
 among_not ks v n = either (among ks v) refl

@@ -7,11 +7,11 @@ use Rattle.tla_values.specs.Order.{val_cmp}
 use Rattle.value_ops.specs.Walk.{when, merged}
 use Rattle.value_ops.specs.declared.sets.Keep.{Keep}
 
-when_append : (b : Bool) (v : Val) (out rest : List Val) → (out ++ when b v []) ++ rest ≡ out ++ when b v rest
+pub when_append : (b : Bool) (v : Val) (out rest : List Val) → (out ++ when b v []) ++ rest ≡ out ++ when b v rest
 when_append true v out rest = append_assoc out (v ∷ []) rest
 when_append false v out rest = ap (λ zs. zs ++ rest) (append-nil out)
 
-first_drop : (xs : List Val) (i : ℕ) (x : Val) → i < length xs → x ≡ get_or xs i x → drop i xs ≡ x ∷ drop (i + 1) xs
+pub first_drop : {X : Type 0} (xs : List X) (i : ℕ) (x : X) → i < length xs → x ≡ get_or xs i x → drop i xs ≡ x ∷ drop (i + 1) xs
 first_drop xs i x h e = rw (add-one, drop-cons xs i x, ← e) refl
 
 pub less_step : (k : Keep) (out xs ys : List Val) (i j : ℕ) (x y : Val) → i < length xs → j < length ys → x ≡ get_or xs i x → y ≡ get_or ys j y → val_cmp x y ≡ Less
@@ -47,7 +47,7 @@ nothing : (b : Bool) → ◌≡◌ {A = List Val} (cond b [] []) []
 nothing true = refl
 nothing false = refl
 
-drop_all : (xs : List Val) (i : ℕ) → length xs ≤ i → drop i xs ≡ []
+pub drop_all : {X : Type 0} (xs : List X) (i : ℕ) → length xs ≤ i → drop i xs ≡ []
 drop_all [] zero h = refl
 drop_all [] (suc i) h = refl
 drop_all (x ∷ xs) zero h = absurd (omega arith)
@@ -59,5 +59,5 @@ pub ended : (k : Keep) (out xs ys : List Val) (i j : ℕ) → (length xs ≤ i) 
 ended k out xs ys i j (inl h) = rw (drop_all xs i h, nothing k.left, append-nil out) refl
 ended k out xs ys i j (inr h) = rw (drop_all ys j h, nothing k.right, append-nil (out ++ cond k.left (drop i xs) []), alone k (drop i xs)) refl
 
-pub tail_is : (xs : List Val) (i : ℕ) → take (length xs - i) (drop i xs) ≡ drop i xs
+pub tail_is : {X : Type 0} (xs : List X) (i : ℕ) → take (length xs - i) (drop i xs) ≡ drop i xs
 tail_is xs i = take_all (length xs - i) (drop i xs) (omega (arith, length-drop i xs))

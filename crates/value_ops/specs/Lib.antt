@@ -4,3 +4,7 @@ pub mod Walk
 pub mod Changes
 pub mod Among
 pub mod Listed
+pub mod Choices
+pub mod Subsets
+pub mod PartList
+pub mod NoSet

@@ -14,11 +14,12 @@ ghost use Rattle.tla_values.specs.Order.{val_eq};
 ghost use Rattle.tla_values.specs.declared.fault.EvalKind.TheVariants.{NotFunction};
 ghost use Rattle.tla_values.specs.declared.fault.OpFault.TheVariants.{Refused};
 ghost use Rattle.value_ops.specs.Among.{among};
-ghost use Rattle.value_ops.specs.Changes.{replaced, outside};
+ghost use Rattle.value_ops.specs.Changes.{joined, replaced};
 
 use crate::THE_TERM;
 use crate::sets::{refusal, set_from};
 use std::alloc::{AllocError, Global};
+use std::cmp::Ordering;
 use tla_values::{EvalKind, OpFault, Value, ValueKind};
 
 /// `DOMAIN f`.
@@ -58,8 +59,9 @@ pub fn merge(alloc: Global, f: &Value, g: &Value) -> Result<Value, OpFault>
     g.is_value();
     expect_function(f, 0)?;
     expect_function(g, 1)?;
-    let mut pairs = f.pairs(alloc)?;
-    push_outside(alloc, &mut pairs, f, g)?;
+    let ours = f.pairs(alloc)?;
+    let theirs = g.pairs(alloc)?;
+    let pairs = join(alloc, ours.as_slice(), theirs.as_slice())?;
     function_from(alloc, pairs)
 }
 
@@ -121,7 +123,11 @@ fn keys_of(alloc: Global, f: &Value) -> Result<Vec<Value>, AllocError>
     Ok(keys)
 }
 
-fn push_pair(pairs: &mut Vec<(Value, Value)>, key: &Value, value: &Value) -> Result<(), AllocError>
+pub(crate) fn push_pair(
+    pairs: &mut Vec<(Value, Value)>,
+    key: &Value,
+    value: &Value,
+) -> Result<(), AllocError>
     ensures { OnOk result (pairs.new.items ≡ pairs.old.items ++ (key.now, value.now) ∷ []) }
 {
     let key = key.copy()?;
@@ -130,32 +136,47 @@ fn push_pair(pairs: &mut Vec<(Value, Value)>, key: &Value, value: &Value) -> Res
     Ok(())
 }
 
-/// Adds a copy of the pairs of `g` whose keys are outside the domain of `f`.
-fn push_outside(
+/// The pairs of both lists in ascending order, those of the first where both have the key.
+fn join(
     alloc: Global,
-    pairs: &mut Vec<(Value, Value)>,
-    f: &Value,
-    g: &Value,
-) -> Result<(), AllocError>
-    ensures { OnOk result (pairs.new.items ≡ pairs.old.items ++ outside (keys_in f.now) (pairs_in g.now)) }
+    fs: &[(Value, Value)],
+    gs: &[(Value, Value)],
+) -> Result<Vec<(Value, Value)>, AllocError>
+    ensures { IfOk result (λ pairs. pairs.items ≡ joined fs.now gs.now) }
 {
-    for (key, value) in g.pairs(alloc)? {
-        let skip = is_in_domain(f, &key);
-        push_unless(pairs, skip, key, value)?;
+    let mut all = Vec::new(alloc);
+    let mut i: usize = 0;
+    let mut j: usize = 0;
+    while i < fs.len() && j < gs.len() {
+        let f = &fs[i];
+        let g = &gs[j];
+        match f.0.cmp(&g.0) {
+            Ordering::Less => {
+                push_pair(&mut all, &f.0, &f.1)?;
+                i += 1;
+            }
+            Ordering::Equal => {
+                push_pair(&mut all, &f.0, &f.1)?;
+                i += 1;
+                j += 1;
+            }
+            Ordering::Greater => {
+                push_pair(&mut all, &g.0, &g.1)?;
+                j += 1;
+            }
+        }
     }
-    Ok(())
+    push_pairs(&mut all, &fs[i..])?;
+    push_pairs(&mut all, &gs[j..])?;
+    Ok(all)
 }
 
-fn push_unless(
-    pairs: &mut Vec<(Value, Value)>,
-    skip: bool,
-    key: Value,
-    value: Value,
-) -> Result<(), AllocError>
-    ensures { OnOk result (pairs.new.items ≡ pairs.old.items ++ (if skip then [] else (key, value) ∷ [])) }
+/// Adds a copy of each pair.
+fn push_pairs(pairs: &mut Vec<(Value, Value)>, more: &[(Value, Value)]) -> Result<(), AllocError>
+    ensures { OnOk result (pairs.new.items ≡ pairs.old.items ++ more.now) }
 {
-    if !skip {
-        pairs.push((key, value))?;
+    for pair in more {
+        push_pair(pairs, &pair.0, &pair.1)?;
     }
     Ok(())
 }

@@ -55,7 +55,7 @@ fn count_between(first: i64, last: i64) -> Option<u32>
 }
 
 /// So many integers from the first on.
-fn integers(alloc: Global, first: i64, count: u32) -> Result<Vec<Value>, AllocError>
+pub(crate) fn integers(alloc: Global, first: i64, count: u32) -> Result<Vec<Value>, AllocError>
     requires { (first +ℤ pos count) ≤ℤ pos 9223372036854775808 }
     ensures { IfOk result (λ v. v.items ≡ ints_from first count) }
 {

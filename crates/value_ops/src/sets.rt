@@ -155,7 +155,7 @@ fn push_rest(out: &mut Vec<Value>, values: &[Value], keep: bool) -> Result<(), A
     Ok(())
 }
 
-fn push_if(out: &mut Vec<Value>, v: &Value, keep: bool) -> Result<(), AllocError>
+pub(crate) fn push_if(out: &mut Vec<Value>, v: &Value, keep: bool) -> Result<(), AllocError>
     ensures { OnOk result (out.new.items ≡ out.old.items ++ when keep v.now []) }
 {
     if keep {

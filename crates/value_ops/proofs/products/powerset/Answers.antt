@@ -1,0 +1,37 @@
+use Rattle.std.proofs.Common.{◌≡◌, ◌<◌, ◌*◌, ◌%◌, ◌^◌, ℕ, List, Result, Err, length, ap, refl, subst, sym, arith}
+use Rattle.std.specs.List.{Contains}
+use Rattle.std.proofs.lemmas.Nat.{one_shl}
+use Rattle.tla_values.specs.Data.{Val}
+use Rattle.tla_values.specs.SetOperations.{GivesSet, InPowerset}
+use Rattle.tla_values.specs.Sets.{items_of}
+use Rattle.tla_values.specs.declared.fault.EvalKind.TheVariants.{TooLarge}
+use Rattle.tla_values.specs.declared.fault.OpFault.{OpFault}
+use Rattle.tla_values.specs.declared.fault.OpFault.TheVariants.{Refused}
+use Rattle.value_ops.specs.Choices.{AreNumbered}
+use Rattle.value_ops.specs.Subsets.{AreMembers, IsSubsetOf}
+use Rattle.value_ops.proofs.Listing.{gives_as, on_set}
+use Rattle.value_ops.proofs.Subsets.{all_subsets, set_members, too_many_subsets}
+use Rattle.value_ops.proofs.products.powerset.Goals as goal
+
+pub returns-then-members-gt16 : goal.returns-then-members-gt16
+returns-then-members-gt16 c =
+    let a = c.args.a.now in
+    let r : Result Val OpFault = Err (Refused TooLarge 255) in
+    let is_set = c.in_ok-expect_set.ensures in
+    let many : 16 < length (items_of a) = omega (arith, ap (λ (xs : List Val). length xs) c.members-members.ensures) in
+    on_set a (GivesSet (InPowerset a)) r is_set (refl, too_many_subsets a c.is_value.ensures is_set many)
+
+pub all_subsets-requires-clause-fit : goal.all_subsets-requires-clause-fit
+all_subsets-requires-clause-fit c = subst (λ (xs : List Val). AreMembers xs) (sym c.members-members.ensures) (set_members c.args.a.now c.is_value.ensures c.in_ok-expect_set.ensures)
+
+pub returns : goal.returns
+returns c =
+    let a = c.args.a.now in
+    let vs = c.in_ok-subsets.subsets.items in
+    let xs = c.members-members.result.now in
+    let few : length xs < 64 = omega arith in
+    let count : (1 * 2 ^ length xs) % 2 ^ 64 ≡ 2 ^ length xs = one_shl (length xs) 64 few in
+    let counted : AreNumbered (IsSubsetOf xs) (2 ^ length xs) vs = subst (λ (n : ℕ). AreNumbered (IsSubsetOf xs) n vs) count c.in_ok-subsets.ensures in
+    let all : AreNumbered (IsSubsetOf (items_of a)) (2 ^ length (items_of a)) vs = subst (λ (ys : List Val). AreNumbered (IsSubsetOf ys) (2 ^ length ys) vs) c.members-members.ensures counted in
+    on_set a (GivesSet (InPowerset a)) c.set_from.result c.in_ok-expect_set.ensures
+    (gives_as (Contains vs) (InPowerset a) c.set_from.result (all_subsets a vs all) c.set_from.ensures)

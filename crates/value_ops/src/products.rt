@@ -1,0 +1,318 @@
+ghost use Rattle.std.specs.Prelude.{◌≡◌, ◌++◌, ◌<◌, ◌≤◌, ◌^◌, [], ◌∷◌, Contains, IfOk, MatchOption, MatchResult, OnOk, get_or, length, map};
+ghost use Rattle.std.specs.List.{zip};
+ghost use Rattle.tla_values.specs.Data.{Val, string};
+ghost use Rattle.tla_values.specs.FunctionOperations.{GivesValue};
+ghost use Rattle.tla_values.specs.Functions.{IsFunctionOf};
+ghost use Rattle.tla_values.specs.Products.{
+  FunctionsAreValues,
+  InProduct,
+  InRecordSet,
+  ListsFunctions,
+  ListsRecords,
+  ListsTuples,
+  RecordsAreValues,
+  SubsetsAreValues,
+  TuplesAreValues,
+};
+ghost use Rattle.tla_values.specs.SetOperations.{AreDifferent, GivesSet, ListsSubsets};
+ghost use Rattle.tla_values.specs.Sets.{IsSetOf, items_of};
+ghost use Rattle.tla_values.specs.declared.fault.OpFault.TheVariants.{NoMemory};
+ghost use Rattle.value_ops.specs.Choices.{
+  AreKeysAndParts,
+  AreNumbered,
+  ArePairs,
+  IsChoice,
+  IsChoiceOf,
+  choice,
+  ways,
+};
+ghost use Rattle.tla_values.specs.IsValue.{IsValue};
+ghost use Rattle.value_ops.specs.NoSet.{no_set_from};
+ghost use Rattle.value_ops.specs.PartList.{part_list};
+ghost use Rattle.value_ops.specs.Subsets.{AreMembers, IsSubsetOf, subset};
+
+use crate::THE_TERM;
+use crate::functions::push_pair;
+use crate::listings::integers;
+use crate::sets::{expect_set, push_if, refusal, set_from};
+use std::alloc::{AllocError, Global};
+use tla_values::{EvalKind, OpFault, Value};
+use trace_base::Text;
+
+/// How many members a set may have.
+const MAX_MEMBERS: usize = 100_000;
+
+/// The sets of which functions have their values: the same set for so many keys, or one for each key.
+#[derive(Clone, Copy, Drop)]
+enum Parts<'a> {
+    Same(&'a Value, usize),
+    Each(&'a [Value]),
+}
+
+/// `SUBSET a`.
+pub fn powerset(alloc: Global, a: &Value) -> Result<Value, OpFault>
+    ensures { ListsSubsets a.now result }
+{
+    a.is_value();
+    expect_set(a, 0)?;
+    let members = a.members();
+    if members.len() > 16 {
+        return Err(OpFault::Refused(EvalKind::TooLarge, THE_TERM));
+    }
+    let subsets = all_subsets(alloc, members, 1 << members.len())?;
+    set_from(alloc, subsets)
+}
+
+/// The sets of some of the members, of which there are `count`.
+fn all_subsets(alloc: Global, members: &[Value], count: usize) -> Result<Vec<Value>, OpFault>
+    requires fit { AreMembers members.now }
+    requires all { count ≡ 2 ^ length members.now }
+    ensures { MatchResult result (λ sets. AreNumbered (IsSubsetOf members.now) count sets.items) (λ e. e ≡ NoMemory) }
+{
+    let mut subsets = Vec::new(alloc);
+    for number in 0..count {
+        let some = some_of(alloc, members, number)?;
+        let subset = subset_from(alloc, some)?;
+        push_value(&mut subsets, subset)?;
+    }
+    Ok(subsets)
+}
+
+/// A copy of the members whose binary digits in the number are 1.
+fn some_of(alloc: Global, members: &[Value], number: usize) -> Result<Vec<Value>, AllocError>
+    ensures { IfOk result (λ some. some.items ≡ subset members.now number) }
+{
+    let mut some = Vec::new(alloc);
+    let mut rest = number;
+    for i in 0..members.len() {
+        push_if(&mut some, &members[i], rest % 2 == 1)?;
+        rest /= 2;
+    }
+    Ok(some)
+}
+
+/// The set of values that are in ascending order already.
+fn subset_from(alloc: Global, members: Vec<Value>) -> Result<Value, OpFault>
+    requires { AreMembers members.items }
+    ensures { GivesValue (IsSetOf members.items) result }
+{
+    match Value::make_set(alloc, members) {
+        Ok(subset) => Ok(subset),
+        Err(fault) => Err(refusal(fault)),
+    }
+}
+
+/// `[a -> b]`.
+pub fn function_set(alloc: Global, a: &Value, b: &Value) -> Result<Value, OpFault>
+    ensures { ListsFunctions a.now b.now result }
+{
+    a.is_value();
+    b.is_value();
+    expect_set(a, 0)?;
+    expect_set(b, 1)?;
+    let keys = a.members();
+    functions_on(alloc, keys, Parts::Same(b, keys.len()))
+}
+
+/// The tuples of one member of each part, in the order of the parts.
+pub fn product(alloc: Global, parts: &[Value]) -> Result<Value, OpFault>
+    requires { length parts.now ≤ 255 }
+    ensures { ListsTuples parts.now result }
+{
+    match expect_sets(parts) {
+        Ok(()) => tuples(alloc, parts),
+        Err(fault) => Err(fault),
+    }
+}
+
+fn tuples(alloc: Global, parts: &[Value]) -> Result<Value, OpFault>
+    requires few { length parts.now ≤ 255 }
+    requires sets { no_set_from 0 parts.now ≡ None }
+    ensures { GivesSet (InProduct parts.now) result }
+{
+    are_values(parts);
+    let keys = integers(alloc, 1, parts.len() as u32)?;
+    functions_on(alloc, keys.as_slice(), Parts::Each(parts))
+}
+
+/// The records that have in the field of each name a member of the part beside it.
+pub fn record_set(alloc: Global, names: &[Text], parts: &[Value]) -> Result<Value, OpFault>
+    requires few { length parts.now ≤ 255 }
+    requires as_many { length names.now ≡ length parts.now }
+    requires different { AreDifferent names.now }
+    ensures { ListsRecords names.now parts.now result }
+{
+    match expect_sets(parts) {
+        Ok(()) => records(alloc, names, parts),
+        Err(fault) => Err(fault),
+    }
+}
+
+fn records(alloc: Global, names: &[Text], parts: &[Value]) -> Result<Value, OpFault>
+    requires few { length parts.now ≤ 255 }
+    requires as_many { length names.now ≡ length parts.now }
+    requires different { AreDifferent names.now }
+    requires sets { no_set_from 0 parts.now ≡ None }
+    ensures { GivesSet (InRecordSet names.now parts.now) result }
+{
+    are_values(parts);
+    let keys = strings(alloc, names)?;
+    are_values(keys.as_slice());
+    functions_on(alloc, keys.as_slice(), Parts::Each(parts))
+}
+
+/// That none of the sets, functions, tuples and records that these calls list is too deep to be a value.
+pub fn depth_law()
+    ensures subsets { SubsetsAreValues }
+    ensures functions { FunctionsAreValues }
+    ensures tuples { TuplesAreValues }
+    ensures records { RecordsAreValues }
+{}
+
+/// The names as strings.
+fn strings(alloc: Global, names: &[Text]) -> Result<Vec<Value>, AllocError>
+    ensures { IfOk result (λ keys. keys.items ≡ map string names.now) }
+{
+    let mut keys = Vec::new(alloc);
+    for name in names {
+        let key = Value::string(alloc, name.copy()?)?;
+        keys.push(key)?;
+    }
+    Ok(keys)
+}
+
+/// That all operands are sets.
+fn expect_sets(parts: &[Value]) -> Result<(), OpFault>
+    requires { length parts.now ≤ 255 }
+    ensures { MatchResult result (λ _. no_set_from 0 parts.now ≡ None) (λ e. no_set_from 0 parts.now ≡ Some e) }
+{
+    for i in 0..parts.len() {
+        expect_set(&parts[i], i as u8)?;
+    }
+    Ok(())
+}
+
+/// That what is held are values.
+fn are_values(values: &[Value])
+    ensures { (v : Val) → Contains values.now v → IsValue v }
+{
+    for v in values {
+        v.is_value();
+    }
+}
+
+/// The set of the functions that have at each key a member of the part beside it.
+fn functions_on(alloc: Global, keys: &[Value], parts: Parts) -> Result<Value, OpFault>
+    requires { AreKeysAndParts keys.now (part_list parts) }
+    ensures { GivesSet (IsChoice keys.now (part_list parts.entry)) result }
+{
+    let Some(count) = count_ways(keys, parts) else {
+        return Err(OpFault::Refused(EvalKind::TooLarge, THE_TERM));
+    };
+    let functions = all_functions(alloc, keys, parts, count)?;
+    set_from(alloc, functions)
+}
+
+/// In how many ways there is one member of each part, unless they are more than a set may have.
+fn count_ways(keys: &[Value], parts: Parts) -> Option<usize>
+    requires { AreKeysAndParts keys.now (part_list parts) }
+    ensures { MatchOption result (100000 < ways (part_list parts.entry)) (λ n. n ≡ ways (part_list parts.entry)) }
+{
+    let mut count: usize = 1;
+    for i in 0..keys.len() {
+        let size = members_of(parts, i).len();
+        count = limited(count * size);
+    }
+    if count > MAX_MEMBERS {
+        return None;
+    }
+    Some(count)
+}
+
+/// The number, or if it is above what a set may have, the least that is.
+fn limited(n: usize) -> usize
+    ensures few { n ≤ 100000 → result ≡ n }
+    ensures many { 100000 < n → result ≡ 100001 }
+{
+    n.min(MAX_MEMBERS + 1)
+}
+
+/// The members of the part at `i`.
+fn members_of<'a>(parts: Parts<'a>, i: usize) -> &'a [Value]
+    requires { i < length (part_list parts) }
+    ensures beside { (d : Val) → result.now ≡ items_of (get_or (part_list parts.entry) i d) }
+    ensures few { length result.now ≤ 100000 }
+{
+    match parts {
+        Parts::Same(part, _) => members_in(part),
+        Parts::Each(parts) => members_in(&parts[i]),
+    }
+}
+
+fn members_in(part: &Value) -> &[Value]
+    ensures all { result.now ≡ items_of part.now }
+    ensures few { length result.now ≤ 100000 }
+{
+    part.is_value();
+    part.members()
+}
+
+/// The functions of all the ways, of which there are `count`.
+fn all_functions(
+    alloc: Global,
+    keys: &[Value],
+    parts: Parts,
+    count: usize,
+) -> Result<Vec<Value>, OpFault>
+    requires fit { AreKeysAndParts keys.now (part_list parts) }
+    requires all { count ≡ ways (part_list parts) }
+    ensures { MatchResult result (λ fs. AreNumbered (IsChoiceOf keys.now (part_list parts.entry)) count fs.items) (λ e. e ≡ NoMemory) }
+{
+    let mut functions = Vec::new(alloc);
+    for number in 0..count {
+        let pairs = chosen(alloc, keys, parts, number)?;
+        let function = function_of(alloc, pairs)?;
+        push_value(&mut functions, function)?;
+    }
+    Ok(functions)
+}
+
+/// The keys with the members of the parts in the way of this number.
+fn chosen(
+    alloc: Global,
+    keys: &[Value],
+    parts: Parts,
+    number: usize,
+) -> Result<Vec<(Value, Value)>, AllocError>
+    requires as_many { length (part_list parts) ≡ length keys.now }
+    requires below { number < ways (part_list parts) }
+    ensures { IfOk result (λ pairs. pairs.items ≡ zip keys.now (choice (part_list parts.entry) number)) }
+{
+    let mut pairs = Vec::new(alloc);
+    let mut rest = number;
+    for i in 0..keys.len() {
+        let members = members_of(parts, i);
+        let size = members.len();
+        push_pair(&mut pairs, &keys[i], &members[rest % size])?;
+        rest /= size;
+    }
+    Ok(pairs)
+}
+
+/// The function with these pairs.
+fn function_of(alloc: Global, pairs: Vec<(Value, Value)>) -> Result<Value, OpFault>
+    requires { ArePairs pairs.items }
+    ensures { GivesValue (IsFunctionOf pairs.items) result }
+{
+    match Value::make_function(alloc, pairs) {
+        Ok(function) => Ok(function),
+        Err(fault) => Err(refusal(fault)),
+    }
+}
+
+fn push_value(values: &mut Vec<Value>, value: Value) -> Result<(), AllocError>
+    ensures { OnOk result (values.new.items ≡ values.old.items ++ value ∷ []) }
+{
+    values.push(value)?;
+    Ok(())
+}
