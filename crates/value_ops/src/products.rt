@@ -56,6 +56,7 @@ pub fn powerset(alloc: Global, a: &Value) -> Result<Value, OpFault>
     a.is_value();
     expect_set(a, 0)?;
     let members = a.members();
+    // A set has room for 2 ^ 16 subsets, and not for 2 ^ 17.
     if members.len() > 16 {
         return Err(OpFault::Refused(EvalKind::TooLarge, THE_TERM));
     }
