@@ -1,5 +1,5 @@
 -- Each value in a list of values is less deep.
-use Rattle.std.specs.Prelude.{◌≡◌, ℕ, zero, suc, max, ◌≤◌, ◌<◌, ◌+◌, List, [], ◌∷◌, map, length, get_or}
+use Rattle.std.specs.Prelude.{◌≡◌, ℕ, zero, suc, max, ◌≤◌, ◌<◌, List, [], ◌∷◌, map, length, get_or}
 use Rattle.std.proofs.Common.{arith, ap}
 use denote.Param.Weighed.{most}
 use Rattle.tla_ast.specs.Lits.{lits_of, depth, depth_of}

@@ -113,7 +113,6 @@ pub struct Givens {
 impl Model for Givens {
     ghost use Rattle.std.specs.Prelude.{List};
     ghost use Rattle.tla_ast.specs.declared.config.GivenAt.{GivenAt};
-
     ghost use Rattle.std.specs.Coded.{codes};
     ghost use Rattle.tla_ast.specs.LitCodes.{lit_code};
 

@@ -1,11 +1,11 @@
 -- What is walked up to where a statement may begin is written by statements.
-use Rattle.std.proofs.Common.{◌≡◌, ℕ, ◌+◌, ◌≤◌, ◌<◌, max, suc, Bool, true, false, List, [], ◌∷◌, ◌++◌, length, Option, Some, None, Result, Ok, Err, refl, sym, ap, subst, ◌∙◌, arith, inl, inr}
-use Rattle.std.specs.Prelude.{ℤ, pos, negsuc, ◌⊎◌, ◌&&◌, ◌==◌, if◌then◌else◌, nat_eq}
+use Rattle.std.proofs.Common.{◌≡◌, ℕ, ◌+◌, ◌≤◌, max, suc, Bool, true, false, List, [], ◌∷◌, ◌++◌, length, Option, Some, None, Ok, Err, refl, sym, ap, subst, ◌∙◌, arith, inl, inr}
+use Rattle.std.specs.Prelude.{pos, negsuc, ◌⊎◌, ◌&&◌, ◌==◌, if◌then◌else◌}
 use Rattle.tla_ast.specs.Lits.{Lit}
 use Rattle.tla_ast.specs.Literals.{lit_of}
 use Rattle.tla_ast.specs.declared.config.Config.{Config}
 use Rattle.tla_config.specs.declared.mark.Mark.{Mark}
-use Rattle.tla_config.specs.declared.mark.Mark.TheVariants.{Name, Number, Str, Truth, Constants, Equal, Replaces, Minus, Open, Close, Comma, End, Other}
+use Rattle.tla_config.specs.declared.mark.Mark.TheVariants.{Name, Number, Str, Truth, Constants, Equal, Replaces, Minus, Open, Close, Comma}
 use Rattle.trace_base.specs.declared.place.Place.{Place}
 use Rattle.tla_config.specs.declared.keyword.Part.{Part}
 use Rattle.tla_config.specs.declared.keyword.Listed.{Listed}
@@ -20,7 +20,7 @@ use Rattle.tla_config.specs.declared.fault.ConfigKind.{ConfigKind}
 use Rattle.tla_config.specs.declared.fault.ConfigKind.TheVariants as kinds
 use Rattle.tla_ast.specs.declared.config.Literal.{Literal}
 use Rattle.tla_config.specs.Keywords.{keyword_of}
-use Rattle.tla_config.specs.Statements.{Named, name_mark, Value, plain, negative, string, truth_value, model_value, empty, braces, Members, last, more, value_marks, members_marks, levels, levels_of, Meaning, is, means, meaning_marks, IsShallow, Assignment, assignment_marks, assignments_marks, names_marks, Statement, constants, choice, unchecked, deadlock, statement_marks, statements_marks, IsFurther, AreFurther, AreAssigned, IsStatement, AreStatements}
+use Rattle.tla_config.specs.Statements.{Named, name_mark, Value, plain, negative, string, truth_value, model_value, empty, braces, Members, last, more, value_marks, members_marks, levels, levels_of, Meaning, is, means, meaning_marks, IsShallow, Assignment, assignments_marks, names_marks, Statement, constants, choice, unchecked, deadlock, statement_marks, statements_marks, AreFurther, AreAssigned, IsStatement, AreStatements}
 use Rattle.tla_config.specs.Given.{is_chosen, is_assigned}
 use Rattle.tla_config.specs.Steps.{Next, step, statement_step, word_step, further_step, placed, assigned_step, value_step, negative_step, first_member_step, separator_step, sign_step, replacement_step, first_step, name_step, choice_step, truth_step, close_step}
 use Rattle.tla_config.proofs.Walks.{Reached, walk, walk_on}

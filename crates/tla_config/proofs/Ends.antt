@@ -1,11 +1,9 @@
 -- Whatever is expected, some marks lead to where a statement may begin; and what is walked once gives nothing
 -- twice.
-use Rattle.std.proofs.Common.{◌≡◌, ℕ, ◌+◌, ◌≤◌, ◌<◌, max, suc, Bool, true, false, List, [], ◌∷◌, ◌++◌, length, Option, Some, None, Result, Ok, Err, refl, sym, ap, subst, ◌∙◌, arith, inl, inr, length-append}
-use Rattle.std.specs.Prelude.{ℤ, pos, negsuc, ◌⊎◌, ◌&&◌, ◌||◌, ◌==◌, if◌then◌else◌, nat_eq}
+use Rattle.std.proofs.Common.{◌≡◌, ℕ, ◌≤◌, ◌<◌, Bool, true, false, List, [], ◌∷◌, ◌++◌, length, Option, Some, None, Ok, Err, refl, sym, ap, ◌∙◌, arith, length-append}
+use Rattle.std.specs.Prelude.{pos, ◌&&◌, ◌||◌, if◌then◌else◌}
 use Rattle.std.specs.Str.{bytes_eq}
 use Rattle.std.specs.Cmp.Lexicographic.{bytes_decides}
-use Rattle.std.specs.List.{list_any}
-use Rattle.trace_base.specs.declared.place.Place.{Place}
 use Rattle.tla_ast.specs.Lits.{Lit}
 use Rattle.tla_ast.specs.Literals.{lit_of}
 use Rattle.tla_ast.specs.Tokens.{start_of}
@@ -14,22 +12,19 @@ use Rattle.tla_ast.specs.declared.config.GivenAt.{GivenAt}
 use Rattle.tla_ast.specs.declared.config.Literal.{Literal}
 use Rattle.tla_ast.specs.declared.config.Literal.TheVariants as literals
 use Rattle.tla_config.specs.declared.mark.Mark.{Mark}
-use Rattle.tla_config.specs.declared.mark.Mark.TheVariants.{Name, Number, Str, Truth, Constants, Equal, Replaces, Minus, Open, Close, Comma, End, Other}
-use Rattle.tla_config.specs.declared.keyword.Keyword.{Keyword}
+use Rattle.tla_config.specs.declared.mark.Mark.TheVariants.{Name, Number, Truth, Replaces, Close, Comma}
 use Rattle.tla_config.specs.declared.keyword.Keyword.TheVariants as keyword
 use Rattle.tla_config.specs.declared.expects.Expects.{Expects}
 use Rattle.tla_config.specs.declared.expects.Expects.TheVariants as expects
 use Rattle.tla_config.specs.declared.expects.Assigned.{Assigned}
 use Rattle.tla_config.specs.declared.expects.Further.{Further}
 use Rattle.tla_config.specs.declared.expects.Further.TheVariants as further
-use Rattle.tla_config.specs.declared.fault.ConfigKind.{ConfigKind}
 use Rattle.tla_config.specs.declared.fault.ConfigKind.TheVariants as kinds
-use Rattle.tla_config.specs.Keywords.{keyword_of}
-use Rattle.tla_config.specs.Statements.{Named, name_mark, meaning_marks, Assignment, assignments_marks, names_marks, Statement, constants, choice, unchecked, deadlock, statement_marks, statements_marks, AreAssigned, IsStatement, AreStatements}
-use Rattle.tla_config.specs.Given.{given_at, with_given, after, after_all, after_assignments, is_chosen, is_assigned, AreNew, IsNew, NothingTwice}
-use Rattle.tla_config.specs.Steps.{Next, step, placed, assigned_step}
+use Rattle.tla_config.specs.Statements.{Named, name_mark, meaning_marks, Assignment, assignments_marks, Statement, constants, choice, unchecked, deadlock, statement_marks, statements_marks, AreAssigned, IsStatement, AreStatements}
+use Rattle.tla_config.specs.Given.{given_at, with_given, after, is_chosen, is_assigned, AreNew, IsNew, NothingTwice}
+use Rattle.tla_config.specs.Steps.{Next, step, placed}
 use Rattle.tla_config.proofs.Walks.{Reached, walk, walk_on}
-use Rattle.tla_config.proofs.Runs.{behind, word_walk, assigned_run, assignments_run, statement_run}
+use Rattle.tla_config.proofs.Runs.{behind, word_walk, assigned_run, statement_run}
 
 -- the marks lead to where a statement may begin
 pub record Leads (o : Bool) (e : Expects) (c : Config) : Type 0 where

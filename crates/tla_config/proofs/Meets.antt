@@ -1,6 +1,6 @@
 -- What comes of tokens is their outcome, and their outcome is what comes of them.
-use Rattle.std.proofs.Common.{◌≡◌, ℕ, Bool, true, false, List, [], ◌∷◌, ◌++◌, map, Option, Some, None, Result, Ok, Err, refl, sym, ap, subst, ◌∙◌, inl, inr, append_assoc}
-use Rattle.std.specs.Prelude.{◌⊎◌, ◌&&◌, if◌then◌else◌}
+use Rattle.std.proofs.Common.{◌≡◌, ℕ, Bool, true, false, List, [], ◌∷◌, ◌++◌, Some, Result, Ok, Err, refl, sym, ap, subst, ◌∙◌, inl, inr}
+use Rattle.std.specs.Prelude.{if◌then◌else◌}
 use Rattle.trace_base.specs.declared.place.Place.{Place}
 use Rattle.tla_ast.specs.declared.token.Token.{Token}
 use Rattle.tla_ast.specs.Laid.{EndsOnce}
@@ -19,15 +19,14 @@ use Rattle.tla_config.specs.declared.fault.ConfigKind.{ConfigKind}
 use Rattle.tla_config.specs.declared.fault.ConfigKind.TheVariants.{Syntax, Unsupported, Twice, NoBehaviour}
 use Rattle.tla_config.specs.Keywords.{keyword_of}
 use Rattle.tla_config.specs.Marks.{mark_of, marks_of, kind_mark}
-use Rattle.tla_config.specs.Statements.{name_mark, Statement, statements_marks, AreStatements}
-use Rattle.tla_config.specs.Given.{nothing_given, after_all, NothingTwice, has_behaviour}
-use Rattle.tla_config.specs.Steps.{Next, step, word_step, reads, read_on, ReadsTo}
-use Rattle.tla_config.specs.Reads.{Outcome, Writes, Begins, BeginsNew, AreWhole, IsUnsupported, Why, Stops, Gives, OfTokens, Answers, Reads}
-use Rattle.tla_config.proofs.Walks.{Reached, walk, walk_on, walk_further, walk_front, walk_stops, walk_one}
+use Rattle.tla_config.specs.Given.{nothing_given, after_all, has_behaviour}
+use Rattle.tla_config.specs.Steps.{Next, step, word_step, reads, ReadsTo}
+use Rattle.tla_config.specs.Reads.{Outcome, Begins, BeginsNew, AreWhole, IsUnsupported, Why, Stops, Gives, OfTokens, Answers, Reads}
+use Rattle.tla_config.proofs.Walks.{Reached, walk, walk_further, walk_stops, walk_one}
 use Rattle.tla_config.proofs.Begun.{Whole, sound}
-use Rattle.tla_config.proofs.Ends.{Leads, leads, statements_new}
+use Rattle.tla_config.proofs.Ends.{leads, statements_new}
 use Rattle.tla_config.proofs.Runs.{statements_run}
-use Rattle.tla_config.proofs.Outcomes.{first, Cause, OnErr, caused, at_error, once_walk, once_step, Halted, Ended, Comes, comes, some_inj, none_some, map_append, ends, same_step, end_ok}
+use Rattle.tla_config.proofs.Outcomes.{first, Cause, caused, at_error, once_walk, Halted, Ended, Comes, comes, some_inj, none_some}
 
 -- a keyword outside the profile, where a statement may begin
 pub unsupported_step : (o q : Bool) (f : Further) (c : Config) (w : List ℕ) (at : Place) → keyword_of w ≡ Some keyword.Unsupported

@@ -1,10 +1,8 @@
 -- The outcome of a text is the only one, and there is one.
-use Rattle.std.proofs.Common.{◌≡◌, ℕ, Bool, true, false, List, [], ◌∷◌, ◌++◌, map, Option, Some, None, Result, Ok, Err, refl, sym, ap, subst, ◌∙◌, inl, inr}
-use Rattle.std.specs.Prelude.{◌⊎◌, ◌&&◌, if◌then◌else◌}
+use Rattle.std.proofs.Common.{◌≡◌, ℕ, Bool, true, false, List, [], ◌∷◌, ◌++◌, Option, Some, Ok, Err, refl, sym, ap, subst, ◌∙◌}
+use Rattle.std.specs.Prelude.{if◌then◌else◌}
 use Rattle.trace_base.specs.declared.place.Place.{Place}
-use Rattle.tla_ast.specs.declared.piece.LexKind.{LexKind}
 use Rattle.tla_ast.specs.declared.token.Token.{Token}
-use Rattle.tla_ast.specs.Laid.{EndsOnce}
 use Rattle.tla_ast.specs.LexedEnds.{TokensEndOnce}
 use Rattle.tla_ast.specs.Tokens as lexer
 use Rattle.tla_ast.specs.declared.config.Config.{Config}
@@ -12,14 +10,12 @@ use Rattle.tla_config.specs.declared.mark.Mark.{Mark}
 use Rattle.tla_config.specs.declared.mark.Mark.TheVariants.{Name, End}
 use Rattle.tla_config.specs.declared.expects.Expects.{Expects}
 use Rattle.tla_config.specs.declared.expects.Expects.TheVariants as expects
-use Rattle.tla_config.specs.declared.expects.Further.TheVariants as further
 use Rattle.tla_config.specs.declared.fault.ConfigKind.{ConfigKind}
 use Rattle.tla_config.specs.declared.fault.ConfigKind.TheVariants.{Syntax, Unsupported, Twice, NoBehaviour}
 use Rattle.tla_config.specs.Marks.{mark_of, marks_of}
-use Rattle.tla_config.specs.Statements.{name_mark}
 use Rattle.tla_config.specs.Given.{nothing_given, after_all, has_behaviour}
 use Rattle.tla_config.specs.Steps.{Next, step, reads, read_on}
-use Rattle.tla_config.specs.Reads.{Outcome, Begins, BeginsNew, AreWhole, IsUnsupported, Why, Stops, Gives, OfTokens, OfLexed, Reads, OneConfiguration, SomeConfiguration}
+use Rattle.tla_config.specs.Reads.{Outcome, Begins, BeginsNew, AreWhole, IsUnsupported, Why, Stops, Gives, OfTokens, OfLexed, OneConfiguration, SomeConfiguration}
 use Rattle.tla_config.proofs.Walks.{Reached, walk, walk_on, walk_front, walk_one}
 use Rattle.tla_config.proofs.Outcomes.{first, Cause, caused, at_error, ends, same_step, end_ok}
 use Rattle.tla_config.proofs.Meets.{unsupported_step, new_walk, whole_walk, whole_from, begins_new, at_statement, not_begun, why, of_reads}

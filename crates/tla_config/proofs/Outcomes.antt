@@ -1,6 +1,6 @@
 -- The outcome of tokens is what comes of them, and it is the only one.
-use Rattle.std.proofs.Common.{◌≡◌, ℕ, ◌+◌, ◌≤◌, ◌<◌, max, suc, Bool, true, false, List, [], ◌∷◌, ◌++◌, map, length, Option, Some, None, Result, Ok, Err, refl, sym, ap, subst, ◌∙◌, arith, inl, inr, append_assoc}
-use Rattle.std.specs.Prelude.{ℤ, pos, negsuc, ◌⊎◌, ◌&&◌, ◌||◌, ◌==◌, if◌then◌else◌}
+use Rattle.std.proofs.Common.{◌≡◌, ℕ, Bool, true, false, List, [], ◌∷◌, ◌++◌, length, Option, Some, None, Ok, Err, refl, sym, ap, subst, ◌∙◌, inl, inr}
+use Rattle.std.specs.Prelude.{pos, negsuc, ◌⊎◌, ◌&&◌, ◌==◌, if◌then◌else◌}
 use Rattle.trace_base.specs.declared.place.Place.{Place}
 use Rattle.tla_ast.specs.declared.token.Token.{Token}
 use Rattle.tla_ast.specs.declared.token.Kind.{Kind}
@@ -10,11 +10,11 @@ use Rattle.tla_ast.specs.declared.token.Word.TheVariants as word
 use Rattle.tla_ast.specs.declared.token.Symbol.{Symbol}
 use Rattle.tla_ast.specs.declared.token.Symbol.TheVariants as symbol
 use Rattle.tla_ast.specs.Opens.{is_end}
-use Rattle.tla_ast.specs.Laid.{EndsOnce, NoEnd}
+use Rattle.tla_ast.specs.Laid.{NoEnd}
 use Rattle.tla_ast.specs.Lits.{Lit}
 use Rattle.tla_ast.specs.declared.config.Config.{Config}
 use Rattle.tla_config.specs.declared.mark.Mark.{Mark}
-use Rattle.tla_config.specs.declared.mark.Mark.TheVariants.{Name, Number, Str, Truth, Constants, Equal, Replaces, Minus, Open, Close, Comma, End, Other}
+use Rattle.tla_config.specs.declared.mark.Mark.TheVariants.{Name, Number, Str, Truth, Constants, Equal, Replaces, Minus, Open, Close, Comma, End}
 use Rattle.tla_config.specs.declared.keyword.Keyword.{Keyword}
 use Rattle.tla_config.specs.declared.keyword.Keyword.TheVariants as keyword
 use Rattle.tla_config.specs.declared.keyword.Part.{Part}
@@ -28,14 +28,10 @@ use Rattle.tla_config.specs.declared.fault.ConfigKind.{ConfigKind}
 use Rattle.tla_config.specs.declared.fault.ConfigKind.TheVariants.{Syntax, Unsupported, Twice, NoBehaviour}
 use Rattle.tla_config.specs.Keywords.{keyword_of}
 use Rattle.tla_config.specs.Marks.{mark_of, marks_of, word_mark, symbol_mark, kind_mark}
-use Rattle.tla_config.specs.Statements.{name_mark, Statement, statements_marks, AreStatements}
-use Rattle.tla_config.specs.Given.{nothing_given, after_all, is_chosen, is_assigned, NothingTwice, has_behaviour}
-use Rattle.tla_config.specs.Steps.{Next, step, statement_step, word_step, further_step, assigned_step, end_step, value_step, negative_step, first_member_step, separator_step, sign_step, replacement_step, first_step, name_step, choice_step, truth_step, close_step, read_on, reads}
-use Rattle.tla_config.specs.Reads.{Outcome, Writes, Begins, BeginsNew, AreWhole, IsUnsupported, Why, Stops, Gives, OfTokens}
-use Rattle.tla_config.proofs.Walks.{Reached, walk, walk_on, walk_further, walk_front, walk_stops, walk_one}
-use Rattle.tla_config.proofs.Begun.{Whole, sound}
-use Rattle.tla_config.proofs.Ends.{Leads, leads, statements_new}
-use Rattle.tla_config.proofs.Runs.{statements_run}
+use Rattle.tla_config.specs.Given.{is_chosen, is_assigned, has_behaviour}
+use Rattle.tla_config.specs.Steps.{Next, step, statement_step, word_step, further_step, value_step, negative_step, first_member_step, separator_step, sign_step, replacement_step, first_step, name_step, choice_step, truth_step, close_step, read_on, reads}
+use Rattle.tla_config.specs.Reads.{Outcome}
+use Rattle.tla_config.proofs.Walks.{Reached, walk, walk_on}
 
 -- where a text begins
 abbrev pub first : Expects

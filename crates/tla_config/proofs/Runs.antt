@@ -1,13 +1,12 @@
 -- What is written is walked, and gives what its statements give.
-use Rattle.std.proofs.Common.{◌≡◌, ℕ, ◌+◌, ◌≤◌, max, suc, Bool, true, false, List, [], ◌∷◌, ◌++◌, length, Option, Some, None, Result, Ok, Err, refl, sym, ap, subst, ◌∙◌, append_assoc, arith}
-use Rattle.std.specs.Prelude.{ℤ, pos, ◌<◌, ◌&&◌, ◌==◌, if◌then◌else◌, nat_eq}
+use Rattle.std.proofs.Common.{◌≡◌, ℕ, ◌+◌, ◌≤◌, suc, Bool, true, false, List, [], ◌∷◌, ◌++◌, length, Option, Some, None, Ok, Err, refl, sym, ap, ◌∙◌, append_assoc, arith}
+use Rattle.std.specs.Prelude.{◌<◌, ◌&&◌, ◌==◌, if◌then◌else◌}
 use Rattle.tla_ast.specs.Lits.{Lit, Lits, list_of, lits_of, no_lits, more_lits, number, str, truth, model, set}
 use Rattle.tla_ast.specs.Literals.{literal, lit_of}
-use Rattle.tla_ast.specs.declared.config.Literal.{Literal}
 use Rattle.tla_ast.specs.declared.config.Literal.TheVariants as literals
 use Rattle.tla_ast.specs.declared.config.Config.{Config}
 use Rattle.tla_config.specs.declared.mark.Mark.{Mark}
-use Rattle.tla_config.specs.declared.mark.Mark.TheVariants.{Close, Comma, Name, Truth}
+use Rattle.tla_config.specs.declared.mark.Mark.TheVariants.{Close, Comma, Truth}
 use Rattle.tla_config.specs.declared.keyword.Keyword.{Keyword}
 use Rattle.tla_config.specs.declared.keyword.Keyword.TheVariants as keyword
 use Rattle.tla_config.specs.declared.keyword.Listed.{Listed}
@@ -16,12 +15,11 @@ use Rattle.tla_config.specs.declared.expects.Expects.TheVariants as expects
 use Rattle.tla_config.specs.declared.expects.Assigned.{Assigned}
 use Rattle.tla_config.specs.declared.expects.Further.{Further}
 use Rattle.tla_config.specs.declared.expects.Further.TheVariants as further
-use Rattle.tla_config.specs.declared.fault.ConfigKind.{ConfigKind}
 use Rattle.tla_config.specs.declared.fault.ConfigKind.TheVariants as kinds
 use Rattle.tla_config.specs.Keywords.{keyword_of}
-use Rattle.tla_config.specs.Statements.{Named, name_mark, Value, plain, negative, string, truth_value, model_value, empty, braces, Members, last, more, value_marks, members_marks, levels, levels_of, lit, lits, Meaning, is, means, meaning_marks, IsShallow, Assignment, assignment_marks, assignments_marks, names_marks, Statement, constants, choice, unchecked, deadlock, statement_marks, statements_marks, IsFurther, AreFurther, AreAssigned, IsStatement, AreStatements}
+use Rattle.tla_config.specs.Statements.{Named, name_mark, Value, plain, negative, string, truth_value, model_value, empty, braces, Members, last, more, value_marks, members_marks, levels, levels_of, lit, lits, Meaning, is, means, meaning_marks, IsShallow, Assignment, assignments_marks, names_marks, Statement, constants, choice, unchecked, deadlock, statement_marks, statements_marks, AreFurther, AreAssigned, IsStatement, AreStatements}
 use Rattle.tla_config.specs.Given.{with_given, with_unchecked, line_of, given_at, after_assignments, after_names, after, after_all, is_chosen, is_assigned, AreNew, IsNew, NothingTwice}
-use Rattle.tla_config.specs.Steps.{Next, step, word_step, placed, assigned_step}
+use Rattle.tla_config.specs.Steps.{Next, word_step, placed, assigned_step}
 use Rattle.tla_config.proofs.Walks.{Reached, walk, walk_on}
 
 abbrev pub walk_from : Bool → Bool → Reached → List Mark → Option Reached

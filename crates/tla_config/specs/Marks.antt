@@ -1,6 +1,6 @@
 -- What a configuration takes a token for: a name with its place, or what the token is. The words and
 -- symbols that no configuration has are one.
-use Rattle.std.specs.Prelude.{ℕ, true, false, List, map}
+use Rattle.std.specs.Prelude.{true, false, List, map}
 use Rattle.trace_base.specs.declared.place.Place.{Place}
 use Rattle.tla_ast.specs.declared.token.Kind.{Kind}
 use Rattle.tla_ast.specs.declared.token.Kind.TheVariants as kinds

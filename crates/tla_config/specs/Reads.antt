@@ -1,5 +1,5 @@
 -- The configuration of a text, or why it has none and where.
-use Rattle.std.specs.Prelude.{◌≡◌, ◌⊎◌, ℕ, true, false, List, [], ◌∷◌, ◌++◌, Some, None, Result, Ok, Err}
+use Rattle.std.specs.Prelude.{◌≡◌, ℕ, true, false, List, [], ◌∷◌, ◌++◌, Some, Result, Ok, Err}
 use Rattle.trace_base.specs.declared.place.Place.{Place}
 use Rattle.tla_ast.specs.declared.token.Token.{Token}
 use Rattle.tla_ast.specs.declared.config.Config.{Config}
@@ -14,7 +14,7 @@ use Rattle.tla_config.specs.declared.fault.ConfigFault.{ConfigFault}
 use Rattle.tla_config.specs.declared.fault.ConfigFault.TheVariants.{Refused, NoMemory}
 use Rattle.tla_config.specs.Keywords.{keyword_of}
 use Rattle.tla_config.specs.Marks.{mark_of, marks_of}
-use Rattle.tla_config.specs.Statements.{Named, Statement, name_mark, statements_marks, AreStatements}
+use Rattle.tla_config.specs.Statements.{Statement, name_mark, statements_marks, AreStatements}
 use Rattle.tla_config.specs.Given.{nothing_given, after_all, NothingTwice, has_behaviour}
 
 -- a configuration, or why there is none, and where

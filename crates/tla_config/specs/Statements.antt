@@ -5,15 +5,14 @@
 -- name; INVARIANT, INVARIANTS, PROPERTY or PROPERTIES and one or more names; CHECK_DEADLOCK and TRUE or
 -- FALSE. A value is a number, `-` and a number, a string, a truth value, a model value's name, or values
 -- in braces, with commas between them.
-use Rattle.std.specs.Prelude.{◌≡◌, ℕ, ◌+◌, ◌-◌, ◌≤◌, ℤ, pos, neg_ℤ, suc, max, Bool, false, List, [], ◌∷◌, ◌++◌, Option, Some, None, codes}
+use Rattle.std.specs.Prelude.{◌≡◌, ℕ, ◌≤◌, pos, neg_ℤ, suc, max, Bool, List, [], ◌∷◌, Some, None}
 use Rattle.trace_base.specs.declared.place.Place.{Place}
 use Rattle.tla_ast.specs.Lits.{Lit, number, str, truth, model, set, lits_of}
 use Rattle.tla_ast.specs.Literals.{literal}
 use Rattle.tla_ast.specs.declared.config.Given.{Given}
 use Rattle.tla_ast.specs.declared.config.Given.TheVariants.{Constant, Replaced}
-use Rattle.tla_ast.specs.declared.config.GivenAt.{GivenAt}
 use Rattle.tla_config.specs.declared.mark.Mark.{Mark}
-use Rattle.tla_config.specs.declared.mark.Mark.TheVariants.{Name, Number, Str, Truth, Constants, Equal, Replaces, Minus, Open, Close, Comma, End}
+use Rattle.tla_config.specs.declared.mark.Mark.TheVariants.{Name, Number, Str, Truth, Constants, Equal, Replaces, Minus, Open, Close, Comma}
 use Rattle.tla_config.specs.declared.keyword.Keyword.TheVariants.{Chooses, Lists, Deadlock}
 use Rattle.tla_config.specs.declared.keyword.Part.{Part}
 use Rattle.tla_config.specs.declared.keyword.Listed.{Listed}

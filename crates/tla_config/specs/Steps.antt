@@ -1,7 +1,7 @@
 -- How marks are read one after the other: what is expected and what was given so far decide what a mark
 -- leads to. With `once` what is given again is refused; with `ended` there is an end, where there is a
 -- behaviour.
-use Rattle.std.specs.Prelude.{◌≡◌, ℕ, ℤ, pos, negsuc, neg_ℤ, Bool, true, false, ◌&&◌, not, ◌==◌, if◌then◌else◌, List, [], ◌∷◌, ◌++◌, length, Option, Some, None, Result, Ok, Err, codes}
+use Rattle.std.specs.Prelude.{◌≡◌, ℕ, ℤ, pos, negsuc, neg_ℤ, Bool, true, false, ◌&&◌, ◌==◌, if◌then◌else◌, List, [], ◌∷◌, ◌++◌, length, Option, Some, None, Result, Ok, Err, codes}
 use Rattle.trace_base.specs.declared.place.Place.{Place}
 use Rattle.tla_ast.specs.Lits.{Lit}
 use Rattle.tla_ast.specs.Literals.{lit_of}
@@ -12,7 +12,7 @@ use Rattle.tla_ast.specs.declared.config.Literal.TheVariants as literal
 use Rattle.tla_ast.specs.declared.config.Given.{Given}
 use Rattle.tla_ast.specs.declared.config.Given.TheVariants.{Constant, Replaced}
 use Rattle.tla_config.specs.declared.mark.Mark.{Mark}
-use Rattle.tla_config.specs.declared.mark.Mark.TheVariants.{Name, Number, Str, Truth, Constants, Equal, Replaces, Minus, Open, Close, Comma, End, Other}
+use Rattle.tla_config.specs.declared.mark.Mark.TheVariants.{Name, Number, Str, Truth, Constants, Equal, Replaces, Minus, Open, Close, Comma, End}
 use Rattle.tla_config.specs.declared.keyword.Keyword.{Keyword}
 use Rattle.tla_config.specs.declared.keyword.Keyword.TheVariants as keyword
 use Rattle.tla_config.specs.declared.keyword.Part.{Part}

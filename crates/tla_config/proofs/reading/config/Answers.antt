@@ -1,7 +1,5 @@
-use Rattle.std.proofs.Common.{◌≡◌, Ok, subst, sym, false}
-use Rattle.tla_config.specs.Reads.{Answers, Reads, OfTokens}
-use Rattle.tla_config.specs.Steps.{reads}
-use Rattle.tla_config.proofs.Meets.{of_reads, answered}
+use Rattle.std.proofs.Common.{false}
+use Rattle.tla_config.proofs.Meets.{answered}
 use Rattle.tla_config.proofs.reading.config.Goals as goal
 
 pub returns-in-Ok : goal.returns-in-Ok

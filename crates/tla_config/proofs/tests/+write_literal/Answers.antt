@@ -1,5 +1,5 @@
-use Rattle.std.proofs.Common.{◌≡◌, ◌≤◌, ◌<◌, suc, map, sym, ap, ◌∙◌, arith}
-use Rattle.tla_ast.specs.Lits.{depth, depth_of, lits_of, set}
+use Rattle.std.proofs.Common.{◌≡◌, ◌≤◌, suc, map, sym, ap, ◌∙◌, arith}
+use Rattle.tla_ast.specs.Lits.{depth, depth_of, lits_of}
 use Rattle.tla_ast.specs.Literals.{lit_of}
 use Rattle.tla_ast.specs.Shallower.{member_deep}
 use Rattle.tla_config.proofs.tests.+write_literal.Goals as goal
