@@ -3,3 +3,4 @@ pub mod Nesting
 pub mod Unique
 pub mod Cuts
 pub mod LexedEnds
+mod Pushes

@@ -3,16 +3,25 @@
 
 mod config;
 mod construct;
+mod expr;
 mod laid;
 mod laid_laws;
 mod lexed_ends;
+mod module;
+mod operators;
 mod piece;
 mod token;
 
 pub use config::{Config, Given, GivenAt, Givens, Literal, Literals};
 pub use construct::{Construct, Open};
+pub use expr::{
+    Arm, Arms, Bound, Bounds, Change, Changes, Definition, Definitions, Expr, Exprs, Field, Fields,
+    Node, Operand, Operands, Step, StepAt, Steps,
+};
 pub use laid::{Bullet, Laid};
 pub use laid_laws::laws_of_laid;
 pub use lexed_ends::tokens_end_once;
+pub use module::{Declared, DeclaredNames, Module, Unit, Units};
+pub use operators::{BuiltinSet, InfixOperator, PrefixOperator, Quantifier};
 pub use piece::{LexKind, Shape, one_outcome};
 pub use token::{Foreign, Kind, Symbol, Token, Word};

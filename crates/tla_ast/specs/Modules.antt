@@ -1,0 +1,107 @@
+-- How modules are spelled: by one clause for each form of a unit, from a module to its laid tokens, in the terms of Grammar.
+-- (The forms are this project's profile of the grammar in Lamport's Specifying Systems.)
+--
+-- 1. A module is dashes, MODULE, its name, dashes, EXTENDS and names where it extends others, units, equals signs and the End.
+-- 2. Declared names stand behind VARIABLE, VARIABLES, CONSTANT or CONSTANTS, with commas between them.
+-- 3. A definition is its name and what stands behind it.
+-- 4. ASSUME, ASSUMPTION or AXIOM has an expression behind it, and a name and `==` before that or not.
+-- 5. Passed over are dashes, and THEOREM, LEMMA, PROPOSITION or COROLLARY with what stands behind it, which is as behind ASSUME.
+use Rattle.std.specs.Prelude.{◌≡◌, ℕ, false, List, [], ◌∷◌, ◌++◌}
+use Rattle.tla_ast.specs.declared.laid.Laid.{Laid}
+use Rattle.tla_ast.specs.declared.laid.Laid.TheVariants.{Plain, ListOpen, ListItem, ListClose}
+use Rattle.tla_ast.specs.declared.token.Token.{Token}
+use Rattle.tla_ast.specs.declared.token.Kind.TheVariants as kinds
+use Rattle.tla_ast.specs.declared.token.Word.TheVariants as words
+use Rattle.tla_ast.specs.declared.token.Symbol.TheVariants as symbols
+use Rattle.tla_ast.specs.declared.module.Declared.{Declared}
+use Rattle.tla_ast.specs.declared.module.Unit.{Unit as ModuleUnit}
+use Rattle.tla_ast.specs.declared.module.Unit.TheVariants.{Variables, Constants, Define, Assume, Passed}
+use Rattle.tla_ast.specs.declared.module.Module.{Module}
+use Rattle.tla_ast.specs.Opens.{is_end}
+use Rattle.tla_ast.specs.Trees.{Tree}
+use Rattle.tla_ast.specs.Grammar.{Span, ◌⨟◌, nothing, never, either, token, some_token, word, sign, name, NamesText, Text, DefinitionRest}
+use Rattle.tla_ast.specs.Fits.{Fits, Spells}
+
+-- ---- units
+
+abbrev pub DeclaredText : Declared → Span
+DeclaredText d = token d.at (kinds.Name d.name)
+
+-- one or more, with commas between them
+abbrev pub DeclaredNamesText : List Declared → Span
+DeclaredNamesText [] = never
+DeclaredNamesText (d ∷ []) = DeclaredText d
+DeclaredNamesText (d ∷ e ∷ ds) = DeclaredText d ⨟ sign symbols.Comma ⨟ DeclaredNamesText (e ∷ ds)
+
+-- a name before an assumption or a theorem, if there is one
+abbrev pub MaybeTitle : Span
+MaybeTitle = either nothing (λ xs ys. (n : List ℕ) × (name n ⨟ sign symbols.Defined) xs ys)
+
+abbrev pub variable_word : Span
+variable_word = either (word words.Variable) (word words.Variables)
+
+abbrev pub constant_word : Span
+constant_word = either (word words.Constant) (word words.Constants)
+
+abbrev pub assume_word : Span
+assume_word = either (word words.Assume) (either (word words.Assumption) (word words.Axiom))
+
+abbrev pub theorem_word : Span
+theorem_word = either (either (word words.Theorem) (word words.Lemma)) (either (word words.Proposition) (word words.Corollary))
+
+-- some expression, whichever it is
+abbrev pub SomeExpression : Span
+SomeExpression xs ys = (e : Tree) × Spells e xs ys
+
+abbrev pub UnitText : ModuleUnit → Span
+UnitText (Variables ds) = variable_word ⨟ DeclaredNamesText ds
+UnitText (Constants ds) = constant_word ⨟ DeclaredNamesText ds
+UnitText (Define d) = token d.at (kinds.Name d.name) ⨟ DefinitionRest d.params d.body
+UnitText (Assume e) = assume_word ⨟ MaybeTitle ⨟ Text e
+UnitText Passed = either (some_token kinds.Dashes) (theorem_word ⨟ MaybeTitle ⨟ SomeExpression)
+
+abbrev pub UnitsText : List ModuleUnit → Span
+UnitsText [] = nothing
+UnitsText (u ∷ us) = UnitText u ⨟ UnitsText us
+
+-- the ranges on the edges of what a unit defines or assumes
+abbrev pub UnitFits : ModuleUnit → Type 0
+UnitFits (Define d) = Fits d.body
+UnitFits (Assume e) = Fits e
+UnitFits _ = Unit {0}
+
+abbrev pub UnitsFit : List ModuleUnit → Type 0
+UnitsFit [] = Unit {0}
+UnitsFit (u ∷ us) = UnitFits u × UnitsFit us
+
+-- ---- modules
+
+abbrev pub ExtendsText : List (List ℕ) → Span
+ExtendsText [] = nothing
+ExtendsText (n ∷ ns) = word words.Extends ⨟ NamesText (n ∷ ns)
+
+abbrev pub ModuleText : Module → Span
+ModuleText m = some_token kinds.Dashes ⨟ word words.Module ⨟ token m.at (kinds.Name m.name) ⨟ some_token kinds.Dashes ⨟ ExtendsText m.extends ⨟ UnitsText m.units ⨟ some_token kinds.Equals ⨟ some_token kinds.End
+
+-- the laid tokens, all of them, spell the module
+pub record SpellsModule (m : Module) (laid : List Laid) : Type 0 where
+  pub text : ModuleText m laid []
+  pub fits : UnitsFit m.units
+
+-- ---- the list that is read
+
+-- no element of the list is the End
+abbrev pub NoLaidEnd : List Laid → Type 0
+NoLaidEnd [] = Unit {0}
+NoLaidEnd (Plain t ∷ xs) = (is_end t.kind ≡ false) × NoLaidEnd xs
+NoLaidEnd (ListOpen b at ∷ xs) = NoLaidEnd xs
+NoLaidEnd (ListItem b at ∷ xs) = NoLaidEnd xs
+NoLaidEnd (ListClose at ∷ xs) = NoLaidEnd xs
+
+-- The last element is the End, and no other is.
+pub record LaidEndsOnce (laid : List Laid) : Type 0 where
+  pub before : List Laid
+  pub last : Token
+  pub whole : laid ≡ before ++ Plain last ∷ []
+  pub is_last : last.kind ≡ kinds.End
+  pub once : NoLaidEnd before

@@ -1,0 +1,637 @@
+//! Syntax trees of expressions.
+
+ghost use Rattle.std.specs.Prelude.{◌≡◌, IfOk, OnErr, OnOk};
+ghost use Rattle.tla_ast.specs.Trees.{First, MoreArms, MoreBounds, MoreChanges, MoreDefinitions, MoreFields, MoreSteps, MoreTrees, Next, NoArms, NoBounds, NoChanges, NoDefinitions, NoFields, NoSteps, NoTrees};
+ghost use Rattle.tla_ast.specs.TreeViews.{are_none, steps_are_none, step_view, trees_of, steps_of, bounds_of, fields_of, changes_of, arms_of, definitions_of, operands_of};
+
+use crate::laid::Bullet;
+use crate::operators::{BuiltinSet, InfixOperator, PrefixOperator, Quantifier};
+use std::alloc::Global;
+use std::marker::Model;
+use trace_base::{Names, NoMemory, Place, Text};
+
+/// An expression, seen as its tree.
+///
+/// A chain of infix operators or of postfix steps has the place of its last operator, all else that
+/// of its first token.
+#[cycle(expr)]
+#[derive(Drop)]
+pub struct Expr {
+    pub at: Place,
+    pub node: Node,
+}
+
+/// What an expression is, by the row of the grammar that spells it, with the parts of the row in their order.
+#[cycle(expr)]
+#[derive(Drop)]
+pub enum Node {
+    Number(i64),
+    Str(Text),
+    /// `TRUE` or `FALSE`
+    Truth(bool),
+    Builtin(BuiltinSet),
+    Name(Text),
+    /// `F(a, b)`
+    Call(Text, Exprs),
+    /// `@`
+    At,
+    Parenthesized(Box<Expr>),
+    /// A junction list and its items.
+    Junction(Bullet, Exprs),
+    Prefix(PrefixOperator, Box<Expr>),
+    /// A chain of one operator: its operands, the last apart.
+    Infix(InfixOperator, Operands, Box<Expr>),
+    /// A primary and one or more steps behind it, the last apart.
+    Postfix(Box<Expr>, Steps, Step),
+    /// `{a, b}`
+    SetOf(Exprs),
+    /// `{x \in S : p}`
+    Filter(Text, Box<Expr>, Box<Expr>),
+    /// `{e : x \in S}`
+    Map(Box<Expr>, Bounds),
+    /// `<<a, b>>`
+    Tuple(Exprs),
+    /// `[x \in S |-> e]`
+    Function(Bounds, Box<Expr>),
+    /// `[S -> T]`
+    FunctionSet(Box<Expr>, Box<Expr>),
+    /// `[a |-> e, b |-> f]`
+    Record(Fields),
+    /// `[a : S, b : T]`
+    RecordSet(Fields),
+    /// `[f EXCEPT ![a] = e, !.b = g]`
+    Except(Box<Expr>, Changes),
+    Quantified(Quantifier, Bounds, Box<Expr>),
+    /// `CHOOSE x \in S : p`
+    Choose(Text, Box<Expr>, Box<Expr>),
+    If(Box<Expr>, Box<Expr>, Box<Expr>),
+    /// The arms, and what stands behind `OTHER`, if it is there.
+    Case(Arms, Option<Box<Expr>>),
+    Let(Definitions, Box<Expr>),
+    /// `[A]_v`
+    BoxAction(Box<Expr>, Box<Expr>),
+    /// `<<A>>_v`
+    AngleAction(Box<Expr>, Box<Expr>),
+    /// `WF_v(A)` or `SF_v(A)`: the subscript, and the action.
+    Fairness(Box<Expr>, Box<Expr>),
+}
+
+/// A postfix step: `'`, `[a, b]` or `.h`.
+#[cycle(expr)]
+#[derive(Drop)]
+pub enum Step {
+    Prime,
+    Index(Exprs),
+    Field(Text),
+}
+
+/// A postfix step and the place of its first token.
+#[cycle(expr)]
+#[derive(Drop)]
+pub struct StepAt {
+    pub at: Place,
+    pub step: Step,
+}
+
+/// An operand and the place of the operator before it.
+#[cycle(expr)]
+#[derive(Drop)]
+pub struct Operand {
+    pub at: Place,
+    pub value: Expr,
+}
+
+/// Names bound over one set, as `x, y \in S`.
+#[cycle(expr)]
+#[derive(Drop)]
+pub struct Bound {
+    pub names: Names,
+    pub set: Expr,
+}
+
+/// A field of a record or of a set of records.
+#[cycle(expr)]
+#[derive(Drop)]
+pub struct Field {
+    pub name: Text,
+    pub value: Expr,
+}
+
+/// One change of an EXCEPT: its path, one or more steps without a prime, and the new value.
+#[cycle(expr)]
+#[derive(Drop)]
+pub struct Change {
+    pub path: Steps,
+    pub value: Expr,
+}
+
+/// An arm of a CASE.
+#[cycle(expr)]
+#[derive(Drop)]
+pub struct Arm {
+    pub test: Expr,
+    pub value: Expr,
+}
+
+/// A definition: its name and the place of it, its parameters and its body. `N[B] == E` has the body
+/// `[B |-> E]` at the place of its bracket.
+#[cycle(expr)]
+#[derive(Drop)]
+pub struct Definition {
+    pub name: Text,
+    pub at: Place,
+    pub params: Names,
+    pub body: Expr,
+}
+
+/// A list of expressions.
+#[cycle(expr)]
+#[derive(Drop)]
+pub struct Exprs {
+    items: Vec<Expr>,
+}
+
+/// A list of postfix steps.
+#[cycle(expr)]
+#[derive(Drop)]
+pub struct Steps {
+    items: Vec<StepAt>,
+}
+
+/// A list of bounds.
+#[cycle(expr)]
+#[derive(Drop)]
+pub struct Bounds {
+    items: Vec<Bound>,
+}
+
+/// A list of fields.
+#[cycle(expr)]
+#[derive(Drop)]
+pub struct Fields {
+    items: Vec<Field>,
+}
+
+/// A list of changes.
+#[cycle(expr)]
+#[derive(Drop)]
+pub struct Changes {
+    items: Vec<Change>,
+}
+
+/// A list of arms.
+#[cycle(expr)]
+#[derive(Drop)]
+pub struct Arms {
+    items: Vec<Arm>,
+}
+
+/// A list of definitions.
+#[cycle(expr)]
+#[derive(Drop)]
+pub struct Definitions {
+    items: Vec<Definition>,
+}
+
+/// The operands of a chain but its last: the first, and those behind it with the places of the operators before them.
+#[cycle(expr)]
+#[derive(Drop)]
+pub struct Operands {
+    first: Box<Expr>,
+    others: Vec<Operand>,
+}
+
+impl Model for Expr {
+    ghost use Rattle.tla_ast.specs.Trees.{Tree};
+    ghost use Rattle.tla_ast.specs.TreeSizes.{tree_size};
+    ghost use Rattle.tla_ast.specs.TreeCodes.{tree_code};
+
+    ghost Value = { Tree };
+
+    ghost coded = { tree_code };
+
+    ghost use Rattle.tla_ast.specs.TreeViews.{node_view};
+
+    ghost view = { λ a. node_view a.at a.node };
+
+    ghost size = { tree_size };
+
+    ghost use Rattle.tla_ast.specs.TreeFalls.{tree_falls};
+
+    ghost size_decreases = { λ a h. tree_falls a.at a.node };
+}
+
+impl Model for Exprs {
+    ghost use Rattle.tla_ast.specs.Trees.{Trees};
+    ghost use Rattle.tla_ast.specs.TreeSizes.{trees_size};
+    ghost use Rattle.tla_ast.specs.TreeCodes.{trees_code};
+
+    ghost Value = { Trees };
+
+    ghost coded = { trees_code };
+
+    ghost use Rattle.tla_ast.specs.TreeViews.{trees_of};
+
+    ghost view = { λ a. trees_of a.items.items };
+
+    ghost size = { trees_size };
+
+    ghost use Rattle.tla_ast.specs.TreeFalls.{trees_falls};
+
+    ghost size_decreases = { λ a h. trees_falls a.items.items };
+}
+
+impl Model for Steps {
+    ghost use Rattle.tla_ast.specs.Trees.{Steps};
+    ghost use Rattle.tla_ast.specs.TreeSizes.{steps_size};
+    ghost use Rattle.tla_ast.specs.TreeCodes.{steps_code};
+
+    ghost Value = { Steps };
+
+    ghost coded = { steps_code };
+
+    ghost use Rattle.tla_ast.specs.TreeViews.{steps_of};
+
+    ghost view = { λ a. steps_of a.items.items };
+
+    ghost size = { steps_size };
+
+    ghost use Rattle.tla_ast.specs.TreeFalls.{steps_falls};
+
+    ghost size_decreases = { λ a h. steps_falls a.items.items };
+}
+
+impl Model for Bounds {
+    ghost use Rattle.tla_ast.specs.Trees.{Bounds};
+    ghost use Rattle.tla_ast.specs.TreeSizes.{bounds_size};
+    ghost use Rattle.tla_ast.specs.TreeCodes.{bounds_code};
+
+    ghost Value = { Bounds };
+
+    ghost coded = { bounds_code };
+
+    ghost use Rattle.tla_ast.specs.TreeViews.{bounds_of};
+
+    ghost view = { λ a. bounds_of a.items.items };
+
+    ghost size = { bounds_size };
+
+    ghost use Rattle.tla_ast.specs.TreeFalls.{bounds_falls};
+
+    ghost size_decreases = { λ a h. bounds_falls a.items.items };
+}
+
+impl Model for Fields {
+    ghost use Rattle.tla_ast.specs.Trees.{Fields};
+    ghost use Rattle.tla_ast.specs.TreeSizes.{fields_size};
+    ghost use Rattle.tla_ast.specs.TreeCodes.{fields_code};
+
+    ghost Value = { Fields };
+
+    ghost coded = { fields_code };
+
+    ghost use Rattle.tla_ast.specs.TreeViews.{fields_of};
+
+    ghost view = { λ a. fields_of a.items.items };
+
+    ghost size = { fields_size };
+
+    ghost use Rattle.tla_ast.specs.TreeFalls.{fields_falls};
+
+    ghost size_decreases = { λ a h. fields_falls a.items.items };
+}
+
+impl Model for Changes {
+    ghost use Rattle.tla_ast.specs.Trees.{Changes};
+    ghost use Rattle.tla_ast.specs.TreeSizes.{changes_size};
+    ghost use Rattle.tla_ast.specs.TreeCodes.{changes_code};
+
+    ghost Value = { Changes };
+
+    ghost coded = { changes_code };
+
+    ghost use Rattle.tla_ast.specs.TreeViews.{changes_of};
+
+    ghost view = { λ a. changes_of a.items.items };
+
+    ghost size = { changes_size };
+
+    ghost use Rattle.tla_ast.specs.TreeFalls.{changes_falls};
+
+    ghost size_decreases = { λ a h. changes_falls a.items.items };
+}
+
+impl Model for Arms {
+    ghost use Rattle.tla_ast.specs.Trees.{Arms};
+    ghost use Rattle.tla_ast.specs.TreeSizes.{arms_size};
+    ghost use Rattle.tla_ast.specs.TreeCodes.{arms_code};
+
+    ghost Value = { Arms };
+
+    ghost coded = { arms_code };
+
+    ghost use Rattle.tla_ast.specs.TreeViews.{arms_of};
+
+    ghost view = { λ a. arms_of a.items.items };
+
+    ghost size = { arms_size };
+
+    ghost use Rattle.tla_ast.specs.TreeFalls.{arms_falls};
+
+    ghost size_decreases = { λ a h. arms_falls a.items.items };
+}
+
+impl Model for Definitions {
+    ghost use Rattle.tla_ast.specs.Trees.{Definitions};
+    ghost use Rattle.tla_ast.specs.TreeSizes.{definitions_size};
+    ghost use Rattle.tla_ast.specs.TreeCodes.{definitions_code};
+
+    ghost Value = { Definitions };
+
+    ghost coded = { definitions_code };
+
+    ghost use Rattle.tla_ast.specs.TreeViews.{definitions_of, operands_of};
+
+    ghost view = { λ a. definitions_of a.items.items };
+
+    ghost size = { definitions_size };
+
+    ghost use Rattle.tla_ast.specs.TreeFalls.{definitions_falls};
+
+    ghost size_decreases = { λ a h. definitions_falls a.items.items };
+}
+
+impl Model for Operands {
+    ghost use Rattle.tla_ast.specs.Trees.{Operands};
+    ghost use Rattle.tla_ast.specs.TreeSizes.{operands_size};
+    ghost use Rattle.tla_ast.specs.TreeCodes.{operands_code};
+
+    ghost Value = { Operands };
+
+    ghost coded = { operands_code };
+
+    ghost use Rattle.tla_ast.specs.TreeViews.{operands_of};
+
+    ghost view = { λ a. operands_of a.first.value a.others.items };
+
+    ghost size = { operands_size };
+
+    ghost use Rattle.tla_ast.specs.TreeFalls.{operands_falls};
+
+    ghost size_decreases = { λ a h. operands_falls a.first.value a.others.items };
+}
+
+impl Exprs {
+    /// An empty list.
+    pub fn new(alloc: Global) -> Exprs
+        ensures { result ≡ NoTrees }
+    {
+        Exprs {
+            items: Vec::new(alloc),
+        }
+    }
+
+    /// Adds one at the end. On a refusal the list is as it was.
+    pub fn push(&mut self, item: Expr) -> Result<(), NoMemory>
+        ensures pushed { OnOk result (self.new ≡ MoreTrees self.old item) }
+        ensures kept { OnErr result (self.new ≡ self.old) }
+    {
+        self.items.push(item)?;
+        Ok(())
+    }
+
+    /// Whether there are none.
+    pub fn is_empty(&self) -> bool
+        ensures { result ≡ are_none self.now }
+    {
+        let items = self.items();
+        items.is_empty()
+    }
+
+    /// The items in their order.
+    pub fn items(&self) -> &[Expr]
+        ensures { trees_of result.now ≡ self.now }
+    {
+        &self.items
+    }
+}
+
+impl Steps {
+    /// An empty list.
+    pub fn new(alloc: Global) -> Steps
+        ensures { result ≡ NoSteps }
+    {
+        Steps {
+            items: Vec::new(alloc),
+        }
+    }
+
+    /// Adds one at the end. On a refusal the list is as it was.
+    pub fn push(&mut self, item: StepAt) -> Result<(), NoMemory>
+        ensures pushed { OnOk result (self.new ≡ MoreSteps self.old item.at (step_view item.step)) }
+        ensures kept { OnErr result (self.new ≡ self.old) }
+    {
+        self.items.push(item)?;
+        Ok(())
+    }
+
+    /// Whether there are none.
+    pub fn is_empty(&self) -> bool
+        ensures { result ≡ steps_are_none self.now }
+    {
+        let items = self.items();
+        items.is_empty()
+    }
+
+    /// The items in their order.
+    pub fn items(&self) -> &[StepAt]
+        ensures { steps_of result.now ≡ self.now }
+    {
+        &self.items
+    }
+}
+
+impl Bounds {
+    /// An empty list.
+    pub fn new(alloc: Global) -> Bounds
+        ensures { result ≡ NoBounds }
+    {
+        Bounds {
+            items: Vec::new(alloc),
+        }
+    }
+
+    /// Adds one at the end. On a refusal the list is as it was.
+    pub fn push(&mut self, item: Bound) -> Result<(), NoMemory>
+        ensures pushed { OnOk result (self.new ≡ MoreBounds self.old item.names item.set) }
+        ensures kept { OnErr result (self.new ≡ self.old) }
+    {
+        self.items.push(item)?;
+        Ok(())
+    }
+
+    /// The items in their order.
+    pub fn items(&self) -> &[Bound]
+        ensures { bounds_of result.now ≡ self.now }
+    {
+        &self.items
+    }
+}
+
+impl Fields {
+    /// An empty list.
+    pub fn new(alloc: Global) -> Fields
+        ensures { result ≡ NoFields }
+    {
+        Fields {
+            items: Vec::new(alloc),
+        }
+    }
+
+    /// Adds one at the end. On a refusal the list is as it was.
+    pub fn push(&mut self, item: Field) -> Result<(), NoMemory>
+        ensures pushed { OnOk result (self.new ≡ MoreFields self.old item.name item.value) }
+        ensures kept { OnErr result (self.new ≡ self.old) }
+    {
+        self.items.push(item)?;
+        Ok(())
+    }
+
+    /// The items in their order.
+    pub fn items(&self) -> &[Field]
+        ensures { fields_of result.now ≡ self.now }
+    {
+        &self.items
+    }
+}
+
+impl Changes {
+    /// An empty list.
+    pub fn new(alloc: Global) -> Changes
+        ensures { result ≡ NoChanges }
+    {
+        Changes {
+            items: Vec::new(alloc),
+        }
+    }
+
+    /// Adds one at the end. On a refusal the list is as it was.
+    pub fn push(&mut self, item: Change) -> Result<(), NoMemory>
+        ensures pushed { OnOk result (self.new ≡ MoreChanges self.old item.path item.value) }
+        ensures kept { OnErr result (self.new ≡ self.old) }
+    {
+        self.items.push(item)?;
+        Ok(())
+    }
+
+    /// The items in their order.
+    pub fn items(&self) -> &[Change]
+        ensures { changes_of result.now ≡ self.now }
+    {
+        &self.items
+    }
+}
+
+impl Arms {
+    /// An empty list.
+    pub fn new(alloc: Global) -> Arms
+        ensures { result ≡ NoArms }
+    {
+        Arms {
+            items: Vec::new(alloc),
+        }
+    }
+
+    /// Adds one at the end. On a refusal the list is as it was.
+    pub fn push(&mut self, item: Arm) -> Result<(), NoMemory>
+        ensures pushed { OnOk result (self.new ≡ MoreArms self.old item.test item.value) }
+        ensures kept { OnErr result (self.new ≡ self.old) }
+    {
+        self.items.push(item)?;
+        Ok(())
+    }
+
+    /// The items in their order.
+    pub fn items(&self) -> &[Arm]
+        ensures { arms_of result.now ≡ self.now }
+    {
+        &self.items
+    }
+}
+
+impl Definitions {
+    /// An empty list.
+    pub fn new(alloc: Global) -> Definitions
+        ensures { result ≡ NoDefinitions }
+    {
+        Definitions {
+            items: Vec::new(alloc),
+        }
+    }
+
+    /// Adds one at the end. On a refusal the list is as it was.
+    pub fn push(&mut self, item: Definition) -> Result<(), NoMemory>
+        ensures pushed { OnOk result (self.new ≡ MoreDefinitions self.old item.name item.at item.params item.body) }
+        ensures kept { OnErr result (self.new ≡ self.old) }
+    {
+        self.items.push(item)?;
+        Ok(())
+    }
+
+    /// The items in their order.
+    pub fn items(&self) -> &[Definition]
+        ensures { definitions_of result.now ≡ self.now }
+    {
+        &self.items
+    }
+}
+
+impl Operands {
+    /// One operand.
+    pub fn new(alloc: Global, first: Expr) -> Result<Operands, NoMemory>
+        ensures { IfOk result (λ o. o ≡ First first) }
+    {
+        Ok(Operands {
+            first: Box::new(alloc, first)?,
+            others: Vec::new(alloc),
+        })
+    }
+
+    /// Adds an operand behind the operator of that place. On a refusal the list is as it was.
+    pub fn push(&mut self, item: Operand) -> Result<(), NoMemory>
+        ensures pushed { OnOk result (self.new ≡ Next self.old item.at item.value) }
+        ensures kept { OnErr result (self.new ≡ self.old) }
+    {
+        self.others.push(item)?;
+        Ok(())
+    }
+
+    /// The operands as they are: the first, and those behind it.
+    pub fn from_parts(
+        alloc: Global,
+        first: Expr,
+        others: Vec<Operand>,
+    ) -> Result<Operands, NoMemory>
+        ensures { IfOk result (λ o. o ≡ operands_of first others.items) }
+    {
+        Ok(Operands {
+            first: Box::new(alloc, first)?,
+            others,
+        })
+    }
+
+    /// The first operand, and those behind it.
+    pub fn into_parts(self) -> (Expr, Vec<Operand>)
+        ensures { operands_of result.0 result.1.items ≡ self }
+    {
+        let Operands { first, others } = self;
+        (Box::into_inner(first), others)
+    }
+
+    /// The first operand, and those behind it.
+    pub fn parts(&self) -> (&Expr, &[Operand])
+        ensures { operands_of result.0.now result.1.now ≡ self.now }
+    {
+        (&self.first, &self.others)
+    }
+}

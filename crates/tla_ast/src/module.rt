@@ -1,0 +1,157 @@
+//! Syntax trees of modules.
+
+ghost use Rattle.std.specs.Prelude.{◌≡◌, ◌↔◌, ◌<◌, [], ◌∷◌, ◌++◌, length, OnOk, OnErr, IsSome, option_copied, slice_get};
+
+use crate::expr::{Definition, Expr};
+use std::alloc::Global;
+use std::marker::Model;
+use trace_base::{Names, NoMemory, Place, Text};
+
+/// A variable or constant that a module declares, and the place of its name.
+#[derive(Drop)]
+pub struct Declared {
+    pub name: Text,
+    pub at: Place,
+}
+
+/// A list of declared names, seen as the list itself.
+#[derive(Drop)]
+pub struct DeclaredNames {
+    items: Vec<Declared>,
+}
+
+impl Model for DeclaredNames {
+    ghost use Rattle.std.specs.Prelude.{List};
+    ghost use Rattle.tla_ast.specs.declared.module.Declared.{Declared};
+
+    ghost Value = { List Declared };
+
+    ghost view = { λ n. n.items.items };
+}
+
+impl DeclaredNames {
+    /// No names.
+    pub fn new(alloc: Global) -> DeclaredNames
+        ensures { result ≡ [] }
+    {
+        DeclaredNames {
+            items: Vec::new(alloc),
+        }
+    }
+
+    /// Adds a name at the end. On a refusal the list is as it was.
+    pub fn push(&mut self, item: Declared) -> Result<(), NoMemory>
+        ensures pushed { OnOk result (self.new ≡ self.old ++ item ∷ []) }
+        ensures kept { OnErr result (self.new ≡ self.old) }
+    {
+        self.items.push(item)?;
+        Ok(())
+    }
+
+    /// How many names there are.
+    pub fn len(&self) -> usize
+        ensures { result ≡ length self.now }
+    {
+        self.items.len()
+    }
+
+    /// The declared name of that index, from 0.
+    pub fn get(&self, i: usize) -> Option<&Declared>
+        ensures item { option_copied result ≡ slice_get self.now i }
+        ensures within { IsSome result ↔ (i < length self.now) }
+    {
+        self.items.get(i)
+    }
+
+    /// The declared names as a slice.
+    pub fn items(&self) -> &[Declared]
+        ensures { result.now ≡ self.now }
+    {
+        &self.items
+    }
+}
+
+/// A unit of a module.
+#[derive(Drop)]
+pub enum Unit {
+    /// `VARIABLES x, y`
+    Variables(DeclaredNames),
+    /// `CONSTANTS c, d`
+    Constants(DeclaredNames),
+    Define(Definition),
+    /// What is assumed. A name before it is passed over.
+    Assume(Expr),
+    /// A theorem or dashes.
+    Passed,
+}
+
+/// A list of units, seen as the list itself.
+#[derive(Drop)]
+pub struct Units {
+    items: Vec<Unit>,
+}
+
+impl Model for Units {
+    ghost use Rattle.std.specs.Prelude.{List};
+    ghost use Rattle.tla_ast.specs.declared.module.Unit.{Unit as ModuleUnit};
+
+    ghost Value = { List ModuleUnit };
+
+    ghost use Rattle.std.specs.Coded.{codes};
+    ghost use Rattle.tla_ast.specs.TreeCodes.{tree_code};
+
+    ghost coded = { Prim.hlevel (codes, tree_code) };
+
+    ghost view = { λ u. u.items.items };
+}
+
+impl Units {
+    /// No units.
+    pub fn new(alloc: Global) -> Units
+        ensures { result ≡ [] }
+    {
+        Units {
+            items: Vec::new(alloc),
+        }
+    }
+
+    /// Adds a unit at the end. On a refusal the list is as it was.
+    pub fn push(&mut self, item: Unit) -> Result<(), NoMemory>
+        ensures pushed { OnOk result (self.new ≡ self.old ++ item ∷ []) }
+        ensures kept { OnErr result (self.new ≡ self.old) }
+    {
+        self.items.push(item)?;
+        Ok(())
+    }
+
+    /// How many units there are.
+    pub fn len(&self) -> usize
+        ensures { result ≡ length self.now }
+    {
+        self.items.len()
+    }
+
+    /// The unit of that index, from 0.
+    pub fn get(&self, i: usize) -> Option<&Unit>
+        ensures item { option_copied result ≡ slice_get self.now i }
+        ensures within { IsSome result ↔ (i < length self.now) }
+    {
+        self.items.get(i)
+    }
+
+    /// The units as a slice.
+    pub fn items(&self) -> &[Unit]
+        ensures { result.now ≡ self.now }
+    {
+        &self.items
+    }
+}
+
+/// A module: its name and the place of it, the modules that it extends, and its units.
+#[derive(Drop)]
+pub struct Module {
+    pub name: Text,
+    pub at: Place,
+    pub extends: Names,
+    pub units: Units,
+}
