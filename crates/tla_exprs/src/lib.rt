@@ -8,3 +8,6 @@ mod tree_laws;
 pub use frame::{Action, Binder, Binding, Form, Frame, Mode, RecordKind, Scope};
 pub use laws::laws_of_reading;
 pub use tree_laws::laws_of_trees;
+
+#[cfg(test)]
+mod tests;
