@@ -2,7 +2,7 @@
 -- project's profile of the grammar in Lamport's Specifying Systems. Which trees the ranges of the operators allow says Fits.)
 --
 -- The text of a part is a relation between the laid tokens from its beginning on and those behind it; `R ⨟ S` is R and then S.
-use Rattle.std.specs.Prelude.{◌≡◌, ◌⊎◌, ℕ, ℤ, Bool, true, false, ◌&&◌, ◌||◌, List, [], ◌∷◌}
+use Rattle.std.specs.Prelude.{◌≡◌, ◌⊎◌, ℕ, Bool, true, false, ◌&&◌, ◌||◌, List, [], ◌∷◌}
 use Rattle.trace_base.specs.declared.place.Place.{Place}
 use Rattle.tla_ast.specs.declared.laid.Bullet.{Bullet}
 use Rattle.tla_ast.specs.declared.laid.Laid.{Laid}

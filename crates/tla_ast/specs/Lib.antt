@@ -1,3 +1,4 @@
+pub mod Begun
 pub mod Fits
 pub mod Grammar
 pub mod Laid

@@ -1,5 +1,5 @@
 -- Each part of an expression has a smaller number than the expression.
-use Rattle.std.specs.Prelude.{ℕ, ◌≤◌, ◌+◌, suc, max, List, [], ◌∷◌, Some, None}
+use Rattle.std.specs.Prelude.{◌≤◌, ◌+◌, suc, max, List, [], ◌∷◌, Some, None}
 use Rattle.std.proofs.Common.{arith}
 use denote.Param.Weighed.{most}
 use Rattle.trace_base.specs.declared.place.Place.{Place}

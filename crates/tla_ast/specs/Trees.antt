@@ -1,7 +1,7 @@
 -- Syntax trees of expressions, one constructor for each row of the grammar (see Grammar). Each begins with the place of the
 -- tree: that of its last operator for a chain of infix operators or of postfix steps, and of its first token for all else.
 -- Lists grow at their end, as they are read.
-use Rattle.std.specs.Prelude.{ℕ, ℤ, Bool, List, [], ◌∷◌}
+use Rattle.std.specs.Prelude.{ℕ, ℤ, Bool, List}
 use Rattle.trace_base.specs.declared.place.Place.{Place}
 use Rattle.tla_ast.specs.declared.laid.Bullet.{Bullet}
 use Rattle.tla_ast.specs.declared.operators.PrefixOperator.{PrefixOperator}

@@ -2,12 +2,13 @@
 
 ghost use Rattle.std.specs.Prelude.{◌≡◌, IfOk, OnErr, OnOk};
 ghost use Rattle.tla_ast.specs.Trees.{First, MoreArms, MoreBounds, MoreChanges, MoreDefinitions, MoreFields, MoreSteps, MoreTrees, Next, NoArms, NoBounds, NoChanges, NoDefinitions, NoFields, NoSteps, NoTrees};
-ghost use Rattle.tla_ast.specs.TreeViews.{are_none, steps_are_none, step_view, trees_of, steps_of, bounds_of, fields_of, changes_of, arms_of, definitions_of, operands_of};
+ghost use Rattle.tla_ast.specs.TreeViews.{are_none, steps_are_none, node_view, step_view, trees_of, steps_of, bounds_of, fields_of, changes_of, arms_of, definitions_of, operands_of};
 
 use crate::laid::Bullet;
 use crate::operators::{BuiltinSet, InfixOperator, PrefixOperator, Quantifier};
 use std::alloc::Global;
 use std::marker::Model;
+use std::mem::replace;
 use trace_base::{Names, NoMemory, Place, Text};
 
 /// An expression, seen as its tree.
@@ -15,10 +16,40 @@ use trace_base::{Names, NoMemory, Place, Text};
 /// A chain of infix operators or of postfix steps has the place of its last operator, all else that
 /// of its first token.
 #[cycle(expr)]
-#[derive(Drop)]
 pub struct Expr {
     pub at: Place,
     pub node: Node,
+}
+
+/// A loop over the rows whose last part may hold any number of rows like it, as a long `ELSE IF`: such a row takes no stack.
+impl Drop for Expr {
+    #[cycle(expr)]
+    fn drop(mut self) {
+        loop {
+            let Expr { at: _, node } = self;
+            match node {
+                Node::If(test, then, last) => {
+                    drop(test);
+                    drop(then);
+                    self = Box::into_inner(last);
+                }
+                Node::Quantified(_, bounds, last) => {
+                    drop(bounds);
+                    self = Box::into_inner(last);
+                }
+                Node::Choose(name, set, last) => {
+                    drop(name);
+                    drop(set);
+                    self = Box::into_inner(last);
+                }
+                Node::Let(definitions, last) => {
+                    drop(definitions);
+                    self = Box::into_inner(last);
+                }
+                other => return drop(other),
+            }
+        }
+    }
 }
 
 /// What an expression is, by the row of the grammar that spells it, with the parts of the row in their order.
@@ -199,6 +230,17 @@ pub struct Definitions {
 pub struct Operands {
     first: Box<Expr>,
     others: Vec<Operand>,
+}
+
+impl Expr {
+    /// Its place and what it is.
+    pub fn into_parts(self) -> (Place, Node)
+        ensures { node_view result.0 result.1 ≡ self }
+    {
+        let mut whole = self;
+        let node = replace(&mut whole.node, Node::At);
+        (whole.at, node)
+    }
 }
 
 impl Model for Expr {

@@ -21,7 +21,7 @@ pub use expr::{
 pub use laid::{Bullet, Laid};
 pub use laid_laws::laws_of_laid;
 pub use lexed_ends::tokens_end_once;
-pub use module::{Declared, DeclaredNames, Module, Unit, Units};
+pub use module::{Declared, DeclaredNames, Module, Program, Unit, Units};
 pub use operators::{BuiltinSet, InfixOperator, PrefixOperator, Quantifier};
 pub use piece::{LexKind, Shape, one_outcome};
 pub use token::{Foreign, Kind, Symbol, Token, Word};

@@ -155,3 +155,12 @@ pub struct Module {
     pub extends: Names,
     pub units: Units,
 }
+
+/// A program: the files that its modules were read from, in the order of their reading, the units of all modules, those
+/// of an extended module before those of the module that extends it, and the standard modules that were extended.
+#[derive(Drop)]
+pub struct Program {
+    pub files: Names,
+    pub units: Units,
+    pub standard: Names,
+}

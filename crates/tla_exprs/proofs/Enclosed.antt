@@ -13,7 +13,7 @@ use Rattle.tla_exprs.specs.Machine.{Stepped, Reads, Stops, Joined, Joins, Meets,
 use Rattle.tla_exprs.proofs.Opened.{BinderFits, BindingFits, FramesFit, Good, laid_symbol}
 use Rattle.tla_exprs.proofs.Texts.{BinderText, BindingText, FramesText}
 use Rattle.tla_exprs.proofs.Edges.{one_of_two}
-use Rattle.tla_exprs.proofs.Joining.{IsJoined, join_good}
+use Rattle.tla_exprs.proofs.JoinedTexts.{IsJoined, join_good}
 use Rattle.tla_exprs.proofs.Rows.{deliver_good}
 use Rattle.tla_ast.specs.declared.token.Kind.TheVariants as kinds
 use Rattle.tla_ast.specs.declared.token.Symbol.TheVariants as symbols

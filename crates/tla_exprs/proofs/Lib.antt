@@ -1,9 +1,16 @@
+pub mod Ahead
 pub mod Beginning
 pub mod Closing
 pub mod Edges
 pub mod Enclosed
-pub mod Joining
+pub mod JoinedChains
+pub mod JoinedTexts
+pub mod KeptCloses
+pub mod KeptFollows
+pub mod KeptRuns
+pub mod NamedFields
 pub mod Opened
+pub mod ReadLaws
 pub mod Reading
 pub mod Rows
 pub mod RunsBounds
@@ -19,6 +26,7 @@ pub mod RunsStarts
 pub mod RunsSteps
 pub mod RunsTrees
 pub mod RunsTuples
+pub mod SameDoes
 pub mod Settling
 pub mod Stepping
 pub mod Symbols

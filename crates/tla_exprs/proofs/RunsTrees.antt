@@ -113,6 +113,6 @@ mutual
   definitions_good NoDefinitions f = tt
   definitions_good (MoreDefinitions ds n at ns e) f = (definitions_good ds f.0, good e f.1, function_good e f.1)
 
-  function_good : (e : Tree) → Fits e → FunctionGood e
+  pub function_good : (e : Tree) → Fits e → FunctionGood e
   function_good (tree.Function at bs e) f = (bounds_good bs f.0, good e f.1)
   function_good _ f = tt

@@ -1,5 +1,5 @@
 -- A text spells one tree.
-use Rattle.std.proofs.Common.{◌≡◌, List, [], ◌∷◌, ◌++◌, refl, sym, ap, ◌∙◌}
+use Rattle.std.proofs.Common.{◌≡◌, ℕ, List, [], ◌∷◌, ◌++◌, refl, sym, ap, ◌∙◌}
 use Rattle.std.proofs.lemmas.List.{append_cancel_right}
 use Rattle.trace_base.specs.declared.place.Place.{Place}
 use Rattle.tla_ast.specs.declared.laid.Laid.{Laid}
@@ -7,25 +7,56 @@ use Rattle.tla_ast.specs.declared.laid.Laid.TheVariants.{Plain, ListOpen, ListIt
 use Rattle.tla_ast.specs.declared.token.Kind.{Kind}
 use Rattle.tla_ast.specs.declared.token.Kind.TheVariants as kinds
 use Rattle.tla_ast.specs.Trees.{Tree}
-use Rattle.tla_ast.specs.Grammar.{Text}
+use Rattle.tla_ast.specs.Grammar.{◌⨟◌, token, Text, DefinitionRest}
 use Rattle.tla_ast.specs.Fits.{Spells, Fits}
 use Rattle.tla_exprs.specs.declared.frame.Mode.TheVariants as mode
-use Rattle.tla_exprs.specs.Machine.{EndsAt, run}
-use Rattle.tla_exprs.specs.LawsOfTrees.{IsEnd}
+use Rattle.tla_exprs.specs.declared.frame.Scope.TheVariants as scopes
+use Rattle.tla_exprs.specs.Machine.{EndsDefinition, EndsAt, EndsDefinitionAt, run}
+use Rattle.tla_exprs.specs.LawsOfTrees.{EndsKind, SpelledRead, DefinitionRead}
 use Rattle.tla_exprs.proofs.RunsParts.{plain, part}
-use Rattle.tla_exprs.proofs.RunsTrees.{good}
+use Rattle.tla_exprs.proofs.RunsDefinitions.{Ends, definition_reads}
+use Rattle.tla_exprs.proofs.RunsTrees.{good, function_good}
 use Rattle.tla_exprs.proofs.UniqueSpans.{Front, tree_local}
 
-end_read : (xs rest : List Laid) (k : Kind) (at : Place) (e : Tree) → Fits e → Text e xs (plain k at ∷ rest) → k ≡ kinds.End → run xs [] mode.Want ≡ EndsAt e (plain k at ∷ rest)
-end_read xs rest k at e f h q =
-    part xs (plain k at ∷ rest) e [] (good e f).runs tt h (ap (λ v. plain v at ∷ rest) q) refl (λ fs a. refl)
-    ∙ ap (λ v. EndsAt e (plain v at ∷ rest)) (sym q)
+-- ---- an expression up to a token that ends it
 
-pub spelled_read : (xs rest : List Laid) (x : Laid) (e : Tree) → Spells e xs (x ∷ rest) → IsEnd x → run xs [] mode.Want ≡ EndsAt e (x ∷ rest)
-spelled_read xs rest (Plain t) e s h = end_read xs rest t.kind t.place e s.fits s.text h
+kind_read : (xs rest : List Laid) (k : Kind) (at : Place) (e : Tree) → Fits e → Text e xs (plain k at ∷ rest) → EndsKind k → run xs [] mode.Want ≡ EndsAt e (plain k at ∷ rest)
+kind_read xs rest (kinds.Name n) at e f h q = part xs (plain (kinds.Name n) at ∷ rest) e [] (good e f).runs tt h refl refl (λ fs a. refl)
+kind_read xs rest (kinds.Word w) at e f h q = part xs (plain (kinds.Word w) at ∷ rest) e [] (good e f).runs tt h refl refl (λ fs a. refl)
+kind_read xs rest kinds.Dashes at e f h q = part xs (plain kinds.Dashes at ∷ rest) e [] (good e f).runs tt h refl refl (λ fs a. refl)
+kind_read xs rest kinds.Equals at e f h q = part xs (plain kinds.Equals at ∷ rest) e [] (good e f).runs tt h refl refl (λ fs a. refl)
+kind_read xs rest kinds.End at e f h q = part xs (plain kinds.End at ∷ rest) e [] (good e f).runs tt h refl refl (λ fs a. refl)
+kind_read xs rest _ at e f h q = absurd q
+
+pub spelled_read : SpelledRead
+spelled_read xs rest (Plain t) e s h = kind_read xs rest t.kind t.place e s.fits s.text h
 spelled_read xs rest (ListOpen b at) e s h = absurd h
 spelled_read xs rest (ListItem b at) e s h = absurd h
 spelled_read xs rest (ListClose at) e s h = absurd h
+
+-- ---- a unit's definition up to such a token
+
+kind_ends : (k : Kind) (at : Place) (n : List ℕ) (p : Place) → EndsKind k → Ends (plain k at) scopes.Unit n p [] (λ ns e. EndsDefinition n p ns e)
+kind_ends (kinds.Name m) at n p q = record { closing = λ fs e. refl; no_case = refl; ends = λ form e. refl }
+kind_ends (kinds.Word w) at n p q = record { closing = λ fs e. refl; no_case = refl; ends = λ form e. refl }
+kind_ends kinds.Dashes at n p q = record { closing = λ fs e. refl; no_case = refl; ends = λ form e. refl }
+kind_ends kinds.Equals at n p q = record { closing = λ fs e. refl; no_case = refl; ends = λ form e. refl }
+kind_ends kinds.End at n p q = record { closing = λ fs e. refl; no_case = refl; ends = λ form e. refl }
+kind_ends _ at n p q = absurd q
+
+kind_defined : (xs rest : List Laid) (k : Kind) (at : Place) (n : List ℕ) (p : Place) (ns : List (List ℕ)) (e : Tree) → (token p (kinds.Name n) ⨟ DefinitionRest ns e) xs (plain k at ∷ rest) → Fits e → EndsKind k
+    → run xs [] (mode.DefinitionName scopes.Unit) ≡ EndsDefinitionAt n p ns e (plain k at ∷ rest)
+kind_defined xs rest k at n p ns e h f q =
+    ap (λ v. run v [] (mode.DefinitionName scopes.Unit)) h.1
+    ∙ definition_reads (kind_ends k at n p q) ns e (good e f).runs (function_good e f) h.0 (plain k at ∷ rest) rest h.2 refl
+
+pub definition_read : DefinitionRead
+definition_read xs rest (Plain t) n p ns e h f q = kind_defined xs rest t.kind t.place n p ns e h f q
+definition_read xs rest (ListOpen b at) n p ns e h f q = absurd q
+definition_read xs rest (ListItem b at) n p ns e h f q = absurd q
+definition_read xs rest (ListClose at) n p ns e h f q = absurd q
+
+-- ---- one tree
 
 same_read : (xs : List Laid) (s t : Tree) → EndsAt s xs ≡ EndsAt t xs → s ≡ t
 same_read xs s t q = cc
@@ -38,9 +69,9 @@ one_between xs ys s t a b =
     let here : List Laid = plain kinds.End at ∷ [] in
     let q : f.front ≡ g.front = append_cancel_right f.front g.front ys (sym f.here ∙ g.here) in
     same_read here s t
-    (sym (end_read (f.front ++ here) [] kinds.End at s a.fits (f.anywhere here) refl)
+    (sym (kind_read (f.front ++ here) [] kinds.End at s a.fits (f.anywhere here) tt)
     ∙ ap (λ v. run (v ++ here) [] mode.Want) q
-    ∙ end_read (g.front ++ here) [] kinds.End at t b.fits (g.anywhere here) refl)
+    ∙ kind_read (g.front ++ here) [] kinds.End at t b.fits (g.anywhere here) tt)
 
 pub one_tree : (laid : List Laid) (s t : Tree) → Spells s laid [] → Spells t laid [] → s ≡ t
 one_tree laid s t a b = one_between laid [] s t a b

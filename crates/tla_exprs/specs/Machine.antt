@@ -1,5 +1,5 @@
 -- What one laid token does to what was read before it: the frames, the innermost first, and what is expected.
-use Rattle.std.specs.Prelude.{ℕ, ◌+◌, Bool, true, false, ◌&&◌, ◌||◌, nat_lt, if◌then◌else◌, List, [], ◌∷◌, ◌++◌, Option, Some, None, nat_eq}
+use Rattle.std.specs.Prelude.{ℕ, Bool, true, false, ◌&&◌, ◌||◌, nat_lt, if◌then◌else◌, List, [], ◌∷◌, ◌++◌, Option, Some, None, nat_eq}
 use Rattle.std.specs.Cmp.Lexicographic.{pointwise}
 use Rattle.trace_base.specs.declared.place.Place.{Place}
 use Rattle.tla_ast.specs.declared.laid.Bullet.{Bullet}
@@ -16,7 +16,6 @@ use Rattle.tla_ast.specs.declared.operators.PrefixOperator.{PrefixOperator}
 use Rattle.tla_ast.specs.declared.operators.PrefixOperator.TheVariants as prefixes
 use Rattle.tla_ast.specs.declared.operators.InfixOperator.{InfixOperator}
 use Rattle.tla_ast.specs.declared.operators.InfixOperator.TheVariants as infixes
-use Rattle.tla_ast.specs.declared.operators.Quantifier.{Quantifier}
 use Rattle.tla_ast.specs.declared.operators.Quantifier.TheVariants as quantifiers
 use Rattle.tla_ast.specs.declared.operators.BuiltinSet.TheVariants as builtins
 use Rattle.tla_ast.specs.Precedence.{Range, prefix_range, infix_range, chains}

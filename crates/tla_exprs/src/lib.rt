@@ -1,12 +1,29 @@
-//! Expressions of TLA+: what their text is, read token by token, and that it spells one tree.
+//! Expressions of TLA+: from laid tokens to syntax trees.
 #![tactic(auto)]
 
+mod behind;
+mod binders;
+mod brackets;
+mod closers;
+mod fault;
+mod folding;
 mod frame;
+mod infix;
+mod joining;
 mod laws;
+mod named;
+mod nesting;
+mod openers;
+mod reader;
+mod stack;
+mod starts;
+mod stepped;
+mod steps;
 mod tree_laws;
 
-pub use frame::{Action, Binder, Binding, Form, Frame, Mode, RecordKind, Scope};
+pub use fault::ParseFault;
 pub use laws::laws_of_reading;
+pub use reader::{definition, expression};
 pub use tree_laws::laws_of_trees;
 
 #[cfg(test)]

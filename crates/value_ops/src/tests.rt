@@ -390,6 +390,33 @@ fn records_are_all(alloc: Global) -> Result<bool, OpFault> {
     Ok(records.contains(&low) && records.contains(&high) && records.len() == 2)
 }
 
+fn one_name(alloc: Global, a: &str) -> Result<Vec<Text>, AllocError>
+    ensures { IfOk result (λ v. v.items ≡ a.now ∷ []) }
+{
+    let mut names = Vec::new(alloc);
+    names.push(Text::from_text(alloc, a)?)?;
+    Ok(names)
+}
+
+fn one(alloc: Global, a: Value) -> Result<Vec<Value>, AllocError>
+    ensures { IfOk result (λ v. v.items ≡ a ∷ []) }
+{
+    let mut values = Vec::new(alloc);
+    values.push(a)?;
+    Ok(values)
+}
+
+/// One name over `{1, 2}` has two records.
+fn records_of_one(alloc: Global) -> Result<bool, OpFault> {
+    let a = Value::string(alloc, Text::from_text(alloc, "a")?)?;
+    let low = single(alloc, &a, &int(1))?;
+    let high = single(alloc, &a, &int(2))?;
+    let names = one_name(alloc, "a")?;
+    let parts = one(alloc, set(alloc, &[1, 2]))?;
+    let records = record_set(alloc, names.as_slice(), parts.as_slice())?;
+    Ok(records.contains(&low) && records.contains(&high) && records.len() == 2)
+}
+
 /// No name has one record, which is empty.
 fn record_of_nothing(alloc: Global) -> Result<bool, OpFault> {
     let one = record_set(alloc, &[], &[])?;
@@ -400,6 +427,7 @@ fn record_of_nothing(alloc: Global) -> Result<bool, OpFault> {
 fn records_are_listed(rt: HostRuntime) {
     let alloc = rt.alloc();
     assert!(rt; records_are_all(alloc) == Ok(true));
+    assert!(rt; records_of_one(alloc) == Ok(true));
     assert!(rt; record_of_nothing(alloc) == Ok(true));
     assert!(rt; refuses(records(alloc, set(alloc, &[]), int(3)), EvalKind::NotSet, 1));
 }

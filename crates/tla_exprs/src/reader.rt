@@ -1,0 +1,107 @@
+//! The reader of expressions and of definitions.
+
+ghost use Rattle.std.specs.Prelude.{◌≡◌, ◌<◌, IfOk, drop, length};
+ghost use Rattle.tla_ast.specs.Fits.{Fits, Spells};
+ghost use Rattle.tla_ast.specs.Grammar.{◌⨟◌, DefinitionRest, token};
+ghost use Rattle.tla_ast.specs.declared.token.Kind.TheVariants as kinds;
+ghost use Rattle.tla_exprs.specs.Ended.{IsRead};
+
+use crate::fault::ParseFault;
+use crate::frame::{Mode, Scope};
+use crate::nesting::unfinished_at;
+use crate::stack::Stack;
+use crate::stepped::Stepped;
+use crate::steps::step;
+use std::alloc::Global;
+use tla_ast::{Definition, Expr, Foreign, Kind, Laid};
+use trace_base::Place;
+
+/// How many unfinished constructs a token may stand inside.
+const DEEPEST: u64 = 100;
+
+/// What was read, and the index behind it.
+#[derive(Drop)]
+pub enum Ended {
+    Expression(Expr, usize),
+    Definition(Definition, usize),
+}
+
+/// The place of a laid token.
+fn place_of(laid: &Laid) -> Place {
+    match laid {
+        Laid::Plain(token) => token.place,
+        Laid::ListOpen(_, at) => *at,
+        Laid::ListItem(_, at) => *at,
+        Laid::ListClose(at) => *at,
+    }
+}
+
+/// The refusal of a token that can not follow.
+fn expected(laid: &Laid) -> ParseFault {
+    match laid {
+        Laid::Plain(token) => match &token.kind {
+            Kind::Foreign(foreign) => ParseFault::OutOfProfile(*foreign, token.place),
+            _ => ParseFault::Expected(token.place),
+        },
+        other => ParseFault::Expected(place_of(other)),
+    }
+}
+
+/// Reads from an index on, until an expression or a definition ends before a token.
+fn read(alloc: Global, laid: &[Laid], from: usize, start: Mode) -> Result<Ended, ParseFault>
+    requires { from < length laid.now }
+    ensures { IfOk result (λ r. IsRead laid.now from start r) }
+{
+    let mut stack = Stack::new(alloc);
+    let mut mode = start;
+    let mut last = place_of(&laid[from]);
+    for i in from..laid.len() {
+        let next = &laid[i];
+        last = place_of(next);
+        let unfinished = stack.unfinished.saturating_add(unfinished_at(&mode));
+        match step(alloc, next, &mut stack, mode)? {
+            Stepped::Reads(behind) => {
+                if unfinished > DEEPEST {
+                    return Err(ParseFault::TooNested(last));
+                }
+                mode = behind;
+            }
+            Stepped::Stops => return Err(expected(next)),
+            Stepped::Clashes(p, q) => return Err(ParseFault::Conflict(p, q)),
+            Stepped::Ends(e) => return Ok(Ended::Expression(e, i)),
+            Stepped::EndsDefinition(definition) => return Ok(Ended::Definition(definition, i)),
+        }
+    }
+    Err(ParseFault::Expected(last))
+}
+
+/// Reads the expression that begins at an index and goes as far as it can, and gives it with the index behind it.
+pub fn expression(alloc: Global, laid: &[Laid], from: usize) -> Result<(Expr, usize), ParseFault>
+    requires { from < length laid.now }
+    ensures spelled { IfOk result (λ r. Spells r.0 (drop from laid.now) (drop r.1 laid.now)) }
+    ensures ahead { IfOk result (λ r. from < r.1) }
+    ensures within { IfOk result (λ r. r.1 < length laid.now) }
+{
+    match read(alloc, laid, from, Mode::Want)? {
+        Ended::Expression(e, behind) => Ok((e, behind)),
+        Ended::Definition(_, behind) => Err(expected(&laid[behind])),
+    }
+}
+
+/// Reads the definition that begins at an index, up to the end of its body, and gives it with the index behind it.
+pub fn definition(
+    alloc: Global,
+    laid: &[Laid],
+    from: usize,
+) -> Result<(Definition, usize), ParseFault>
+    requires { from < length laid.now }
+    ensures spelled { IfOk result (λ r. (token r.0.at (kinds.Name r.0.name) ⨟ DefinitionRest r.0.params r.0.body) (drop from laid.now) (drop r.1 laid.now)) }
+    ensures fits { IfOk result (λ r. Fits r.0.body) }
+    ensures ahead { IfOk result (λ r. from < r.1) }
+    ensures within { IfOk result (λ r. r.1 < length laid.now) }
+{
+    match read(alloc, laid, from, Mode::DefinitionName(Scope::Unit))? {
+        Ended::Definition(definition, behind) => Ok((definition, behind)),
+        Ended::Expression(_, behind) => Err(expected(&laid[behind])),
+    }
+}

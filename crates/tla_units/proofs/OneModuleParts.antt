@@ -1,0 +1,163 @@
+-- The parts of units: names, expressions, definitions and titles are told by their tokens, and so is where each ends.
+use Rattle.std.proofs.Common.{◌≡◌, ℕ, List, [], ◌∷◌, inl, inr, refl, sym, ap, subst, ◌∙◌}
+use Rattle.trace_base.specs.declared.place.Place.{Place}
+use Rattle.tla_ast.specs.declared.laid.Laid.{Laid}
+use Rattle.tla_ast.specs.declared.laid.Laid.TheVariants.{Plain}
+use Rattle.tla_ast.specs.declared.token.Kind.{Kind}
+use Rattle.tla_ast.specs.declared.token.Kind.TheVariants as kinds
+use Rattle.tla_ast.specs.declared.token.Word.TheVariants as words
+use Rattle.tla_ast.specs.declared.token.Symbol.TheVariants as symbols
+use Rattle.tla_ast.specs.declared.expr.Definition.{Definition}
+use Rattle.tla_ast.specs.declared.module.Declared.{Declared}
+use Rattle.tla_ast.specs.Trees as tree
+use Rattle.tla_ast.specs.Trees.{Tree}
+use Rattle.tla_ast.specs.Grammar.{◌⨟◌, token, sign, name, NamesText, DefinitionRest}
+use Rattle.tla_ast.specs.Fits.{Fits, Spells}
+use Rattle.tla_ast.specs.Modules.{DeclaredText, DeclaredNamesText, MaybeTitle, ExtendsText}
+use Rattle.tla_exprs.specs.declared.frame.Mode.TheVariants as mode
+use Rattle.tla_exprs.specs.Machine.{EndsAt, EndsDefinitionAt, run}
+use Rattle.tla_exprs.specs.LawsOfTrees.{SpelledRead, DefinitionRead}
+use Rattle.tla_units.proofs.OneModuleTokens.{IsOfUnits, TextEnds, form_of, form_ends, tail_of, some_behind}
+
+-- ---- names
+
+abbrev name_of : Kind → List ℕ
+name_of (kinds.Name n) = n
+name_of _ = []
+
+abbrev head_name : List Laid → List ℕ
+head_name (Plain t ∷ xs) = name_of t.kind
+head_name _ = []
+
+abbrev head_place : Place → List Laid → Place
+head_place p (Plain t ∷ xs) = t.place
+head_place p _ = p
+
+-- a name at its place
+pub token_same : (n m : List ℕ) (p q : Place) (ws xs ys zs : List Laid) → ws ≡ xs → token p (kinds.Name n) ws ys → token q (kinds.Name m) xs zs → (n ≡ m) × (p ≡ q) × (ys ≡ zs)
+token_same n m p q ws xs ys zs w h g =
+    let here : Plain (record { kind = kinds.Name n; place = p }) ∷ ys ≡ Plain (record { kind = kinds.Name m; place = q }) ∷ zs = sym h ∙ w ∙ g in
+    (ap head_name here, ap (head_place p) here, ap tail_of here)
+
+no_comma : (xs ys : List Laid) → TextEnds xs → sign symbols.Comma xs ys → ⊥
+no_comma xs ys a c = subst TextEnds c.1 a
+
+pub names_same : (ns ms : List (List ℕ)) (xs ys zs : List Laid) → NamesText ns xs ys → NamesText ms xs zs → TextEnds ys → TextEnds zs → (ns ≡ ms) × (ys ≡ zs)
+names_same [] ms xs ys zs h g a b = absurd h
+names_same (n ∷ ns) [] xs ys zs h g a b = absurd g
+names_same (n ∷ []) (m ∷ []) xs ys zs h g a b =
+    let p = token_same n m h.0 g.0 xs xs ys zs refl h.1 g.1 in
+    (ap (λ v. v ∷ []) p.0, p.2)
+names_same (n ∷ []) (m ∷ k ∷ ms) xs ys zs h g a b =
+    let p = token_same n m h.0 g.1.0 xs xs ys g.0 refl h.1 g.1.1 in
+    absurd (no_comma g.0 g.2.0 (subst TextEnds p.2 a) g.2.1)
+names_same (n ∷ l ∷ ns) (m ∷ []) xs ys zs h g a b =
+    let p = token_same n m h.1.0 g.0 xs xs h.0 zs refl h.1.1 g.1 in
+    absurd (no_comma h.0 h.2.0 (subst TextEnds (sym p.2) b) h.2.1)
+names_same (n ∷ l ∷ ns) (m ∷ k ∷ ms) xs ys zs h g a b =
+    let p = token_same n m h.1.0 g.1.0 xs xs h.0 g.0 refl h.1.1 g.1.1 in
+    let q : h.2.0 ≡ g.2.0 = some_behind (kinds.Symbol symbols.Comma) h.0 g.0 h.2.0 g.2.0 p.2 h.2.1 g.2.1 in
+    let r = names_same (l ∷ ns) (k ∷ ms) h.2.0 ys zs h.2.2 (subst (λ v. NamesText (k ∷ ms) v zs) (sym q) g.2.2) a b in
+    (ap (λ v. v ∷ l ∷ ns) p.0 ∙ ap (λ v. m ∷ v) r.0, r.1)
+
+same_declared : (d e : Declared) → d.name ≡ e.name → d.at ≡ e.at → d ≡ e
+same_declared d e n p =
+    let named : List ℕ → Declared = λ v. record { name = v; at = d.at } in
+    let placed : Place → Declared = λ v. record { name = e.name; at = v } in
+    ap named n ∙ ap placed p
+
+declared_same : (d e : Declared) (xs ys zs : List Laid) → DeclaredText d xs ys → DeclaredText e xs zs → (d ≡ e) × (ys ≡ zs)
+declared_same d e xs ys zs h g =
+    let p = token_same d.name e.name d.at e.at xs xs ys zs refl h g in
+    (same_declared d e p.0 p.1, p.2)
+
+pub declared_names_same : (ds es : List Declared) (xs ys zs : List Laid) → DeclaredNamesText ds xs ys → DeclaredNamesText es xs zs → TextEnds ys → TextEnds zs → (ds ≡ es) × (ys ≡ zs)
+declared_names_same [] es xs ys zs h g a b = absurd h
+declared_names_same (d ∷ ds) [] xs ys zs h g a b = absurd g
+declared_names_same (d ∷ []) (e ∷ []) xs ys zs h g a b =
+    let p = declared_same d e xs ys zs h g in
+    (ap (λ v. v ∷ []) p.0, p.1)
+declared_names_same (d ∷ []) (e ∷ f ∷ es) xs ys zs h g a b =
+    let p = declared_same d e xs ys g.0 h g.1 in
+    absurd (no_comma g.0 g.2.0 (subst TextEnds p.1 a) g.2.1)
+declared_names_same (d ∷ c ∷ ds) (e ∷ []) xs ys zs h g a b =
+    let p = declared_same d e xs h.0 zs h.1 g in
+    absurd (no_comma h.0 h.2.0 (subst TextEnds (sym p.1) b) h.2.1)
+declared_names_same (d ∷ c ∷ ds) (e ∷ f ∷ es) xs ys zs h g a b =
+    let p = declared_same d e xs h.0 g.0 h.1 g.1 in
+    let q : h.2.0 ≡ g.2.0 = some_behind (kinds.Symbol symbols.Comma) h.0 g.0 h.2.0 g.2.0 p.1 h.2.1 g.2.1 in
+    let r = declared_names_same (c ∷ ds) (f ∷ es) h.2.0 ys zs h.2.2 (subst (λ v. DeclaredNamesText (f ∷ es) v zs) (sym q) g.2.2) a b in
+    (ap (λ v. v ∷ c ∷ ds) p.0 ∙ ap (λ v. e ∷ v) r.0, r.1)
+
+-- the names of what is extended, before units
+pub extends_same : (ns ms : List (List ℕ)) (xs ys zs : List Laid) → ExtendsText ns xs ys → ExtendsText ms xs zs → IsOfUnits (form_of ys) → IsOfUnits (form_of zs) → (ns ≡ ms) × (ys ≡ zs)
+extends_same [] [] xs ys zs h g a b = (refl, sym h ∙ g)
+extends_same [] (m ∷ ms) xs ys zs h g a b = absurd (subst (λ v. IsOfUnits (form_of v)) (sym h ∙ g.1.1) a)
+extends_same (n ∷ ns) [] xs ys zs h g a b = absurd (subst (λ v. IsOfUnits (form_of v)) (sym g ∙ h.1.1) b)
+extends_same (n ∷ ns) (m ∷ ms) xs ys zs h g a b =
+    let q : h.0 ≡ g.0 = some_behind (kinds.Word words.Extends) xs xs h.0 g.0 refl h.1 g.1 in
+    names_same (n ∷ ns) (m ∷ ms) h.0 ys zs h.2 (subst (λ v. NamesText (m ∷ ms) v zs) (sym q) g.2) (form_ends ys a) (form_ends zs b)
+
+-- ---- expressions
+
+ended_tree : (e f : Tree) (ys zs : List Laid) → EndsAt e ys ≡ EndsAt f zs → e ≡ f
+ended_tree e f ys zs q = cc
+
+ended_behind : (e f : Tree) (ys zs : List Laid) → EndsAt e ys ≡ EndsAt f zs → ys ≡ zs
+ended_behind e f ys zs q = cc
+
+expression_same : SpelledRead → (e f : Tree) (xs ys zs : List Laid) → Spells e xs ys → Spells f xs zs → TextEnds ys → TextEnds zs → (e ≡ f) × (ys ≡ zs)
+expression_same read e f xs [] zs s t a b = absurd a
+expression_same read e f xs (y ∷ ys) [] s t a b = absurd b
+expression_same read e f xs (y ∷ ys) (z ∷ zs) s t a b =
+    let q : EndsAt e (y ∷ ys) ≡ EndsAt f (z ∷ zs) = sym (read xs ys y e s a) ∙ read xs zs z f t b in
+    (ended_tree e f (y ∷ ys) (z ∷ zs) q, ended_behind e f (y ∷ ys) (z ∷ zs) q)
+
+-- ---- titles
+
+-- an expression that begins with a name is not followed by `==` behind the name
+no_title : SpelledRead → (e : Tree) (n : List ℕ) (xs ys zs : List Laid) → Spells e xs ys → TextEnds ys → (name n ⨟ sign symbols.Defined) xs zs → ⊥
+no_title read e n xs [] zs s a h = a
+no_title read e n xs (y ∷ ys) zs s a h =
+    let whole : xs ≡ Plain (record { kind = kinds.Name n; place = h.1.0 }) ∷ Plain (record { kind = kinds.Symbol symbols.Defined; place = h.2.0 }) ∷ zs =
+    h.1.1 ∙ ap (λ v. Plain (record { kind = kinds.Name n; place = h.1.0 }) ∷ v) h.2.1 in
+    let q : EndsAt e (y ∷ ys) ≡ EndsAt (tree.Name h.1.0 n) (Plain (record { kind = kinds.Symbol symbols.Defined; place = h.2.0 }) ∷ zs) =
+    sym (read xs ys y e s a) ∙ ap (λ v. run v [] mode.Want) whole in
+    subst TextEnds (ended_behind e (tree.Name h.1.0 n) (y ∷ ys) (Plain (record { kind = kinds.Symbol symbols.Defined; place = h.2.0 }) ∷ zs) q) a
+
+title_tail : (n : List ℕ) (xs ys : List Laid) → (name n ⨟ sign symbols.Defined) xs ys → tail_of (tail_of xs) ≡ ys
+title_tail n xs ys h = ap (λ v. tail_of (tail_of v)) h.1.1 ∙ ap tail_of h.2.1
+
+-- an expression behind a title, or with none
+pub titled_same : SpelledRead → (e f : Tree) (xs us vs ys zs : List Laid) → MaybeTitle xs us → MaybeTitle xs vs → Spells e us ys → Spells f vs zs → TextEnds ys → TextEnds zs → (e ≡ f) × (ys ≡ zs)
+titled_same read e f xs us vs ys zs (inl h) (inl g) s t a b = expression_same read e f us ys zs s (subst (λ v. Spells f v zs) (sym g ∙ h) t) a b
+titled_same read e f xs us vs ys zs (inl h) (inr g) s t a b = absurd (no_title read e g.0 xs ys vs (subst (λ v. Spells e v ys) (sym h) s) a g.1)
+titled_same read e f xs us vs ys zs (inr h) (inl g) s t a b = absurd (no_title read f h.0 xs zs us (subst (λ v. Spells f v zs) (sym g) t) b h.1)
+titled_same read e f xs us vs ys zs (inr h) (inr g) s t a b =
+    let q : us ≡ vs = sym (title_tail h.0 xs us h.1) ∙ title_tail g.0 xs vs g.1 in
+    expression_same read e f us ys zs s (subst (λ v. Spells f v zs) (sym q) t) a b
+
+-- ---- definitions
+
+same_definition : (d e : Definition) (ys zs : List Laid) → EndsDefinitionAt d.name d.at d.params d.body ys ≡ EndsDefinitionAt e.name e.at e.params e.body zs → d ≡ e
+same_definition d e ys zs q =
+    let n : d.name ≡ e.name = cc in
+    let p : d.at ≡ e.at = cc in
+    let ns : d.params ≡ e.params = cc in
+    let b : d.body ≡ e.body = cc in
+    let named : List ℕ → Definition = λ v. record { name = v; at = d.at; params = d.params; body = d.body } in
+    let placed : Place → Definition = λ v. record { name = e.name; at = v; params = d.params; body = d.body } in
+    let given : List (List ℕ) → Definition = λ v. record { name = e.name; at = e.at; params = v; body = d.body } in
+    let whole : Tree → Definition = λ v. record { name = e.name; at = e.at; params = e.params; body = v } in
+    ap named n ∙ ap placed p ∙ ap given ns ∙ ap whole b
+
+definition_behind : (n m : List ℕ) (p q : Place) (ns ms : List (List ℕ)) (e f : Tree) (ys zs : List Laid) → EndsDefinitionAt n p ns e ys ≡ EndsDefinitionAt m q ms f zs → ys ≡ zs
+definition_behind n m p q ns ms e f ys zs r = cc
+
+pub definition_same : DefinitionRead → (d e : Definition) (xs ys zs : List Laid) → (token d.at (kinds.Name d.name) ⨟ DefinitionRest d.params d.body) xs ys → (token e.at (kinds.Name e.name) ⨟ DefinitionRest e.params e.body) xs zs → Fits d.body → Fits e.body → TextEnds ys → TextEnds zs → (d ≡ e) × (ys ≡ zs)
+definition_same read d e xs [] zs h g f k a b = absurd a
+definition_same read d e xs (y ∷ ys) [] h g f k a b = absurd b
+definition_same read d e xs (y ∷ ys) (z ∷ zs) h g f k a b =
+    let q : EndsDefinitionAt d.name d.at d.params d.body (y ∷ ys) ≡ EndsDefinitionAt e.name e.at e.params e.body (z ∷ zs) =
+    sym (read xs ys y d.name d.at d.params d.body h f a) ∙ read xs zs z e.name e.at e.params e.body g k b in
+    (same_definition d e (y ∷ ys) (z ∷ zs) q, definition_behind d.name e.name d.at e.at d.params e.params d.body e.body (y ∷ ys) (z ∷ zs) q)

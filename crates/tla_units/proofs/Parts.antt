@@ -1,0 +1,98 @@
+-- Parts of the slice: one behind another, lists that grow at their end, and the units and the module that they make.
+use Rattle.std.specs.Prelude.{◌≡◌, ℕ, ◌+◌, ◌<◌, ◌≤◌, List, [], ◌∷◌, ◌++◌, drop, length, refl}
+use Rattle.std.proofs.Common.{sym, subst, inl, inr, arith}
+use Rattle.tla_ast.specs.declared.laid.Laid.{Laid}
+use Rattle.tla_ast.specs.declared.token.Kind.TheVariants as kinds
+use Rattle.tla_ast.specs.declared.token.Word.TheVariants as words
+use Rattle.tla_ast.specs.declared.token.Symbol.TheVariants as symbols
+use Rattle.tla_ast.specs.declared.expr.Definition.{Definition}
+use Rattle.tla_ast.specs.declared.module.Declared.{Declared}
+use Rattle.tla_ast.specs.declared.module.Unit.{Unit as ModuleUnit}
+use Rattle.tla_ast.specs.declared.module.Unit.TheVariants as units
+use Rattle.tla_ast.specs.Trees.{Tree}
+use Rattle.tla_ast.specs.Grammar.{Span, ◌⨟◌, token, sign, word, name, some_token, NamesText, DefinitionRest}
+use Rattle.tla_ast.specs.Fits.{Spells}
+use Rattle.tla_ast.specs.Modules.{DeclaredText, DeclaredNamesText, UnitText, UnitsText, UnitFits, UnitsFit, MaybeTitle, ExtendsText, SpellsModule, variable_word, constant_word, assume_word, theorem_word}
+use Rattle.tla_units.specs.Parts.{Part}
+
+-- ---- lists that grow at their end
+
+more_declared : (ds : List Declared) (d : Declared) (ws xs ys zs : List Laid) → DeclaredNamesText ds ws xs → sign symbols.Comma xs ys → DeclaredText d ys zs → DeclaredNamesText (ds ++ d ∷ []) ws zs
+more_declared [] d ws xs ys zs h c t = absurd h
+more_declared (e ∷ []) d ws xs ys zs h c t = (xs, h, (ys, c, t))
+more_declared (e ∷ f ∷ ds) d ws xs ys zs h c t = (h.0, h.1, (h.2.0, h.2.1, more_declared (f ∷ ds) d h.2.0 xs ys zs h.2.2 c t))
+
+more_names : (ns : List (List ℕ)) (n : List ℕ) (ws xs ys zs : List Laid) → NamesText ns ws xs → sign symbols.Comma xs ys → name n ys zs → NamesText (ns ++ n ∷ []) ws zs
+more_names [] n ws xs ys zs h c t = absurd h
+more_names (e ∷ []) n ws xs ys zs h c t = (xs, h, (ys, c, t))
+more_names (e ∷ f ∷ ns) n ws xs ys zs h c t = (h.0, h.1, (h.2.0, h.2.1, more_names (f ∷ ns) n h.2.0 xs ys zs h.2.2 c t))
+
+more_units : (us : List ModuleUnit) (u : ModuleUnit) (xs ys zs : List Laid) → UnitsText us xs ys → UnitText u ys zs → UnitsText (us ++ u ∷ []) xs zs
+more_units [] u xs ys zs h t = (zs, subst (λ x. UnitText u x zs) (sym h) t, refl)
+more_units (v ∷ us) u xs ys zs h t = (h.0, h.1, more_units us u h.0 ys zs h.2 t)
+
+more_fit : (us : List ModuleUnit) (u : ModuleUnit) → UnitsFit us → UnitFits u → UnitsFit (us ++ u ∷ [])
+more_fit [] u h t = (t, tt)
+more_fit (v ∷ us) u h t = (h.0, more_fit us u h.1 t)
+
+-- ---- names
+
+pub one_declared : (d : Declared) (ds : List Declared) (xs : List Laid) (a b : ℕ) → Part (DeclaredText d) xs a b → ds ≡ [] ++ d ∷ [] → Part (DeclaredNamesText ds) xs a b
+one_declared d ds xs a b p e = subst (λ l. Part (DeclaredNamesText l) xs a b) (sym e) (record { text = p.text; ahead = p.ahead; within = p.within })
+
+pub one_more_declared : (ds es : List Declared) (d : Declared) (xs : List Laid) (a b c : ℕ) → Part (DeclaredNamesText ds) xs a b → Part (sign symbols.Comma) xs b (b + 1) → Part (DeclaredText d) xs (b + 1) c → es ≡ ds ++ d ∷ [] → Part (DeclaredNamesText es) xs a c
+one_more_declared ds es d xs a b c p q r e =
+    let a_b : a < b = p.ahead in
+    let b_c : b + 1 < c = r.ahead in
+    subst (λ l. Part (DeclaredNamesText l) xs a c) (sym e)
+    (record { text = more_declared ds d (drop a xs) (drop b xs) (drop (b + 1) xs) (drop c xs) p.text q.text r.text; ahead = omega (arith, a_b, b_c); within = r.within })
+
+pub one_name : (d : Declared) (ns : List (List ℕ)) (xs : List Laid) (a b : ℕ) → Part (DeclaredText d) xs a b → ns ≡ [] ++ d.name ∷ [] → Part (NamesText ns) xs a b
+one_name d ns xs a b p e = subst (λ l. Part (NamesText l) xs a b) (sym e) (record { text = (d.at, p.text); ahead = p.ahead; within = p.within })
+
+pub one_more_name : (ns ms : List (List ℕ)) (d : Declared) (xs : List Laid) (a b c : ℕ) → Part (NamesText ns) xs a b → Part (sign symbols.Comma) xs b (b + 1) → Part (DeclaredText d) xs (b + 1) c → ms ≡ ns ++ d.name ∷ [] → Part (NamesText ms) xs a c
+one_more_name ns ms d xs a b c p q r e =
+    let a_b : a < b = p.ahead in
+    let b_c : b + 1 < c = r.ahead in
+    subst (λ l. Part (NamesText l) xs a c) (sym e)
+    (record { text = more_names ns d.name (drop a xs) (drop b xs) (drop (b + 1) xs) (drop c xs) p.text q.text (d.at, r.text); ahead = omega (arith, a_b, b_c); within = r.within })
+
+pub some_extended : (ns : List (List ℕ)) (xs : List Laid) (a b : ℕ) → Part (word words.Extends) xs a (a + 1) → Part (NamesText ns) xs (a + 1) b → ExtendsText ns (drop a xs) (drop b xs)
+some_extended [] xs a b p q = absurd q.text
+some_extended (n ∷ ns) xs a b p q = (drop (a + 1) xs, p.text, q.text)
+
+-- ---- units
+
+pub variables_unit : (ds : List Declared) (xs : List Laid) (a b : ℕ) → Part variable_word xs a (a + 1) → Part (DeclaredNamesText ds) xs (a + 1) b → Part (UnitText (units.Variables ds)) xs a b
+variables_unit ds xs a b p q =
+    let a_b : a + 1 < b = q.ahead in
+    record { text = (drop (a + 1) xs, p.text, q.text); ahead = omega (arith, a_b); within = q.within }
+
+pub constants_unit : (ds : List Declared) (xs : List Laid) (a b : ℕ) → Part constant_word xs a (a + 1) → Part (DeclaredNamesText ds) xs (a + 1) b → Part (UnitText (units.Constants ds)) xs a b
+constants_unit ds xs a b p q =
+    let a_b : a + 1 < b = q.ahead in
+    record { text = (drop (a + 1) xs, p.text, q.text); ahead = omega (arith, a_b); within = q.within }
+
+pub define_unit : (d : Definition) (xs : List Laid) (a b : ℕ) → (token d.at (kinds.Name d.name) ⨟ DefinitionRest d.params d.body) (drop a xs) (drop b xs) → a < b → b < length xs → Part (UnitText (units.Define d)) xs a b
+define_unit d xs a b h lt within = record { text = h; ahead = lt; within = within }
+
+pub assume_unit : (e : Tree) (xs : List Laid) (a s b : ℕ) → Part assume_word xs a (a + 1) → MaybeTitle (drop (a + 1) xs) (drop s xs) → a + 1 ≤ s → Spells e (drop s xs) (drop b xs) → s < b → b < length xs → Part (UnitText (units.Assume e)) xs a b
+assume_unit e xs a s b p title ge h lt within = record { text = (drop (a + 1) xs, p.text, (drop s xs, title, h.text)); ahead = omega (arith, ge, lt); within = within }
+
+pub theorem_unit : (e : Tree) (xs : List Laid) (a s b : ℕ) → Part theorem_word xs a (a + 1) → MaybeTitle (drop (a + 1) xs) (drop s xs) → a + 1 ≤ s → Spells e (drop s xs) (drop b xs) → s < b → b < length xs → Part (UnitText units.Passed) xs a b
+theorem_unit e xs a s b p title ge h lt within = record { text = inr (drop (a + 1) xs, p.text, (drop s xs, title, (e, h))); ahead = omega (arith, ge, lt); within = within }
+
+pub dashes_unit : (xs : List Laid) (a b : ℕ) → Part (some_token kinds.Dashes) xs a b → Part (UnitText units.Passed) xs a b
+dashes_unit xs a b p = record { text = inl p.text; ahead = p.ahead; within = p.within }
+
+pub one_more_unit : (us vs : List ModuleUnit) (u : ModuleUnit) (xs : List Laid) (a b c : ℕ) → UnitsText us (drop a xs) (drop b xs) → Part (UnitText u) xs b c → vs ≡ us ++ u ∷ [] → UnitsText vs (drop a xs) (drop c xs)
+one_more_unit us vs u xs a b c h p e = subst (λ l. UnitsText l (drop a xs) (drop c xs)) (sym e) (more_units us u (drop a xs) (drop b xs) (drop c xs) h p.text)
+
+pub one_more_fits : (us vs : List ModuleUnit) (u : ModuleUnit) → UnitsFit us → UnitFits u → vs ≡ us ++ u ∷ [] → UnitsFit vs
+one_more_fits us vs u h f e = subst UnitsFit (sym e) (more_fit us u h f)
+
+-- ---- the module
+
+pub whole_module : (d : Declared) (ns : List (List ℕ)) (us : List ModuleUnit) (xs : List Laid) (a b c e f g h : ℕ) → Part (some_token kinds.Dashes) xs 0 a → Part (word words.Module) xs a b → Part (DeclaredText d) xs b c → Part (some_token kinds.Dashes) xs c e → ExtendsText ns (drop e xs) (drop f xs) → UnitsText us (drop f xs) (drop g xs) → UnitsFit us → Part (some_token kinds.Equals) xs g h → some_token kinds.End (drop h xs) [] → SpellsModule (record { name = d.name; at = d.at; extends = ns; units = us }) xs
+whole_module d ns us xs a b c e f g h first heading named second extended spelled fits equals end =
+    record { text = (drop a xs, first.text, (drop b xs, heading.text, (drop c xs, named.text, (drop e xs, second.text, (drop f xs, extended, (drop g xs, spelled, (drop h xs, equals.text, end))))))); fits = fits }

@@ -1,0 +1,10 @@
+-- The law between junction lists and modules: what is marked ends as the tokens do.
+use Rattle.std.specs.Prelude.{List}
+use Rattle.tla_ast.specs.declared.token.Token.{Token}
+use Rattle.tla_ast.specs.declared.laid.Laid.{Laid}
+use Rattle.tla_ast.specs.Laid.{EndsOnce, IsLaid}
+use Rattle.tla_ast.specs.Modules.{LaidEndsOnce}
+
+-- where the last token is the End and no other is, the same holds of the tokens with their lists marked
+abbrev pub MarkedEndsOnce : Type 0
+MarkedEndsOnce = (tokens : List Token) (laid : List Laid) → EndsOnce tokens → IsLaid tokens laid → LaidEndsOnce laid

@@ -1,0 +1,4 @@
+pub mod Faults
+pub mod LaidEnds
+pub mod LawsOfModules
+pub mod Parts

@@ -1,0 +1,23 @@
+//! Modules of TLA+: from laid tokens to syntax trees.
+#![tactic(auto)]
+
+mod extends;
+mod fault;
+mod laid_ends;
+mod marks;
+mod module_laws;
+mod names;
+mod reader;
+mod units;
+
+pub use laid_ends::laid_ends_once;
+pub use module_laws::one_module;
+pub use reader::module;
+pub use tla_exprs::ParseFault;
+
+#[cfg(test)]
+mod modules;
+#[cfg(test)]
+mod tests;
+#[cfg(test)]
+mod worked;

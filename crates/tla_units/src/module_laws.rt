@@ -1,0 +1,12 @@
+//! The law of laid tokens and the modules that they spell.
+
+ghost use Rattle.tla_units.specs.LawsOfModules.{OneModule};
+
+use tla_exprs::laws_of_trees;
+
+/// Laid tokens spell one module.
+pub fn one_module()
+    ensures { OneModule }
+{
+    laws_of_trees();
+}
