@@ -53,16 +53,27 @@ theorem_word = either (either (word words.Theorem) (word words.Lemma)) (either (
 abbrev pub SomeExpression : Span
 SomeExpression xs ys = (e : Tree) × Spells e xs ys
 
+-- the same where ranges play no part
+abbrev pub SomeText : Span
+SomeText xs ys = (e : Tree) × Text e xs ys
+
+-- a unit, with what stands behind the title of a theorem
+abbrev pub UnitTextBy : Span → ModuleUnit → Span
+UnitTextBy some (Variables ds) = variable_word ⨟ DeclaredNamesText ds
+UnitTextBy some (Constants ds) = constant_word ⨟ DeclaredNamesText ds
+UnitTextBy some (Define d) = token d.at (kinds.Name d.name) ⨟ DefinitionRest d.params d.body
+UnitTextBy some (Assume e) = assume_word ⨟ MaybeTitle ⨟ Text e
+UnitTextBy some Passed = either (some_token kinds.Dashes) (theorem_word ⨟ MaybeTitle ⨟ some)
+
 abbrev pub UnitText : ModuleUnit → Span
-UnitText (Variables ds) = variable_word ⨟ DeclaredNamesText ds
-UnitText (Constants ds) = constant_word ⨟ DeclaredNamesText ds
-UnitText (Define d) = token d.at (kinds.Name d.name) ⨟ DefinitionRest d.params d.body
-UnitText (Assume e) = assume_word ⨟ MaybeTitle ⨟ Text e
-UnitText Passed = either (some_token kinds.Dashes) (theorem_word ⨟ MaybeTitle ⨟ SomeExpression)
+UnitText u = UnitTextBy SomeExpression u
+
+abbrev pub UnitsTextBy : Span → List ModuleUnit → Span
+UnitsTextBy some [] = nothing
+UnitsTextBy some (u ∷ us) = UnitTextBy some u ⨟ UnitsTextBy some us
 
 abbrev pub UnitsText : List ModuleUnit → Span
-UnitsText [] = nothing
-UnitsText (u ∷ us) = UnitText u ⨟ UnitsText us
+UnitsText us = UnitsTextBy SomeExpression us
 
 -- the ranges on the edges of what a unit defines or assumes
 abbrev pub UnitFits : ModuleUnit → Type 0
@@ -80,8 +91,11 @@ abbrev pub ExtendsText : List (List ℕ) → Span
 ExtendsText [] = nothing
 ExtendsText (n ∷ ns) = word words.Extends ⨟ NamesText (n ∷ ns)
 
+abbrev pub ModuleTextBy : Span → Module → Span
+ModuleTextBy some m = some_token kinds.Dashes ⨟ word words.Module ⨟ token m.at (kinds.Name m.name) ⨟ some_token kinds.Dashes ⨟ ExtendsText m.extends ⨟ UnitsTextBy some m.units ⨟ some_token kinds.Equals ⨟ some_token kinds.End
+
 abbrev pub ModuleText : Module → Span
-ModuleText m = some_token kinds.Dashes ⨟ word words.Module ⨟ token m.at (kinds.Name m.name) ⨟ some_token kinds.Dashes ⨟ ExtendsText m.extends ⨟ UnitsText m.units ⨟ some_token kinds.Equals ⨟ some_token kinds.End
+ModuleText m = ModuleTextBy SomeExpression m
 
 -- the laid tokens, all of them, spell the module
 pub record SpellsModule (m : Module) (laid : List Laid) : Type 0 where

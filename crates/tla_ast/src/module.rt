@@ -124,6 +124,15 @@ impl Units {
         Ok(())
     }
 
+    /// Adds the units of another list behind these. On a refusal the list is as it was.
+    pub fn append(&mut self, mut more: Units) -> Result<(), NoMemory>
+        ensures appended { OnOk result (self.new ≡ self.old ++ more) }
+        ensures kept { OnErr result (self.new ≡ self.old) }
+    {
+        self.items.append(&mut more.items)?;
+        Ok(())
+    }
+
     /// How many units there are.
     pub fn len(&self) -> usize
         ensures { result ≡ length self.now }

@@ -10,7 +10,7 @@ use Rattle.tla_ast.specs.Precedence.{Range, Above, infix_symbol, prefix_range, i
 use Rattle.tla_ast.specs.Grammar.{Text}
 use Rattle.tla_ast.specs.Fits.{Fits, LeftAbove, RightAbove, EndsNoCase}
 use Rattle.tla_ast.specs.Trees as tree
-use Rattle.tla_ast.specs.Trees.{Tree, First, Next}
+use Rattle.tla_ast.specs.Trees.{Tree, First}
 use Rattle.tla_exprs.specs.declared.frame.Frame.{Frame}
 use Rattle.tla_exprs.specs.declared.frame.Frame.TheVariants as frame
 use Rattle.tla_exprs.specs.Machine.{Stepped, want, above, operator_number, goes_on, infix_step}

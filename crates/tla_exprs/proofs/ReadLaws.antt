@@ -15,6 +15,7 @@ use Rattle.tla_exprs.specs.declared.reader.Ended.{Ended}
 use Rattle.tla_exprs.specs.declared.reader.Ended.TheVariants as ended
 use Rattle.tla_exprs.proofs.Reading.{read_spells, definition_spells}
 use Rattle.tla_exprs.proofs.Ahead.{expression_ahead, definition_ahead}
+use Rattle.tla_exprs.proofs.NoUnits.{no_definition, no_expression}
 
 spelled : (laid : List Laid) (from i : ℕ) (e : Tree) → IsRead laid from mode.Want (ended.Expression e i) → Spells e (drop from laid) (drop i laid)
 unfolding kept_run
@@ -36,6 +37,14 @@ behind : (laid : List Laid) (from i : ℕ) (d : Definition) → from < length la
 unfolding kept_run
 behind laid from i d f q = definition_ahead laid from i scopes.Unit d.name d.at d.params d.body f q.within q.ends
 
+no_unit : (laid : List Laid) (from i : ℕ) (d : Definition) → IsRead laid from mode.Want (ended.Definition d i) → ⊥
+unfolding kept_run
+no_unit laid from i d q = no_definition (drop from laid) (drop i laid) d.name d.at d.params d.body q.ends
+
+no_body : (laid : List Laid) (from i : ℕ) (e : Tree) → IsRead laid from (mode.DefinitionName scopes.Unit) (ended.Expression e i) → ⊥
+unfolding kept_run
+no_body laid from i e q = no_expression (drop from laid) (drop i laid) e q.ends
+
 -- what was read, at its form
 at_form : (laid : List Laid) (from : ℕ) (start : Mode) (r s : Ended) → IsRead laid from start r → r ≡ s → IsRead laid from start s
 at_form laid from start r s q p = subst (λ t. IsRead laid from start t) p q
@@ -54,3 +63,9 @@ definition_fits laid from i d r q p = fits laid from i d (at_form laid from (mod
 
 pub definition_on : (laid : List Laid) (from i : ℕ) (d : Definition) (r : Ended) → from < length laid → IsRead laid from (mode.DefinitionName scopes.Unit) r → r ≡ ended.Definition d i → from < i
 definition_on laid from i d r f q p = behind laid from i d f (at_form laid from (mode.DefinitionName scopes.Unit) r (ended.Definition d i) q p)
+
+pub expression_only : (laid : List Laid) (from i : ℕ) (d : Definition) (r : Ended) → IsRead laid from mode.Want r → r ≡ ended.Definition d i → ⊥
+expression_only laid from i d r q p = no_unit laid from i d (at_form laid from mode.Want r (ended.Definition d i) q p)
+
+pub definition_only : (laid : List Laid) (from i : ℕ) (e : Tree) (r : Ended) → IsRead laid from (mode.DefinitionName scopes.Unit) r → r ≡ ended.Expression e i → ⊥
+definition_only laid from i e r q p = no_body laid from i e (at_form laid from (mode.DefinitionName scopes.Unit) r (ended.Expression e i) q p)

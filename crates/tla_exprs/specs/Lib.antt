@@ -3,6 +3,9 @@ pub mod Ended
 pub mod FieldNames
 pub mod Kept
 pub mod Laws
+pub mod LawsOfRefusals
 pub mod LawsOfTrees
 pub mod Machine
 pub mod Passes
+pub mod Refusals
+pub mod Refused

@@ -21,7 +21,7 @@ use Rattle.tla_ast.specs.declared.operators.BuiltinSet.TheVariants as builtins
 use Rattle.tla_ast.specs.Precedence.{Range, prefix_range, infix_range, chains}
 use Rattle.tla_ast.specs.Grammar.{begins_member}
 use Rattle.tla_ast.specs.Trees as tree
-use Rattle.tla_ast.specs.Trees.{Tree, Trees, NoTrees, MoreTrees, Operands, First, Next, Step, Steps, NoSteps, MoreSteps, Bounds, NoBounds, MoreBounds, Fields, NoFields, MoreFields, Changes, NoChanges, MoreChanges, Arms, NoArms, MoreArms, Definitions, NoDefinitions, MoreDefinitions}
+use Rattle.tla_ast.specs.Trees.{Tree, Trees, NoTrees, MoreTrees, Operands, First, Next, Step, Steps, NoSteps, MoreSteps, Bounds, NoBounds, MoreBounds, Fields, NoFields, MoreFields, Changes, NoChanges, MoreChanges, Arms, NoArms, MoreArms, NoDefinitions, MoreDefinitions}
 use Rattle.tla_exprs.specs.declared.frame.Action.{Action}
 use Rattle.tla_exprs.specs.declared.frame.Action.TheVariants as actions
 use Rattle.tla_exprs.specs.declared.frame.RecordKind.{RecordKind}

@@ -15,6 +15,7 @@ mod named;
 mod nesting;
 mod openers;
 mod reader;
+mod refusal_laws;
 mod stack;
 mod starts;
 mod stepped;
@@ -24,7 +25,5 @@ mod tree_laws;
 pub use fault::ParseFault;
 pub use laws::laws_of_reading;
 pub use reader::{definition, expression};
+pub use refusal_laws::laws_of_refusals;
 pub use tree_laws::laws_of_trees;
-
-#[cfg(test)]
-mod tests;

@@ -1,10 +1,12 @@
 //! The reader of expressions and of definitions.
 
-ghost use Rattle.std.specs.Prelude.{◌≡◌, ◌<◌, IfOk, drop, length};
+ghost use Rattle.std.specs.Prelude.{◌≡◌, ◌<◌, IfOk, IfErr, drop, length};
 ghost use Rattle.tla_ast.specs.Fits.{Fits, Spells};
 ghost use Rattle.tla_ast.specs.Grammar.{◌⨟◌, DefinitionRest, token};
 ghost use Rattle.tla_ast.specs.declared.token.Kind.TheVariants as kinds;
 ghost use Rattle.tla_exprs.specs.Ended.{IsRead};
+ghost use Rattle.tla_exprs.specs.Refusals.{GoesAsFar, IsRefused};
+ghost use Rattle.tla_exprs.specs.Refused.{Refuses, place_of, refusal_of};
 
 use crate::fault::ParseFault;
 use crate::frame::{Mode, Scope};
@@ -27,7 +29,9 @@ pub enum Ended {
 }
 
 /// The place of a laid token.
-fn place_of(laid: &Laid) -> Place {
+fn place_of(laid: &Laid) -> Place
+    ensures { result ≡ place_of laid.now }
+{
     match laid {
         Laid::Plain(token) => token.place,
         Laid::ListOpen(_, at) => *at,
@@ -37,7 +41,9 @@ fn place_of(laid: &Laid) -> Place {
 }
 
 /// The refusal of a token that can not follow.
-fn expected(laid: &Laid) -> ParseFault {
+fn expected(laid: &Laid) -> ParseFault
+    ensures { result ≡ refusal_of laid.now }
+{
     match laid {
         Laid::Plain(token) => match &token.kind {
             Kind::Foreign(foreign) => ParseFault::OutOfProfile(*foreign, token.place),
@@ -50,7 +56,8 @@ fn expected(laid: &Laid) -> ParseFault {
 /// Reads from an index on, until an expression or a definition ends before a token.
 fn read(alloc: Global, laid: &[Laid], from: usize, start: Mode) -> Result<Ended, ParseFault>
     requires { from < length laid.now }
-    ensures { IfOk result (λ r. IsRead laid.now from start r) }
+    ensures read { IfOk result (λ r. IsRead laid.now from start r) }
+    ensures refused { IfErr result (λ e. Refuses laid.now from start e) }
 {
     let mut stack = Stack::new(alloc);
     let mut mode = start;
@@ -76,11 +83,15 @@ fn read(alloc: Global, laid: &[Laid], from: usize, start: Mode) -> Result<Ended,
 }
 
 /// Reads the expression that begins at an index and goes as far as it can, and gives it with the index behind it.
+///
+/// It ends before the first token that no text goes on through. A refusal is that of the earliest token that has one.
 pub fn expression(alloc: Global, laid: &[Laid], from: usize) -> Result<(Expr, usize), ParseFault>
     requires { from < length laid.now }
     ensures spelled { IfOk result (λ r. Spells r.0 (drop from laid.now) (drop r.1 laid.now)) }
     ensures ahead { IfOk result (λ r. from < r.1) }
     ensures within { IfOk result (λ r. r.1 < length laid.now) }
+    ensures far { IfOk result (λ r. GoesAsFar laid.now from r.1) }
+    ensures refused { IfErr result (λ e. IsRefused (drop from laid.now) e) }
 {
     match read(alloc, laid, from, Mode::Want)? {
         Ended::Expression(e, behind) => Ok((e, behind)),
@@ -99,6 +110,7 @@ pub fn definition(
     ensures fits { IfOk result (λ r. Fits r.0.body) }
     ensures ahead { IfOk result (λ r. from < r.1) }
     ensures within { IfOk result (λ r. r.1 < length laid.now) }
+    ensures refused { IfErr result (λ e. Refuses laid.now from (Mode.DefinitionName Scope.Unit) e) }
 {
     match read(alloc, laid, from, Mode::DefinitionName(Scope::Unit))? {
         Ended::Definition(definition, behind) => Ok((definition, behind)),

@@ -6,7 +6,7 @@ use Rattle.tla_ast.specs.declared.token.Kind.{Kind}
 use Rattle.tla_ast.specs.declared.token.Kind.TheVariants as kinds
 use Rattle.tla_ast.specs.declared.laid.Laid.{Laid}
 use Rattle.tla_ast.specs.declared.laid.Laid.TheVariants.{Plain, ListOpen, ListItem, ListClose}
-use Rattle.tla_ast.specs.Laid.{EndsOnce, IsLaid, Marked, NoEnd, tokens_of, next_of, bullet_token}
+use Rattle.tla_ast.specs.Laid.{Marked, NoEnd, tokens_of, next_of, bullet_token}
 use Rattle.tla_ast.specs.Opens.{Opens, is_end}
 use Rattle.tla_ast.specs.Modules.{LaidEndsOnce}
 use Rattle.tla_units.specs.LaidEnds.{MarkedEndsOnce}

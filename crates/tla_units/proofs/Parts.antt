@@ -10,7 +10,7 @@ use Rattle.tla_ast.specs.declared.module.Declared.{Declared}
 use Rattle.tla_ast.specs.declared.module.Unit.{Unit as ModuleUnit}
 use Rattle.tla_ast.specs.declared.module.Unit.TheVariants as units
 use Rattle.tla_ast.specs.Trees.{Tree}
-use Rattle.tla_ast.specs.Grammar.{Span, ◌⨟◌, token, sign, word, name, some_token, NamesText, DefinitionRest}
+use Rattle.tla_ast.specs.Grammar.{◌⨟◌, token, sign, word, name, some_token, NamesText, DefinitionRest}
 use Rattle.tla_ast.specs.Fits.{Spells}
 use Rattle.tla_ast.specs.Modules.{DeclaredText, DeclaredNamesText, UnitText, UnitsText, UnitFits, UnitsFit, MaybeTitle, ExtendsText, SpellsModule, variable_word, constant_word, assume_word, theorem_word}
 use Rattle.tla_units.specs.Parts.{Part}

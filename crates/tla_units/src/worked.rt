@@ -79,7 +79,7 @@ fn shown(alloc: Global, text: &str) -> Result<String, AllocError> {
     }
 }
 
-const EXPRESSIONS: [(&str, &str); 44] = [
+const EXPRESSIONS: [(&str, &str); 50] = [
     ("a + b - c", "Plus 2 name chain"),
     ("a - b - c", "Minus 3 name name"),
     ("~ p => q", "Implies 2 prefix name"),
@@ -127,6 +127,12 @@ const EXPRESSIONS: [(&str, &str); 44] = [
     ("/\\ a\n/\\ b \\/ c", "list"),
     ("@ @", "other"),
     ("(a", "expected 1:3"),
+    ("CHOOSE x \\in S : TRUE", "other"),
+    ("F(1, \"a\")", "call"),
+    ("BOOLEAN", "other"),
+    ("[a : S, b : T]", "other"),
+    ("[a |-> 1, b |-> 2]", "other"),
+    ("<<>>", "other"),
 ];
 
 #[test]
@@ -192,6 +198,38 @@ fn long(rt: HostRuntime) -> Result<(), Fail> {
         let text = around(alloc, count, before, inner, "")?;
         let answer = shown(alloc, text.as_str())?;
         assert_eq!(rt; answer.as_str(), expected, "{before}");
+    }
+    Ok(())
+}
+
+/// A text so many times, and blanks up to a size.
+fn filled(alloc: Global, count: usize, part: &str, size: usize) -> Result<String, AllocError> {
+    let mut text = String::new(alloc);
+    for _ in 0..count {
+        text.push_str(part)?;
+    }
+    for _ in text.len()..size {
+        text.push_str(" ")?;
+    }
+    Ok(text)
+}
+
+/// How often, of what, up to how many bytes, and how many laid tokens that is: as many bytes and tokens as a
+/// module may have; one token more; and 100,000 open brackets, and brackets and lists.
+const TEXTS: [(usize, &str, usize, usize); 4] = [
+    (100_000, "ab       +", 1_048_576, 200_001),
+    (100_001, "ab       +", 1_048_576, 0),
+    (100_000, "(", 0, 100_001),
+    (50_000, "/\\ (", 0, 200_001),
+];
+
+#[test]
+fn large_texts(rt: HostRuntime) -> Result<(), Fail> {
+    let alloc = rt.alloc();
+    for (count, part, size, expected) in TEXTS {
+        let text = filled(alloc, count, part, size)?;
+        let laid = laid_of(alloc, text.as_str());
+        assert_eq!(rt; laid.len(), expected, "{part}");
     }
     Ok(())
 }

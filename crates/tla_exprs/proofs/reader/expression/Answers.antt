@@ -1,10 +1,27 @@
-use Rattle.tla_exprs.proofs.ReadLaws.{expression_on, expression_spelled}
+use Rattle.std.specs.Prelude.{IfErr}
+use Rattle.std.proofs.Common.{rules}
+use Rattle.tla_exprs.specs.Refused.{Refuses}
+use Rattle.tla_exprs.specs.declared.frame.Mode.TheVariants as mode
+use Rattle.tla_exprs.proofs.ReadLaws.{expression_on, expression_only, expression_spelled}
+use Rattle.tla_exprs.proofs.RefusedSo.{expression_goes, refused_result}
 use Rattle.tla_exprs.proofs.reader.expression.Goals as goal
 
 pub returns-in-Expression-clause-spelled : goal.returns-in-Expression-clause-spelled
 returns-in-Expression-clause-spelled c =
-    expression_spelled c.args.laid.now c.args.from c.in-Expression.behind c.in-Expression.e c.in_ok-e.field-0 c.in_ok-e.ensures c.in-Expression.is
+    expression_spelled c.args.laid.now c.args.from c.in-Expression.behind c.in-Expression.e c.in_ok-e.field-0 c.in_ok-e.ensures.read c.in-Expression.is
 
 pub returns-in-Expression-clause-ahead : goal.returns-in-Expression-clause-ahead
 returns-in-Expression-clause-ahead c =
-    expression_on c.args.laid.now c.args.from c.in-Expression.behind c.in-Expression.e c.in_ok-e.field-0 c.requires c.in_ok-e.ensures c.in-Expression.is
+    expression_on c.args.laid.now c.args.from c.in-Expression.behind c.in-Expression.e c.in_ok-e.field-0 c.requires c.in_ok-e.ensures.read c.in-Expression.is
+
+pub returns-clause-refused : goal.returns-clause-refused
+returns-clause-refused c = absurd (expression_only _ _ _ _ _ c.in_ok-e.ensures.read c.in-Definition.is)
+
+pub returns-in-Expression-clause-far : goal.returns-in-Expression-clause-far
+returns-in-Expression-clause-far c =
+    expression_goes c.args.laid.now c.args.from c.in-Expression.behind c.in-Expression.e c.in_ok-e.field-0 c.in_ok-e.ensures.read c.in-Expression.is
+
+pub returns-in_err-e-clause-refused : goal.returns-in_err-e-clause-refused
+returns-in_err-e-clause-refused c =
+    let q : IfErr c.from_residual.result (λ e. Refuses c.args.laid.now c.args.from mode.Want e) = search rules in
+    refused_result c.args.laid.now c.args.from c.from_residual.result c.requires q

@@ -1,0 +1,46 @@
+-- Why laid tokens are refused from an index on, by the reader from a start.
+use Rattle.std.specs.Prelude.{◌≡◌, ◌⊎◌, ℕ, List, [], ◌∷◌, ◌++◌}
+use Rattle.trace_base.specs.declared.place.Place.{Place}
+use Rattle.tla_ast.specs.declared.laid.Laid.{Laid}
+use Rattle.tla_ast.specs.declared.laid.Laid.TheVariants.{Plain, ListOpen, ListItem, ListClose}
+use Rattle.tla_ast.specs.declared.token.Kind.{Kind}
+use Rattle.tla_ast.specs.declared.token.Kind.TheVariants as kinds
+use Rattle.tla_exprs.specs.Machine.{StopsAt, ClashesAt}
+use Rattle.tla_exprs.specs.Kept.{kept_run}
+use Rattle.tla_exprs.specs.declared.fault.ParseFault.{ParseFault}
+use Rattle.tla_exprs.specs.declared.fault.ParseFault.TheVariants.{Expected, Conflict, TooNested, OutOfProfile, NoMemory}
+use Rattle.tla_exprs.specs.declared.frame.Mode.{Mode}
+
+-- the place of a laid token
+abbrev pub place_of : Laid → Place
+place_of (Plain t) = t.place
+place_of (ListOpen b at) = at
+place_of (ListItem b at) = at
+place_of (ListClose at) = at
+
+abbrev pub refusal_of_kind : Kind → Place → ParseFault
+refusal_of_kind (kinds.Foreign f) at = OutOfProfile f at
+refusal_of_kind _ at = Expected at
+
+-- the refusal of a token that can not follow
+abbrev pub refusal_of : Laid → ParseFault
+refusal_of (Plain t) = refusal_of_kind t.kind t.place
+refusal_of (ListOpen b at) = Expected at
+refusal_of (ListItem b at) = Expected at
+refusal_of (ListClose at) = Expected at
+
+-- the reader stops at a token that can not follow, of which this is the refusal
+abbrev pub StopsBefore : List Laid → ℕ → Mode → ParseFault → Type 0
+StopsBefore laid from start fault = (x : Laid) × (rest : List Laid) × (kept_run laid from [] start ≡ StopsAt (x ∷ rest)) × (refusal_of x ≡ fault)
+
+-- every token from there on is read and nothing has ended, and the last token of the list stands at this place
+abbrev pub EndsEarly : List Laid → ℕ → Mode → Place → Type 0
+EndsEarly laid from start p = (before : List Laid) × (x : Laid) × (kept_run laid from [] start ≡ StopsAt []) × (laid ≡ before ++ x ∷ []) × (place_of x ≡ p)
+
+-- why the reader refuses: it stops at a token; the list ends too early; or the operators at two places clash
+abbrev pub Refuses : List Laid → ℕ → Mode → ParseFault → Type 0
+Refuses laid from start (Expected p) = StopsBefore laid from start (Expected p) ⊎ EndsEarly laid from start p
+Refuses laid from start (Conflict p q) = (rest : List Laid) × (kept_run laid from [] start ≡ ClashesAt p q rest)
+Refuses laid from start (TooNested p) = Unit {0}
+Refuses laid from start (OutOfProfile f p) = StopsBefore laid from start (OutOfProfile f p)
+Refuses laid from start NoMemory = Unit {0}

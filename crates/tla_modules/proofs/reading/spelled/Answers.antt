@@ -1,0 +1,11 @@
+-- proofs/reading/spelled/Answers.antt
+use Rattle.std.proofs.Common.{sym, subst, List}
+use Rattle.tla_ast.specs.declared.laid.Laid.{Laid}
+use Rattle.tla_ast.specs.Modules.{LaidEndsOnce}
+use Rattle.tla_modules.proofs.FromFiles.{laid_as_ends}
+use Rattle.tla_modules.proofs.reading.spelled.Goals as goal
+
+pub module-requires : goal.module-requires
+module-requires c =
+    subst (λ (xs : List Laid). LaidEndsOnce xs) (sym c.deref.ensures.value)
+    (laid_as_ends c.args.number c.args.bytes.now c.in_ok-laid.laid.items c.tokens_end_once.ensures c.in_ok-laid.ensures.laid)

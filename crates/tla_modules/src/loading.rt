@@ -1,0 +1,67 @@
+//! A program, from the files of its modules.
+
+ghost use Rattle.std.specs.Prelude.{◌≡◌, ◌≤◌, ℕ, List, IfOk, IfErr};
+ghost use Rattle.tla_modules.specs.Paths.{IsPath};
+ghost use Rattle.tla_modules.specs.Loads.{Loads};
+ghost use Rattle.tla_modules.specs.Parts.{IsNewProgram, RefusesProgram, RefusesWith};
+
+use crate::fault::{LoadFault, Stop};
+use crate::meeting::visit;
+use crate::path::{files_of, parts_of};
+use crate::so_far::SoFar;
+use crate::twice::repeated;
+use std::alloc::Global;
+use tla_ast::Program;
+use trace_base::{Files, Text};
+
+/// The program of modules that are read, or the refusal of a name that is declared twice.
+fn program(alloc: Global, folder: &str, all: SoFar) -> Result<Program, LoadFault>
+    ensures program { IfOk result (IsNewProgram folder.now all) }
+    ensures refused { IfErr result (RefusesProgram folder.now all) }
+{
+    let files = files_of(alloc, folder, &all.modules)?;
+    match repeated(alloc, &all.standard, &all.units)? {
+        Some(why) => Err(LoadFault::Refused(files, why)),
+        None => Ok(Program {
+            files,
+            units: all.units,
+            standard: all.standard,
+        }),
+    }
+}
+
+/// A refusal with the files so far.
+fn refusal(alloc: Global, folder: &str, so: &SoFar, stop: Stop) -> LoadFault
+    ensures { RefusesWith folder.now so.now.modules stop result }
+{
+    match stop {
+        Stop::Refused(why) => match files_of(alloc, folder, &so.modules) {
+            Ok(files) => LoadFault::Refused(files, why),
+            Err(_) => LoadFault::NoMemory,
+        },
+        Stop::NoMemory => LoadFault::NoMemory,
+    }
+}
+
+/// Reads the module of that path and those that it extends, directly or through others, depth first in the order of EXTENDS, each
+/// once. Standard modules are not read.
+///
+/// The first refusal is answered: of a module while it is read, compared with its name, and followed to those that it extends; behind
+/// all modules of a name that is declared twice.
+pub fn load<F: Files>(alloc: Global, files: &mut F, path: &str) -> Result<Program, LoadFault>
+    requires { (folder : List ℕ) × (name : List ℕ) × IsPath path.now folder name }
+    ensures loads { Loads (F.holds files.old) (F.faults files.old) (F.faults files.new) path.now result }
+    ensures same { F.holds files.new ≡ F.holds files.old }
+    ensures later { F.faults files.old ≤ F.faults files.new }
+{
+    let Some((folder, name)) = parts_of(path) else {
+        unreachable!()
+    };
+    let name = Text::from_text(alloc, name)?;
+    let mut so = SoFar::new(alloc);
+    let mut above = Vec::new(alloc);
+    match visit(alloc, files, folder, &mut above, &mut so, &name) {
+        Ok(()) => program(alloc, folder, so),
+        Err(stop) => Err(refusal(alloc, folder, &so, stop)),
+    }
+}

@@ -1,0 +1,30 @@
+//! What was read so far.
+
+ghost use Rattle.std.specs.Prelude.{◌≡◌};
+ghost use Rattle.tla_modules.specs.Flattened.{nothing_read};
+
+use std::alloc::Global;
+use tla_ast::Units;
+use trace_base::Names;
+
+/// What was read so far: the names of the modules, in the order in which they were sought; the units of those whose reading is
+/// ended, in the order of its end; and the standard modules that were met, each once.
+#[derive(Drop)]
+pub struct SoFar {
+    pub modules: Names,
+    pub units: Units,
+    pub standard: Names,
+}
+
+impl SoFar {
+    /// Nothing.
+    pub fn new(alloc: Global) -> SoFar
+        ensures { result ≡ nothing_read }
+    {
+        SoFar {
+            modules: Names::new(alloc),
+            units: Units::new(alloc),
+            standard: Names::new(alloc),
+        }
+    }
+}
