@@ -6,18 +6,18 @@ use Rattle.tla_ast.specs.declared.laid.Laid.{Laid}
 use Rattle.tla_ast.specs.declared.module.Module.{Module}
 use Rattle.tla_ast.specs.LexedEnds.{TokensEndOnce}
 use Rattle.tla_ast.specs.Modules.{LaidEndsOnce}
+use Rattle.tla_units.specs.LaidEnds.{MarkedEndsOnce}
 use Rattle.tla_modules.specs.declared.fault.LoadWhy.{LoadWhy}
 use Rattle.tla_modules.specs.declared.fault.LoadWhy.TheVariants.{Read, Lex, Lay, Parse, Cycle, TooMany, Twice, WrongName}
 use Rattle.tla_modules.specs.declared.fault.Stop.{Stop}
 use Rattle.tla_modules.specs.declared.fault.Stop.TheVariants as stops
 use Rattle.tla_modules.specs.Paths.{file_of}
 use Rattle.tla_modules.specs.Refusals.{IsText, LaidAs, SpelledBy, IsUnreadFile, Misspells, RefusesBytes, misspelled, misnamed, Refuses, not_read, not_good, StopsBy}
-use Rattle.tla_modules.proofs.LaidEnds.{laid_ends_once}
 use Rattle.tla_modules.proofs.Walks.{stops_map}
 
 -- laid tokens of a text end once
-pub laid_as_ends : (number : ℕ) (bytes : List ℕ) (laid : List Laid) → TokensEndOnce → LaidAs number bytes laid → LaidEndsOnce laid
-laid_as_ends number bytes laid ends l = laid_ends_once l.tokens laid l.marked (ends true number bytes l.tokens l.lexed)
+pub laid_as_ends : (number : ℕ) (bytes : List ℕ) (laid : List Laid) → TokensEndOnce → MarkedEndsOnce → LaidAs number bytes laid → LaidEndsOnce laid
+laid_as_ends number bytes laid ends marked l = marked l.tokens laid (ends true number bytes l.tokens l.lexed) l.marked
 
 unread_is : (h : Option (List File)) (folder : List ℕ) (number : ℕ) (name : List ℕ) (why : LoadWhy)
     → IsUnreadFile h (file_of folder name) why → Refuses h folder number name why

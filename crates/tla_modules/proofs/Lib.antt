@@ -1,6 +1,5 @@
 mod Declares
 mod FromFiles
-mod LaidEnds
 mod Outcomes
 mod Parts
 mod Tables

@@ -11,7 +11,7 @@ use std::alloc::Global;
 use tla_ast::{Laid, Module, tokens_end_once};
 use tla_exprs::ParseFault;
 use tla_lexer::{LexFault, lex};
-use tla_units::module;
+use tla_units::{laid_ends_once, module};
 use trace_base::{Files, ReadFault, Text, read_file};
 
 /// The most bytes that the file of a module may have.
@@ -70,6 +70,7 @@ fn spelled(alloc: Global, number: u32, bytes: &[u8]) -> Result<Module, Stop>
 {
     let laid = laid_of(alloc, number, bytes)?;
     tokens_end_once();
+    laid_ends_once();
     match module(alloc, &laid) {
         Ok(module) => Ok(module),
         Err(ParseFault::NoMemory) => Err(Stop::NoMemory),

@@ -8,4 +8,4 @@ use Rattle.tla_modules.proofs.reading.spelled.Goals as goal
 pub module-requires : goal.module-requires
 module-requires c =
     subst (λ (xs : List Laid). LaidEndsOnce xs) (sym c.deref.ensures.value)
-    (laid_as_ends c.args.number c.args.bytes.now c.in_ok-laid.laid.items c.tokens_end_once.ensures c.in_ok-laid.ensures.laid)
+    (laid_as_ends c.args.number c.args.bytes.now c.in_ok-laid.laid.items c.tokens_end_once.ensures c.laid_ends_once.ensures c.in_ok-laid.ensures.laid)
