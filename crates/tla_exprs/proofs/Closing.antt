@@ -44,11 +44,11 @@ pub no_bullet : false ≡ true → ⊥
 no_bullet e = cc
 
 -- an infix operator is the symbol of its name
-abbrev SymbolOf : Symbol → Option InfixOperator → Type 0
+abbrev pub SymbolOf : Symbol → Option InfixOperator → Type 0
 SymbolOf s (Some o) = infix_symbol o ≡ s
 SymbolOf s None = Unit {0}
 
-symbol_of : (s : Symbol) → SymbolOf s (infix_of_symbol s)
+pub symbol_of : (s : Symbol) → SymbolOf s (infix_of_symbol s)
 symbol_of symbols.Implies = refl
 symbol_of symbols.Equivalent = refl
 symbol_of symbols.LeadsTo = refl
@@ -80,11 +80,11 @@ symbol_of symbols.Power = refl
 symbol_of _ = tt
 
 -- what stands behind the name of a definition, from its form
-definition_rest : (form : Form) (e : Tree) (xs ys zs ws : List Laid) → FormText form xs ys → sign symbols.Defined ys zs → Text e zs ws → DefinitionRest (parameters_of form) (body_of form e) xs ws
+pub definition_rest : (form : Form) (e : Tree) (xs ys zs ws : List Laid) → FormText form xs ys → sign symbols.Defined ys zs → Text e zs ws → DefinitionRest (parameters_of form) (body_of form e) xs ws
 definition_rest (forms.Operator ns) e xs ys zs ws a d t = inl (ys, a, (zs, d, t))
 definition_rest (forms.Function at bs) e xs ys zs ws a d t = inr (refl, (a.0, a.1, (a.2.0, a.2.1, (ys, a.2.2, (zs, d, t)))))
 
-definition_fits : (form : Form) (e : Tree) → FormFits form → Fits e → Fits (body_of form e)
+pub definition_fits : (form : Form) (e : Tree) → FormFits form → Fits e → Fits (body_of form e)
 definition_fits (forms.Operator ns) e f k = k
 definition_fits (forms.Function at bs) e f k = (f, k)
 
@@ -137,7 +137,7 @@ module _ (xs r : List Laid) where
   laid_good (ListClose q) g fs e ys zs F a t f h k n = list_good q g fs e ys zs F a t f h k
 
   -- the definition of a unit, whose frame is the only one
-  unit_good : (here : List Laid) (n : List ℕ) (p : Place) (form : Form) (fs : List Frame) (e : Tree) (ys zs : List Laid) → fs ≡ [] → FramesText fs xs ys → FrameText (frame.DefinitionBody scopes.Unit n p form) ys zs → Text e zs here → FormFits form → Fits e → Defines n p (parameters_of form) (body_of form e) xs here
+  pub unit_good : (here : List Laid) (n : List ℕ) (p : Place) (form : Form) (fs : List Frame) (e : Tree) (ys zs : List Laid) → fs ≡ [] → FramesText fs xs ys → FrameText (frame.DefinitionBody scopes.Unit n p form) ys zs → Text e zs here → FormFits form → Fits e → Defines n p (parameters_of form) (body_of form e) xs here
   unit_good here n p form fs e ys zs i F a t f k =
       let j : xs ≡ ys = subst (λ x. FramesText x xs ys) i F in
       ((a.2.0, subst (λ x. token p (kinds.Name n) x a.2.0) (sym (j ∙ a.1)) a.2.1, definition_rest form e a.2.0 a.2.2.0 zs here a.2.2.1 a.2.2.2 t), definition_fits form e f k)

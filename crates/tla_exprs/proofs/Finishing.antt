@@ -55,13 +55,13 @@ by_token : (x : Laid) (fs : List Frame) (m : Mode) (gs : List Frame) (n : Mode) 
 by_token x fs m gs n q f = (x ∷ f.0, λ xs s. f.1 xs (next_state xs f.0 x fs m gs n q s))
 
 -- a name, which need not be spelled
-abbrev a_name : Laid
+abbrev pub a_name : Laid
 a_name = a_kind (kinds.Name [])
 
 -- ---- a name that is none of the fields'
 
 -- a list that is longer than each name
-abbrev fresh : Fields → List ℕ
+abbrev pub fresh : Fields → List ℕ
 fresh NoFields = []
 fresh (MoreFields hs m e) = 0 ∷ m ++ fresh hs
 
@@ -79,7 +79,7 @@ longer_new (MoreFields hs m e) n h =
     both_false (has_field n hs) (pointwise nat_eq n m) (longer_new hs n (omega (arith, h, l)))
     (is_false (pointwise nat_eq n m) (λ q. (bytes_decides n m).0 q) (λ q. let k : length n ≡ length m = ap length q in absurd (omega (arith, h, l, k))))
 
-fresh_new : (hs : Fields) → has_field (fresh hs) hs ≡ false
+pub fresh_new : (hs : Fields) → has_field (fresh hs) hs ≡ false
 fresh_new hs = longer_new hs (fresh hs) (omega arith)
 
 -- ---- modes

@@ -1,9 +1,20 @@
 pub mod Ahead
 pub mod Beginning
 pub mod Closing
+pub mod DefinitionBegins
+pub mod DefinitionGoes
+pub mod DefinitionRuns
+pub mod DefinitionStates
+pub mod DefinitionSteps
 pub mod Edges
 pub mod Enclosed
+pub mod ExtentEnds
+pub mod ExtentMarks
 pub mod Finishing
+pub mod FittingEnds
+pub mod FittingFronts
+pub mod FittingRows
+pub mod FittingWalk
 pub mod Flat
 pub mod FlatBegins
 pub mod FlatBounds
@@ -21,6 +32,8 @@ pub mod JoinedTexts
 pub mod KeptCloses
 pub mod KeptFollows
 pub mod KeptRuns
+pub mod MeetsEdges
+pub mod MeetsThere
 pub mod NamedFields
 pub mod NoUnits
 pub mod OpenEnds
@@ -51,5 +64,6 @@ pub mod Settling
 pub mod Stepping
 pub mod Symbols
 pub mod Texts
+pub mod UnendedTexts
 pub mod UniqueSpans
 pub mod UniqueTree

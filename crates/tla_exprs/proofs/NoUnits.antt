@@ -34,20 +34,20 @@ use Rattle.tla_exprs.proofs.Beginning.{on_name_good, on_symbol_good}
 
 -- ---- where a unit's definition is open
 
-abbrev in_scope : Scope → Bool
+abbrev pub in_scope : Scope → Bool
 in_scope (scopes.Let at ds) = false
 in_scope scopes.Unit = true
 
-abbrev in_binder : Binder → Bool
+abbrev pub in_binder : Binder → Bool
 in_binder (binders.Defined s n p q) = in_scope s
 in_binder _ = false
 
-abbrev in_frame : Frame → Bool
+abbrev pub in_frame : Frame → Bool
 in_frame (frame.BoundSet b ns) = in_binder b.binder
 in_frame (frame.DefinitionBody s n p form) = in_scope s
 in_frame _ = false
 
-abbrev in_mode : Mode → Bool
+abbrev pub in_mode : Mode → Bool
 in_mode (mode.BoundName b ns) = in_binder b.binder
 in_mode (mode.BoundNamed b ns) = in_binder b.binder
 in_mode (mode.DefinitionName s) = in_scope s
@@ -58,11 +58,11 @@ in_mode (mode.DefinedAs s n p form) = in_scope s
 in_mode _ = false
 
 -- the outermost row is a unit's definition or not, as it should be, and none within it is
-abbrev Opened : Bool → List Frame → Bool → Type 0
+abbrev pub Opened : Bool → List Frame → Bool → Type 0
 Opened unit [] inner = inner ≡ unit
 Opened unit (f ∷ fs) inner = (inner ≡ false) × Opened unit fs (in_frame f)
 
-abbrev Good : Bool → Stepped → Type 0
+abbrev pub Good : Bool → Stepped → Type 0
 Good unit (Reads fs m) = Opened unit fs (in_mode m)
 Good unit Stops = Unit {0}
 Good unit (Clashes p q) = Unit {0}
@@ -145,7 +145,7 @@ module _ (unit : Bool) where
   case_settles true p arms a fs e go h = h
   case_settles false p arms a fs e go h = go h.1
 
-  settle_kept : (case : Bool) (fs : List Frame) (e : Tree) → Opened unit fs false → Opened unit (settle case fs e).frames false
+  pub settle_kept : (case : Bool) (fs : List Frame) (e : Tree) → Opened unit fs false → Opened unit (settle case fs e).frames false
   settle_kept case [] e h = h
   settle_kept case (frame.Prefix o p ∷ fs) e h = settle_kept case fs (tree.Prefix p o e) h.1
   settle_kept case (frame.Infix o es p ∷ fs) e h = settle_kept case fs (tree.Infix p o es e) h.1
@@ -391,7 +391,7 @@ module _ (unit : Bool) where
   other_arrow_kept at arms fs symbols.Arrow h = (refl, h)
   other_arrow_kept at arms fs _ h = tt
 
-  step_kept : (x : Laid) (fs : List Frame) (m : Mode) → Opened unit fs (in_mode m) → Keeps (step x fs m)
+  pub step_kept : (x : Laid) (fs : List Frame) (m : Mode) → Opened unit fs (in_mode m) → Keeps (step x fs m)
   step_kept x fs mode.Want h = begins_kept x fs h
   step_kept x fs (mode.Have e) h = follows_kept x fs e h
   step_kept x fs (mode.BoundName b ns) h = on_name_good Keeps x _ _ (λ n p e. h) tt

@@ -25,11 +25,11 @@ along [] r fs m gs n p = ap (λ v. run r v m) p.0 ∙ ap (λ v. run r gs v) p.1
 along (y ∷ read) r fs m gs n p = ap (λ v. after v (y ∷ read ++ r) (run (read ++ r))) p.2 ∙ along read r p.0 p.1 gs n p.3
 
 -- a token that ends the text
-the_end : Laid
+unfoldable pub the_end : Laid
 the_end = Plain (record { kind = kinds.End; place = record { file = 0; line = 0; col = 0 } })
 
 -- what a text with an End behind it is read as
-ended : (e : Tree) (xs : List Laid) → Spells e xs [] → run (xs ++ the_end ∷ []) [] mode.Want ≡ EndsAt e (the_end ∷ [])
+pub ended : (e : Tree) (xs : List Laid) → Spells e xs [] → run (xs ++ the_end ∷ []) [] mode.Want ≡ EndsAt e (the_end ∷ [])
 unfolding the_end
 ended e xs s =
     let f : Front (Text e) xs [] = tree_local e xs [] s.text in
@@ -55,10 +55,10 @@ clashed_there read rest x p q i b =
 
 -- ---- all tokens are read
 
-record All (read : List Laid) (fs : List Frame) (m : Mode) : Type 0 where
-  frames : List Frame
-  expects : Mode
-  path : Path read fs m frames expects
+pub record All (read : List Laid) (fs : List Frame) (m : Mode) : Type 0 where
+  pub frames : List Frame
+  pub expects : Mode
+  pub path : Path read fs m frames expects
 
 no_stop : (x : Laid) (xs : List Laid) → StopsAt (x ∷ xs) ≡ StopsAt [] → ⊥
 no_stop x xs h = cc
@@ -70,7 +70,7 @@ all_after (Clashes a b) x xs fs m e q f = cc
 all_after (Ends t) x xs fs m e q f = cc
 all_after (EndsDefinition n p ns t) x xs fs m e q f = cc
 
-all_read : (xs : List Laid) (fs : List Frame) (m : Mode) → run xs fs m ≡ StopsAt [] → All xs fs m
+pub all_read : (xs : List Laid) (fs : List Frame) (m : Mode) → run xs fs m ≡ StopsAt [] → All xs fs m
 all_read [] fs m q = record { frames = fs; expects = m; path = (refl, refl) }
 all_read (x ∷ xs) fs m q = all_after (step x fs m) x xs fs m refl q (λ gs n h. all_read xs gs n h)
 

@@ -1,62 +1,54 @@
 -- What the reader answers, in the words of the grammar.
 use Rattle.std.specs.Prelude.{IfErr, Result, Ok, Err}
-use Rattle.std.proofs.Common.{◌≡◌, ◌⊎◌, ℕ, zero, suc, ◌<◌, List, [], ◌∷◌, ◌++◌, length, drop, refl, ap, subst, ◌∙◌, arith, inl, inr}
+use Rattle.std.proofs.Common.{◌≡◌, ◌⊎◌, ℕ, zero, suc, ◌<◌, List, [], ◌∷◌, ◌++◌, length, drop, refl, sym, ap, subst, ◌∙◌, arith, inl, inr}
+use Rattle.std.proofs.lemmas.List.{append-nil}
 use Rattle.trace_base.specs.declared.place.Place.{Place}
 use Rattle.tla_ast.specs.declared.laid.Laid.{Laid}
+use Rattle.tla_ast.specs.declared.expr.Definition.{Definition}
+use Rattle.tla_ast.specs.Begun.{Begun}
 use Rattle.tla_ast.specs.Trees.{Tree}
+use Rattle.tla_exprs.specs.Beginnings.{FittingBegun, BegunDefinition, FittingBegunDefinition}
 use Rattle.tla_exprs.specs.declared.fault.ParseFault.{ParseFault}
 use Rattle.tla_exprs.specs.declared.fault.ParseFault.TheVariants.{Expected, Conflict, TooNested, OutOfProfile, NoMemory}
 use Rattle.tla_exprs.specs.declared.frame.Frame.{Frame}
 use Rattle.tla_exprs.specs.declared.frame.Mode.{Mode}
 use Rattle.tla_exprs.specs.declared.frame.Mode.TheVariants as mode
+use Rattle.tla_exprs.specs.declared.frame.Scope.TheVariants as scopes
 use Rattle.tla_exprs.specs.declared.reader.Ended.{Ended}
 use Rattle.tla_exprs.specs.declared.reader.Ended.TheVariants as ended
-use Rattle.tla_exprs.specs.Ended.{IsRead}
+use Rattle.tla_exprs.specs.Ended.{IsRead, index_of}
 use Rattle.tla_exprs.specs.Kept.{kept_run}
-use Rattle.tla_exprs.specs.Machine.{Outcome, Stepped, Reads, Stops, Clashes, Ends, EndsDefinition, step, StopsAt, ClashesAt, EndsAt, after, run}
-use Rattle.tla_exprs.specs.Refused.{StopsBefore, EndsEarly, Refuses}
-use Rattle.tla_exprs.specs.Refusals.{BegunUpTo, CanNotFollow, EndsTooEarly, Conflicts, IsRefused, GoesAsFar}
+use Rattle.tla_exprs.specs.LawsOfRefusals.{RanFits, ClashedMeets}
+use Rattle.tla_exprs.specs.Machine.{Outcome, Stepped, Reads, Stops, Clashes, Ends, EndsDefinition, step, StopsAt, ClashesAt, EndsAt, EndsDefinitionAt, after, run}
+use Rattle.tla_exprs.specs.Meeting.{Meets}
+use Rattle.tla_exprs.specs.Nesting.{ShallowIn}
+use Rattle.tla_exprs.specs.Refused.{StopsBefore, EndsEarly, ClashesHere, NestsTooDeep, Refuses, ShallowUpTo}
+use Rattle.tla_exprs.specs.Refusals.{UpTo, CanNotFollow, EndsTooEarly, Conflicts, IsTooNested, IsRefused, GoesAsFar}
+use Rattle.tla_exprs.proofs.NoUnits.{no_definition, no_expression}
 use Rattle.tla_exprs.proofs.Paths.{rest_of}
-use Rattle.tla_exprs.proofs.RefusalsBegun.{stopped_begun, clashed_begun, ends_begun}
 use Rattle.tla_exprs.proofs.RefusalsThere.{stopped_there, ends_there}
+use Rattle.tla_exprs.proofs.RefusalsBegun.{clashed_begun}
 use Rattle.tla_exprs.proofs.RefusalsClash.{clashed_there, ran_begun}
+use Rattle.tla_exprs.proofs.DefinitionBegins.{read_before, definition_ran, definition_clashed}
+use Rattle.tla_exprs.proofs.DefinitionGoes.{definition_stopped_there, definition_ends_there, definition_clashed_there}
 
--- what stands before the rest of a run
-record Before (xs rest : List Laid) : Type 0 where
-  read : List Laid
-  whole : xs ≡ read ++ rest
+-- ---- texts of one kind
 
-before_after : (s : Stepped) (x : Laid) (xs : List Laid) → ((fs : List Frame) (m : Mode) → Before xs (rest_of (run xs fs m))) → Before (x ∷ xs) (rest_of (after s (x ∷ xs) (run xs)))
-before_after (Reads fs m) x xs f = let b : Before xs (rest_of (run xs fs m)) = f fs m in record { read = x ∷ b.read; whole = ap (λ v. x ∷ v) b.whole }
-before_after Stops x xs f = record { read = []; whole = refl }
-before_after (Clashes p q) x xs f = record { read = []; whole = refl }
-before_after (Ends e) x xs f = record { read = []; whole = refl }
-before_after (EndsDefinition n p ns e) x xs f = record { read = []; whole = refl }
+-- a run has ended before these tokens, with an expression or with a unit's definition
+abbrev EndsBefore : Outcome → List Laid → Type 0
+EndsBefore (EndsAt e r) rest = r ≡ rest
+EndsBefore (EndsDefinitionAt n p ns e r) rest = r ≡ rest
+EndsBefore _ rest = ⊥
 
-before_rest : (xs : List Laid) (fs : List Frame) (m : Mode) → Before xs (rest_of (run xs fs m))
-before_rest [] fs m = record { read = []; whole = refl }
-before_rest (x ∷ xs) fs m = before_after (step x fs m) x xs (λ gs n. before_rest xs gs n)
-
-stops_up_to : (xs rest : List Laid) (x : Laid) → run xs [] mode.Want ≡ StopsAt (x ∷ rest) → BegunUpTo xs rest x
-stops_up_to xs rest x q =
-    let b : Before xs (rest_of (run xs [] mode.Want)) = before_rest xs [] mode.Want in
-    let w : xs ≡ b.read ++ x ∷ rest = b.whole ∙ ap (λ o. b.read ++ rest_of o) q in
-    let r : run (b.read ++ x ∷ rest) [] mode.Want ≡ StopsAt (x ∷ rest) = subst (λ v. run v [] mode.Want ≡ StopsAt (x ∷ rest)) w q in
-    record { read = b.read; whole = w; begun = stopped_begun b.read rest x r; there = stopped_there b.read rest x r }
-
-ends_up_to : (xs rest : List Laid) (x : Laid) (e : Tree) → run xs [] mode.Want ≡ EndsAt e (x ∷ rest) → BegunUpTo xs rest x
-ends_up_to xs rest x e q =
-    let b : Before xs (rest_of (run xs [] mode.Want)) = before_rest xs [] mode.Want in
-    let w : xs ≡ b.read ++ x ∷ rest = b.whole ∙ ap (λ o. b.read ++ rest_of o) q in
-    let r : run (b.read ++ x ∷ rest) [] mode.Want ≡ EndsAt e (x ∷ rest) = subst (λ v. run v [] mode.Want ≡ EndsAt e (x ∷ rest)) w q in
-    record { read = b.read; whole = w; begun = ends_begun b.read rest x e r; there = ends_there b.read rest x e r }
-
-clash_at : (xs rest : List Laid) (x : Laid) (p q : Place) → run xs [] mode.Want ≡ ClashesAt p q (x ∷ rest) → Conflicts xs p q
-clash_at xs rest x p q h =
-    let b : Before xs (rest_of (run xs [] mode.Want)) = before_rest xs [] mode.Want in
-    let w : xs ≡ b.read ++ x ∷ rest = b.whole ∙ ap (λ o. b.read ++ rest_of o) h in
-    let r : run (b.read ++ x ∷ rest) [] mode.Want ≡ ClashesAt p q (x ∷ rest) = subst (λ v. run v [] mode.Want ≡ ClashesAt p q (x ∷ rest)) w h in
-    record { read = b.read; rest = rest; here = x; whole = w; begun = clashed_begun b.read rest x p q r; none = clashed_there b.read rest x p q r; clash = h }
+-- what is so of the texts that are read from this start
+pub record TextsFrom (start : Mode) (Begins Fitting : List Laid → Type 0) : Type 0 where
+  ran : (read : List Laid) → run read [] start ≡ StopsAt [] → Begins read
+  fits : (read : List Laid) → run read [] start ≡ StopsAt [] → Fitting read
+  stopped : (read rest : List Laid) (x : Laid) → run (read ++ x ∷ rest) [] start ≡ StopsAt (x ∷ rest) → ¬ (Begins (read ++ x ∷ []))
+  ended : (read rest : List Laid) (x : Laid) → EndsBefore (run (read ++ x ∷ rest) [] start) (x ∷ rest) → ¬ (Begins (read ++ x ∷ []))
+  clashed : (read rest : List Laid) (x : Laid) (p q : Place) → run (read ++ x ∷ rest) [] start ≡ ClashesAt p q (x ∷ rest) → Begins (read ++ x ∷ [])
+  clashed_there : (read rest : List Laid) (x : Laid) (p q : Place) → run (read ++ x ∷ rest) [] start ≡ ClashesAt p q (x ∷ rest) → ¬ (Fitting (read ++ x ∷ []))
+  meets : (read rest : List Laid) (x : Laid) (p q : Place) → run (read ++ x ∷ rest) [] start ≡ ClashesAt p q (x ∷ rest) → Meets Begins read x p q
 
 -- a clash stands at a token
 abbrev AtToken : Outcome → Type 0
@@ -74,47 +66,13 @@ at_token : (xs : List Laid) (fs : List Frame) (m : Mode) → AtToken (run xs fs 
 at_token [] fs m = tt
 at_token (x ∷ xs) fs m = token_after (step x fs m) x xs (λ gs n. at_token xs gs n)
 
-clash_somewhere : (xs rest : List Laid) (p q : Place) → run xs [] mode.Want ≡ ClashesAt p q rest → Conflicts xs p q
-clash_somewhere xs [] p q h = absurd (subst AtToken h (at_token xs [] mode.Want))
-clash_somewhere xs (x ∷ rest) p q h = clash_at xs rest x p q h
-
 -- the end of a list from an index on
 drop_last : (n : ℕ) (before : List Laid) (x : Laid) → n < length (before ++ x ∷ []) → drop n (before ++ x ∷ []) ≡ drop n before ++ x ∷ []
 drop_last zero before x h = refl
 drop_last (suc n) [] x h = absurd (omega (arith, h))
 drop_last (suc n) (b ∷ bs) x h = drop_last n bs x (omega (arith, h))
 
-can_not_follow : (laid : List Laid) (from : ℕ) (fault : ParseFault) → StopsBefore laid from mode.Want fault → CanNotFollow (drop from laid) fault
-unfolding kept_run
-can_not_follow laid from fault s = (s.0, s.1, stops_up_to (drop from laid) s.1 s.0 s.2, s.3)
-
-too_early : (laid : List Laid) (from : ℕ) (p : Place) → from < length laid → EndsEarly laid from mode.Want p → EndsTooEarly (drop from laid) p
-unfolding kept_run
-too_early laid from p h e =
-    let k : from < length (e.0 ++ e.1 ∷ []) = subst (λ v. from < length v) e.3 h in
-    (drop from e.0, e.1, ap (λ v. drop from v) e.3 ∙ drop_last from e.0 e.1 k, ran_begun (drop from laid) e.2, e.4)
-
-conflicts : (laid : List Laid) (from : ℕ) (p q : Place) → Refuses laid from mode.Want (Conflict p q) → Conflicts (drop from laid) p q
-unfolding kept_run
-conflicts laid from p q c = clash_somewhere (drop from laid) c.0 p q c.1
-
-expected_so : (laid : List Laid) (from : ℕ) (p : Place) → from < length laid → StopsBefore laid from mode.Want (Expected p) ⊎ EndsEarly laid from mode.Want p → CanNotFollow (drop from laid) (Expected p) ⊎ EndsTooEarly (drop from laid) p
-expected_so laid from p h (inl s) = inl (can_not_follow laid from (Expected p) s)
-expected_so laid from p h (inr e) = inr (too_early laid from p h e)
-
-pub refused_so : (laid : List Laid) (from : ℕ) (fault : ParseFault) → from < length laid → Refuses laid from mode.Want fault → IsRefused (drop from laid) fault
-refused_so laid from (Expected p) h r = expected_so laid from p h r
-refused_so laid from (Conflict p q) h r = conflicts laid from p q r
-refused_so laid from (TooNested p) h r = tt
-refused_so laid from (OutOfProfile f p) h r = can_not_follow laid from (OutOfProfile f p) r
-refused_so laid from NoMemory h r = tt
-
-pub refused_result : {A : Type 0} (laid : List Laid) (from : ℕ) (r : Result A ParseFault) → from < length laid → IfErr r (λ e. Refuses laid from mode.Want e) → IfErr r (λ e. IsRefused (drop from laid) e)
-refused_result laid from (Ok v) h q = tt
-refused_result laid from (Err e) h q = refused_so laid from e h q
-
--- ---- how far an expression goes
-
+-- some tokens are left at an index within the list
 record Some (xs : List Laid) : Type 0 where
   here : Laid
   rest : List Laid
@@ -125,12 +83,162 @@ some_left i [] h = absurd (omega (arith, h))
 some_left zero (x ∷ xs) h = record { here = x; rest = xs; whole = refl }
 some_left (suc i) (x ∷ xs) h = some_left i xs (omega (arith, h))
 
-goes : (laid : List Laid) (from i : ℕ) (e : Tree) → IsRead laid from mode.Want (ended.Expression e i) → GoesAsFar laid from i
-unfolding kept_run
-goes laid from i e q =
-    let s : Some (drop i laid) = some_left i laid q.within in
-    let r : run (drop from laid) [] mode.Want ≡ EndsAt e (s.here ∷ s.rest) = q.ends ∙ ap (λ v. EndsAt e v) s.whole in
-    (s.here, s.rest, s.whole, ends_up_to (drop from laid) s.rest s.here e r)
+-- what a run that ended with an expression has left
+ends_here : (o : Outcome) (e : Tree) (r : List Laid) → o ≡ EndsAt e r → EndsBefore o r
+ends_here o e r q = subst (λ v. EndsBefore v r) (sym q) refl
 
-pub expression_goes : (laid : List Laid) (from i : ℕ) (e : Tree) (r : Ended) → IsRead laid from mode.Want r → r ≡ ended.Expression e i → GoesAsFar laid from i
-expression_goes laid from i e r q p = goes laid from i e (subst (λ t. IsRead laid from mode.Want t) p q)
+defines_here : (o : Outcome) (n : List ℕ) (p : Place) (ns : List (List ℕ)) (e : Tree) (r : List Laid) → o ≡ EndsDefinitionAt n p ns e r → EndsBefore o r
+defines_here o n p ns e r q = subst (λ v. EndsBefore v r) (sym q) refl
+
+module _ (start : Mode) (Begins Fitting : List Laid → Type 0) (texts : TextsFrom start Begins Fitting) where
+  -- each token of what is read from the start stands inside at most so many unfinished constructs
+  abbrev AtMost : List Laid → Type 0
+  AtMost read = ShallowIn [] start read
+
+  stops_up_to : (xs read rest : List Laid) (x : Laid) → run xs [] start ≡ StopsAt (x ∷ rest) → xs ≡ read ++ x ∷ rest → AtMost read → UpTo Begins AtMost xs rest x
+  stops_up_to xs read rest x q w s =
+      let r : run (read ++ x ∷ rest) [] start ≡ StopsAt (x ∷ rest) = subst (λ v. run v [] start ≡ StopsAt (x ∷ rest)) w q in
+      record { read = read; whole = w; begun = texts.ran read (read_before read rest x [] start (StopsAt (x ∷ rest)) r refl); there = texts.stopped read rest x r; shallow = s }
+
+  can_not_follow : (laid : List Laid) (from : ℕ) (fault : ParseFault) → StopsBefore laid from start fault → CanNotFollow Begins AtMost (drop from laid) fault
+  unfolding kept_run
+  can_not_follow laid from fault s = (s.0, s.1, stops_up_to (drop from laid) s.4.read s.1 s.0 s.2 s.4.whole s.4.shallow, s.3)
+
+  too_early : (laid : List Laid) (from : ℕ) (p : Place) → from < length laid → EndsEarly laid from start p → EndsTooEarly Begins AtMost (drop from laid) p
+  unfolding kept_run
+  too_early laid from p h e =
+      let k : from < length (e.0 ++ e.1 ∷ []) = subst (λ v. from < length v) e.3 h in
+      record {
+        before = drop from e.0;
+        last = e.1;
+        whole = ap (λ v. drop from v) e.3 ∙ drop_last from e.0 e.1 k;
+        begun = texts.ran (drop from laid) e.2;
+        shallow = subst AtMost (sym (e.5.whole ∙ append-nil e.5.read)) e.5.shallow;
+        place = e.4;
+      }
+
+  clash_at : (xs read rest : List Laid) (x : Laid) (p q : Place) → run xs [] start ≡ ClashesAt p q (x ∷ rest) → xs ≡ read ++ x ∷ rest → AtMost read → Conflicts Begins Fitting AtMost xs p q
+  clash_at xs read rest x p q h w s =
+      let r : run (read ++ x ∷ rest) [] start ≡ ClashesAt p q (x ∷ rest) = subst (λ v. run v [] start ≡ ClashesAt p q (x ∷ rest)) w h in
+      record {
+        read = read;
+        rest = rest;
+        here = x;
+        whole = w;
+        begun = texts.clashed read rest x p q r;
+        fits = texts.fits read (read_before read rest x [] start (ClashesAt p q (x ∷ rest)) r refl);
+        none = texts.clashed_there read rest x p q r;
+        shallow = s;
+        places = texts.meets read rest x p q r;
+      }
+
+  clash_somewhere : (xs read rest : List Laid) (p q : Place) → run xs [] start ≡ ClashesAt p q rest → xs ≡ read ++ rest → AtMost read → Conflicts Begins Fitting AtMost xs p q
+  clash_somewhere xs read [] p q h w s = absurd (subst AtToken h (at_token xs [] start))
+  clash_somewhere xs read (x ∷ rest) p q h w s = clash_at xs read rest x p q h w s
+
+  conflicts : (laid : List Laid) (from : ℕ) (p q : Place) → ClashesHere laid from start p q → Conflicts Begins Fitting AtMost (drop from laid) p q
+  unfolding kept_run
+  conflicts laid from p q c = clash_somewhere (drop from laid) c.2.read c.0 p q c.1 c.2.whole c.2.shallow
+
+  too_nested : (laid : List Laid) (from : ℕ) (p : Place) → NestsTooDeep laid from start p → IsTooNested Fitting AtMost (drop from laid) p
+  too_nested laid from p n =
+      record { read = n.read; rest = n.rest; here = n.here; whole = n.whole; fits = texts.fits (n.read ++ n.here ∷ []) n.reads; shallow = n.shallow; deep = n.deep; place = n.place }
+
+  expected_so : (laid : List Laid) (from : ℕ) (p : Place) → from < length laid → StopsBefore laid from start (Expected p) ⊎ EndsEarly laid from start p
+      → CanNotFollow Begins AtMost (drop from laid) (Expected p) ⊎ EndsTooEarly Begins AtMost (drop from laid) p
+  expected_so laid from p h (inl s) = inl (can_not_follow laid from (Expected p) s)
+  expected_so laid from p h (inr e) = inr (too_early laid from p h e)
+
+  refused_so : (laid : List Laid) (from : ℕ) (fault : ParseFault) → from < length laid → Refuses laid from start fault → IsRefused Begins Fitting AtMost (drop from laid) fault
+  refused_so laid from (Expected p) h r = expected_so laid from p h r
+  refused_so laid from (Conflict p q) h r = conflicts laid from p q r
+  refused_so laid from (TooNested p) h r = too_nested laid from p r
+  refused_so laid from (OutOfProfile f p) h r = can_not_follow laid from (OutOfProfile f p) r
+  refused_so laid from NoMemory h r = tt
+
+  pub refused_result : {A : Type 0} (laid : List Laid) (from : ℕ) (r : Result A ParseFault) → from < length laid → IfErr r (λ e. Refuses laid from start e) → IfErr r (λ e. IsRefused Begins Fitting AtMost (drop from laid) e)
+  refused_result laid from (Ok v) h q = tt
+  refused_result laid from (Err e) h q = refused_so laid from e h q
+
+  -- ---- how far a text goes
+
+  ends_up_to : (xs read rest : List Laid) (x : Laid) (o : Outcome) → run xs [] start ≡ o → rest_of o ≡ x ∷ rest → EndsBefore o (x ∷ rest) → xs ≡ read ++ x ∷ rest → AtMost read → UpTo Begins AtMost xs rest x
+  ends_up_to xs read rest x o q l e w s =
+      let r : run (read ++ x ∷ rest) [] start ≡ o = subst (λ v. run v [] start ≡ o) w q in
+      record {
+        read = read;
+        whole = w;
+        begun = texts.ran read (read_before read rest x [] start o r l);
+        there = texts.ended read rest x (subst (λ v. EndsBefore v (x ∷ rest)) (sym r) e);
+        shallow = s;
+      }
+
+  far : (laid : List Laid) (from i : ℕ) (o : List Laid → Outcome) → run (drop from laid) [] start ≡ o (drop i laid) → ((r : List Laid) → rest_of (o r) ≡ r) → ((r : List Laid) → EndsBefore (o r) r) → i < length laid
+      → ShallowUpTo laid from start (drop i laid) → GoesAsFar Begins AtMost laid from i
+  far laid from i o q l e h s =
+      let t : Some (drop i laid) = some_left i laid h in
+      let r : run (drop from laid) [] start ≡ o (t.here ∷ t.rest) = q ∙ ap o t.whole in
+      let w : drop from laid ≡ s.read ++ t.here ∷ t.rest = s.whole ∙ ap (λ v. s.read ++ v) t.whole in
+      (t.here, t.rest, t.whole, ends_up_to (drop from laid) s.read t.rest t.here (o (t.here ∷ t.rest)) r (l (t.here ∷ t.rest)) (e (t.here ∷ t.rest)) w s.shallow)
+
+  goes : (laid : List Laid) (from : ℕ) (r : Ended) → IsRead laid from start r → GoesAsFar Begins AtMost laid from (index_of r)
+  unfolding kept_run
+  goes laid from (ended.Expression e i) q = far laid from i (λ r. EndsAt e r) q.ends (λ r. refl) (λ r. refl) q.within q.shallow
+  goes laid from (ended.Definition d i) q = far laid from i (λ r. EndsDefinitionAt d.name d.at d.params d.body r) q.ends (λ r. refl) (λ r. refl) q.within q.shallow
+
+  pub expression_goes : (laid : List Laid) (from i : ℕ) (e : Tree) (r : Ended) → IsRead laid from start r → r ≡ ended.Expression e i → GoesAsFar Begins AtMost laid from i
+  expression_goes laid from i e r q p = goes laid from (ended.Expression e i) (subst (λ t. IsRead laid from start t) p q)
+
+  pub definition_goes : (laid : List Laid) (from i : ℕ) (d : Definition) (r : Ended) → IsRead laid from start r → r ≡ ended.Definition d i → GoesAsFar Begins AtMost laid from i
+  definition_goes laid from i d r q p = goes laid from (ended.Definition d i) (subst (λ t. IsRead laid from start t) p q)
+
+-- ---- expressions
+
+end_of_expression : (read rest : List Laid) (x : Laid) (o : Outcome) → run (read ++ x ∷ rest) [] mode.Want ≡ o → EndsBefore o (x ∷ rest) → ¬ (Begun (read ++ x ∷ []))
+end_of_expression read rest x (EndsAt e r) q l = ends_there read rest x e (q ∙ ap (λ v. EndsAt e v) l)
+end_of_expression read rest x (EndsDefinitionAt n p ns e r) q l = absurd (no_definition (read ++ x ∷ rest) r n p ns e q)
+end_of_expression read rest x (StopsAt r) q l = absurd l
+end_of_expression read rest x (ClashesAt a b r) q l = absurd l
+
+pub texts_of_expressions : RanFits → ClashedMeets → TextsFrom mode.Want Begun FittingBegun
+texts_of_expressions fits meets =
+    record {
+      ran = ran_begun;
+      fits = fits;
+      stopped = stopped_there;
+      ended = λ read rest x e. end_of_expression read rest x (run (read ++ x ∷ rest) [] mode.Want) refl e;
+      clashed = clashed_begun;
+      clashed_there = clashed_there;
+      meets = meets;
+    }
+
+-- ---- definitions
+
+abbrev named : Mode
+named = mode.DefinitionName scopes.Unit
+
+end_of_definition : (read rest : List Laid) (x : Laid) (o : Outcome) → run (read ++ x ∷ rest) [] named ≡ o → EndsBefore o (x ∷ rest) → ¬ (BegunDefinition (read ++ x ∷ []))
+end_of_definition read rest x (EndsAt e r) q l = absurd (no_expression (read ++ x ∷ rest) r e q)
+end_of_definition read rest x (EndsDefinitionAt n p ns e r) q l = definition_ends_there read rest x n p ns e (q ∙ ap (λ v. EndsDefinitionAt n p ns e v) l)
+end_of_definition read rest x (StopsAt r) q l = absurd l
+end_of_definition read rest x (ClashesAt a b r) q l = absurd l
+
+-- the two laws of ranges from the name of a definition on
+abbrev pub DefinitionFits : Type 0
+DefinitionFits = (read : List Laid) → run read [] named ≡ StopsAt [] → FittingBegunDefinition read
+
+abbrev pub DefinitionMeets : Type 1
+DefinitionMeets =
+    (Begins : List Laid → Type 0) → ((read : List Laid) → run read [] named ≡ StopsAt [] → Begins read) → (read rest : List Laid) (x : Laid) (p q : Place) → run (read ++ x ∷ rest) [] named ≡ ClashesAt p q (x ∷ rest) → Meets Begins read x p q
+
+pub texts_of_definitions : DefinitionFits → DefinitionMeets → TextsFrom named BegunDefinition FittingBegunDefinition
+texts_of_definitions fits meets =
+    record {
+      ran = definition_ran;
+      fits = fits;
+      stopped = definition_stopped_there;
+      ended = λ read rest x e. end_of_definition read rest x (run (read ++ x ∷ rest) [] named) refl e;
+      clashed = definition_clashed;
+      clashed_there = definition_clashed_there;
+      meets = meets BegunDefinition definition_ran;
+    }

@@ -24,28 +24,28 @@ pub record Front (R : Span) (xs ys : List Laid) : Type 0 where
 abbrev pub Local : Span → Type 0
 Local R = (xs ys : List Laid) → R xs ys → Front R xs ys
 
-nothing_local : Local nothing
+pub nothing_local : Local nothing
 nothing_local xs ys h = record { front = []; here = h; anywhere = λ zs. refl }
 
 never_local : Local never
 never_local xs ys h = absurd h
 
-token_local : (at : Place) (k : Kind) → Local (token at k)
+pub token_local : (at : Place) (k : Kind) → Local (token at k)
 token_local at k xs ys h = record { front = Plain (record { kind = k; place = at }) ∷ []; here = h; anywhere = λ zs. refl }
 
-some_local : (k : Kind) → Local (some_token k)
+pub some_local : (k : Kind) → Local (some_token k)
 some_local k xs ys h = record { front = Plain (record { kind = k; place = h.0 }) ∷ []; here = h.1; anywhere = λ zs. (h.0, refl) }
 
-open_local : (at : Place) (b : Bullet) → Local (list_open at b)
+pub open_local : (at : Place) (b : Bullet) → Local (list_open at b)
 open_local at b xs ys h = record { front = ListOpen b at ∷ []; here = h; anywhere = λ zs. refl }
 
-item_local : (b : Bullet) → Local (list_item b)
+pub item_local : (b : Bullet) → Local (list_item b)
 item_local b xs ys h = record { front = ListItem b h.0 ∷ []; here = h.1; anywhere = λ zs. (h.0, refl) }
 
 close_local : Local list_close
 close_local xs ys h = record { front = ListClose h.0 ∷ []; here = h.1; anywhere = λ zs. (h.0, refl) }
 
-then_local : (R S : Span) → Local R → Local S → Local (R ⨟ S)
+pub then_local : (R S : Span) → Local R → Local S → Local (R ⨟ S)
 then_local R S r s xs zs h =
     let a : Front R xs h.0 = r xs h.0 h.1 in
     let b : Front S h.0 zs = s h.0 zs h.2 in
@@ -55,7 +55,7 @@ then_local R S r s xs zs h =
       anywhere = λ ws. (b.front ++ ws, subst (λ v. R v (b.front ++ ws)) (sym (append_assoc a.front b.front ws)) (a.anywhere (b.front ++ ws)), b.anywhere ws);
     }
 
-only_local : (P : Type 0) (R : Span) → Local R → Local (only P R)
+pub only_local : (P : Type 0) (R : Span) → Local R → Local (only P R)
 only_local P R r xs ys h =
     let a : Front R xs ys = r xs ys h.1 in
     record { front = a.front; here = a.here; anywhere = λ zs. (h.0, a.anywhere zs) }
@@ -66,22 +66,22 @@ either_left R S xs ys a = record { front = a.front; here = a.here; anywhere = λ
 either_right : (R S : Span) (xs ys : List Laid) → Front S xs ys → Front (either R S) xs ys
 either_right R S xs ys a = record { front = a.front; here = a.here; anywhere = λ zs. inr (a.anywhere zs) }
 
-either_local : (R S : Span) → Local R → Local S → Local (either R S)
+pub either_local : (R S : Span) → Local R → Local S → Local (either R S)
 either_local R S r s xs ys (inl h) = either_left R S xs ys (r xs ys h)
 either_local R S r s xs ys (inr h) = either_right R S xs ys (s xs ys h)
 
-symbol : (s : Symbol) → Local (sign s)
+pub symbol : (s : Symbol) → Local (sign s)
 symbol s = some_local (kinds.Symbol s)
 
-symbol_at : (at : Place) (s : Symbol) → Local (sign_at at s)
+pub symbol_at : (at : Place) (s : Symbol) → Local (sign_at at s)
 symbol_at at s = token_local at (kinds.Symbol s)
 
-names_local : (ns : List (List ℕ)) → Local (NamesText ns)
+pub names_local : (ns : List (List ℕ)) → Local (NamesText ns)
 names_local [] = never_local
 names_local (n ∷ []) = some_local (kinds.Name n)
 names_local (n ∷ m ∷ ns) = then_local _ _ (some_local (kinds.Name n)) (then_local _ _ (symbol symbols.Comma) (names_local (m ∷ ns)))
 
-parameters_local : (ns : List (List ℕ)) → Local (ParametersText ns)
+pub parameters_local : (ns : List (List ℕ)) → Local (ParametersText ns)
 parameters_local [] = nothing_local
 parameters_local (n ∷ ns) = then_local _ _ (symbol symbols.OpenParenthesis) (then_local _ _ (names_local (n ∷ ns)) (symbol symbols.CloseParenthesis))
 
@@ -132,7 +132,7 @@ mutual
   tree_local (tree.Fairness at v e) =
       only_local _ _ (then_local _ _ (token_local at kinds.Fair) (then_local _ _ (tree_local v) (then_local _ _ (symbol symbols.OpenParenthesis) (then_local _ _ (tree_local e) (symbol symbols.CloseParenthesis)))))
 
-  commas_before_local : (es : Trees) → Local (CommasBefore es)
+  pub commas_before_local : (es : Trees) → Local (CommasBefore es)
   commas_before_local NoTrees = nothing_local
   commas_before_local (MoreTrees es e) = then_local _ _ (commas_before_local es) (then_local _ _ (tree_local e) (symbol symbols.Comma))
 
@@ -148,11 +148,11 @@ mutual
   items_local b NoTrees = never_local
   items_local b (MoreTrees es e) = then_local _ _ (items_before_local b es) (then_local _ _ (item_local b) (tree_local e))
 
-  items_before_local : (b : Bullet) (es : Trees) → Local (ItemsBefore b es)
+  pub items_before_local : (b : Bullet) (es : Trees) → Local (ItemsBefore b es)
   items_before_local b NoTrees = nothing_local
   items_before_local b (MoreTrees es e) = then_local _ _ (items_before_local b es) (then_local _ _ (item_local b) (tree_local e))
 
-  chain_local : (o : InfixOperator) (es : Operands) → Local (Chain o es)
+  pub chain_local : (o : InfixOperator) (es : Operands) → Local (Chain o es)
   chain_local o (First e) = tree_local e
   chain_local o (Next es at e) = then_local _ _ (chain_local o es) (then_local _ _ (symbol_at at (infix_symbol o)) (tree_local e))
 
@@ -161,20 +161,20 @@ mutual
   step_local at (tree.Index es) = then_local _ _ (symbol_at at symbols.OpenBracket) (then_local _ _ (commas_local es) (symbol symbols.CloseBracket))
   step_local at (tree.Field h) = then_local _ _ (symbol_at at symbols.Dot) (some_local (kinds.Name h))
 
-  steps_local : (ss : Steps) → Local (StepsText ss)
+  pub steps_local : (ss : Steps) → Local (StepsText ss)
   steps_local NoSteps = nothing_local
   steps_local (MoreSteps ss at s) = then_local _ _ (steps_local ss) (step_local at s)
 
-  bounds_before_local : (bs : Bounds) → Local (BoundsBefore bs)
+  pub bounds_before_local : (bs : Bounds) → Local (BoundsBefore bs)
   bounds_before_local NoBounds = nothing_local
   bounds_before_local (MoreBounds bs ns s) =
       then_local _ _ (bounds_before_local bs) (then_local _ _ (names_local ns) (then_local _ _ (symbol symbols.Member) (then_local _ _ (tree_local s) (symbol symbols.Comma))))
 
-  bounds_local : (bs : Bounds) → Local (BoundsText bs)
+  pub bounds_local : (bs : Bounds) → Local (BoundsText bs)
   bounds_local NoBounds = never_local
   bounds_local (MoreBounds bs ns s) = then_local _ _ (bounds_before_local bs) (then_local _ _ (names_local ns) (then_local _ _ (symbol symbols.Member) (tree_local s)))
 
-  fields_before_local : (m : Symbol) (hs : Fields) → Local (FieldsBefore m hs)
+  pub fields_before_local : (m : Symbol) (hs : Fields) → Local (FieldsBefore m hs)
   fields_before_local m NoFields = nothing_local
   fields_before_local m (MoreFields hs h e) =
       then_local _ _ (fields_before_local m hs) (then_local _ _ (some_local (kinds.Name h)) (then_local _ _ (symbol m) (then_local _ _ (tree_local e) (symbol symbols.Comma))))
@@ -183,7 +183,7 @@ mutual
   fields_local m NoFields = never_local
   fields_local m (MoreFields hs h e) = then_local _ _ (fields_before_local m hs) (then_local _ _ (some_local (kinds.Name h)) (then_local _ _ (symbol m) (tree_local e)))
 
-  changes_before_local : (cs : Changes) → Local (ChangesBefore cs)
+  pub changes_before_local : (cs : Changes) → Local (ChangesBefore cs)
   changes_before_local NoChanges = nothing_local
   changes_before_local (MoreChanges cs ss e) =
       then_local _ _ (changes_before_local cs) (then_local _ _ (only_local _ _ (then_local _ _ (symbol symbols.Exclamation) (then_local _ _ (steps_local ss) (then_local _ _ (symbol symbols.Equal) (tree_local e)))))
@@ -194,12 +194,12 @@ mutual
   changes_local (MoreChanges cs ss e) =
       then_local _ _ (changes_before_local cs) (only_local _ _ (then_local _ _ (symbol symbols.Exclamation) (then_local _ _ (steps_local ss) (then_local _ _ (symbol symbols.Equal) (tree_local e)))))
 
-  arms_before_local : (arms : Arms) → Local (ArmsBefore arms)
+  pub arms_before_local : (arms : Arms) → Local (ArmsBefore arms)
   arms_before_local NoArms = nothing_local
   arms_before_local (MoreArms arms p e) =
       then_local _ _ (arms_before_local arms) (then_local _ _ (tree_local p) (then_local _ _ (symbol symbols.Arrow) (then_local _ _ (tree_local e) (symbol symbols.Always))))
 
-  some_arms_local : (arms : Arms) → Local (SomeArmsBefore arms)
+  pub some_arms_local : (arms : Arms) → Local (SomeArmsBefore arms)
   some_arms_local NoArms = never_local
   some_arms_local (MoreArms arms p e) =
       then_local _ _ (arms_before_local arms) (then_local _ _ (tree_local p) (then_local _ _ (symbol symbols.Arrow) (then_local _ _ (tree_local e) (symbol symbols.Always))))
@@ -208,18 +208,18 @@ mutual
   arms_local NoArms = never_local
   arms_local (MoreArms arms p e) = then_local _ _ (arms_before_local arms) (then_local _ _ (tree_local p) (then_local _ _ (symbol symbols.Arrow) (tree_local e)))
 
-  function_local : (e : Tree) → Local (FunctionRest e)
+  pub function_local : (e : Tree) → Local (FunctionRest e)
   function_local (tree.Function at bs e) =
       then_local _ _ (symbol_at at symbols.OpenBracket) (then_local _ _ (bounds_local bs) (then_local _ _ (symbol symbols.CloseBracket) (then_local _ _ (symbol symbols.Defined) (tree_local e))))
   function_local _ = never_local
 
-  definitions_local : (ds : Definitions) → Local (DefinitionsText ds)
+  pub definitions_local : (ds : Definitions) → Local (DefinitionsText ds)
   definitions_local NoDefinitions = nothing_local
   definitions_local (MoreDefinitions ds n at ns e) =
       then_local _ _ (definitions_local ds) (then_local _ _ (token_local at (kinds.Name n))
       (either_local _ _ (then_local _ _ (parameters_local ns) (then_local _ _ (symbol symbols.Defined) (tree_local e))) (only_local _ _ (function_local e))))
 
-  some_definitions_local : (ds : Definitions) → Local (SomeDefinitions ds)
+  pub some_definitions_local : (ds : Definitions) → Local (SomeDefinitions ds)
   some_definitions_local NoDefinitions = never_local
   some_definitions_local (MoreDefinitions ds n at ns e) =
       then_local _ _ (definitions_local ds) (then_local _ _ (token_local at (kinds.Name n))

@@ -3,6 +3,7 @@ use Rattle.std.specs.Prelude.{◌≡◌, ℕ, ◌<◌, List, [], length, drop}
 use Rattle.tla_ast.specs.declared.laid.Laid.{Laid}
 use Rattle.tla_exprs.specs.Machine.{EndsAt, EndsDefinitionAt}
 use Rattle.tla_exprs.specs.Kept.{kept_run}
+use Rattle.tla_exprs.specs.Refused.{ShallowUpTo}
 use Rattle.tla_exprs.specs.declared.frame.Mode.{Mode}
 use Rattle.tla_exprs.specs.declared.reader.Ended.{Ended}
 use Rattle.tla_exprs.specs.declared.reader.Ended.TheVariants.{Expression, Definition}
@@ -18,3 +19,4 @@ EndsSo laid from start (Definition d i) = kept_run laid from [] start ≡ EndsDe
 pub record IsRead (laid : List Laid) (from : ℕ) (start : Mode) (ended : Ended) : Type 0 where
   pub ends : EndsSo laid from start ended
   pub within : index_of ended < length laid
+  pub shallow : ShallowUpTo laid from start (drop (index_of ended) laid)

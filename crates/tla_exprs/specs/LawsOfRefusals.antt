@@ -4,8 +4,9 @@ use Rattle.std.specs.Prelude.{◌≡◌, List, [], ◌∷◌, ◌++◌}
 use Rattle.trace_base.specs.declared.place.Place.{Place}
 use Rattle.tla_ast.specs.declared.laid.Laid.{Laid}
 use Rattle.tla_ast.specs.Begun.{Begun}
-use Rattle.tla_ast.specs.Fits.{Spells}
 use Rattle.tla_ast.specs.Trees.{Tree}
+use Rattle.tla_exprs.specs.Beginnings.{FittingBegun}
+use Rattle.tla_exprs.specs.Meeting.{Meets}
 use Rattle.tla_exprs.specs.declared.frame.Mode.TheVariants as mode
 use Rattle.tla_exprs.specs.Machine.{StopsAt, ClashesAt, EndsAt, run}
 
@@ -29,12 +30,6 @@ StoppedThere = (read rest : List Laid) (x : Laid) → run (read ++ x ∷ rest) [
 abbrev pub EndsThere : Type 0
 EndsThere = (read rest : List Laid) (x : Laid) (e : Tree) → run (read ++ x ∷ rest) [] mode.Want ≡ EndsAt e (x ∷ rest) → ¬ (Begun (read ++ x ∷ []))
 
--- these laid tokens are the beginning of the text of an expression whose ranges fit
-pub record FittingBegun (read : List Laid) : Type 0 where
-  pub tree : Tree
-  pub rest : List Laid
-  pub spelled : Spells tree (read ++ rest) []
-
 -- no text that fits its ranges goes on through a token at which two ranges meet
 abbrev pub ClashedThere : Type 0
 ClashedThere = (read rest : List Laid) (x : Laid) (p q : Place) → run (read ++ x ∷ rest) [] mode.Want ≡ ClashesAt p q (x ∷ rest) → ¬ (FittingBegun (read ++ x ∷ []))
@@ -42,3 +37,11 @@ ClashedThere = (read rest : List Laid) (x : Laid) (p q : Place) → run (read ++
 -- where all tokens are read, a text is begun
 abbrev pub RanBegun : Type 0
 RanBegun = (read : List Laid) → run read [] mode.Want ≡ StopsAt [] → Begun read
+
+-- where all tokens are read, a text that fits its ranges is begun
+abbrev pub RanFits : Type 0
+RanFits = (read : List Laid) → run read [] mode.Want ≡ StopsAt [] → FittingBegun read
+
+-- where the reader finds a clash, two operators meet at those places
+abbrev pub ClashedMeets : Type 0
+ClashedMeets = (read rest : List Laid) (x : Laid) (p q : Place) → run (read ++ x ∷ rest) [] mode.Want ≡ ClashesAt p q (x ∷ rest) → Meets Begun read x p q

@@ -1,11 +1,17 @@
+pub mod Beginnings
 pub mod Does
 pub mod Ended
 pub mod FieldNames
 pub mod Kept
 pub mod Laws
+pub mod LawsOfDefinitions
+pub mod LawsOfExtents
 pub mod LawsOfRefusals
 pub mod LawsOfTrees
 pub mod Machine
+pub mod Meeting
+pub mod Nesting
 pub mod Passes
 pub mod Refusals
 pub mod Refused
+pub mod Unended

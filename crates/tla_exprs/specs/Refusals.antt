@@ -1,49 +1,67 @@
--- Why a list of laid tokens is refused as the beginning of an expression, and how far an expression goes.
+-- Why a list of laid tokens is refused as a text of one kind, and how far a text goes. There are expressions, definitions of units, and
+-- modules: of each kind, Begins tells what its texts begin with where ranges play no part, Fitting what those begin with whose operators
+-- fit their ranges, and Shallow that no token stands inside more than 100 unfinished constructs.
 use Rattle.std.specs.Prelude.{◌≡◌, ◌⊎◌, ℕ, List, [], ◌∷◌, ◌++◌, drop}
 use Rattle.trace_base.specs.declared.place.Place.{Place}
 use Rattle.tla_ast.specs.declared.laid.Laid.{Laid}
-use Rattle.tla_ast.specs.Begun.{Begun}
-use Rattle.tla_exprs.specs.LawsOfRefusals.{FittingBegun}
-use Rattle.tla_exprs.specs.Machine.{ClashesAt, run}
+use Rattle.tla_exprs.specs.Meeting.{Meets}
 use Rattle.tla_exprs.specs.Refused.{place_of, refusal_of}
 use Rattle.tla_exprs.specs.declared.fault.ParseFault.{ParseFault}
 use Rattle.tla_exprs.specs.declared.fault.ParseFault.TheVariants.{Expected, Conflict, TooNested, OutOfProfile, NoMemory}
-use Rattle.tla_exprs.specs.declared.frame.Mode.TheVariants as mode
 
--- A text is begun up to one of the tokens, and no text goes on through that one. Ranges play no part.
-pub record BegunUpTo (laid rest : List Laid) (x : Laid) : Type 0 where
+-- A text is begun up to one of the tokens, and none goes on through that one. Ranges play no part.
+pub record UpTo (Begins Shallow : List Laid → Type 0) (laid rest : List Laid) (x : Laid) : Type 0 where
   pub read : List Laid
   pub whole : laid ≡ read ++ x ∷ rest
-  pub begun : Begun read
-  pub there : ¬ (Begun (read ++ x ∷ []))
+  pub begun : Begins read
+  pub there : ¬ (Begins (read ++ x ∷ []))
+  pub shallow : Shallow read
 
 -- the first token that can not follow those before it is refused so
-abbrev pub CanNotFollow : List Laid → ParseFault → Type 0
-CanNotFollow laid fault = (x : Laid) × (rest : List Laid) × BegunUpTo laid rest x × (refusal_of x ≡ fault)
+abbrev pub CanNotFollow : (Begins Shallow : List Laid → Type 0) → List Laid → ParseFault → Type 0
+CanNotFollow Begins Shallow laid fault = (x : Laid) × (rest : List Laid) × UpTo Begins Shallow laid rest x × (refusal_of x ≡ fault)
 
 -- all the tokens are the beginning of a text, and this is the place of the last
-abbrev pub EndsTooEarly : List Laid → Place → Type 0
-EndsTooEarly laid p = (before : List Laid) × (x : Laid) × (laid ≡ before ++ x ∷ []) × Begun laid × (place_of x ≡ p)
+pub record EndsTooEarly (Begins Shallow : List Laid → Type 0) (laid : List Laid) (p : Place) : Type 0 where
+  pub before : List Laid
+  pub last : Laid
+  pub whole : laid ≡ before ++ last ∷ []
+  pub begun : Begins laid
+  pub shallow : Shallow laid
+  pub place : place_of last ≡ p
 
--- A text goes on through one of the tokens where ranges play no part, and with its ranges none does. The two places are those of
--- which the step at that token tells.
-pub record Conflicts (laid : List Laid) (p q : Place) : Type 0 where
+-- Up to one of the tokens a text with its ranges is begun; through that one a text goes on where ranges play no part, and none with them.
+-- The two places are those of the operators that meet there.
+pub record Conflicts (Begins Fitting Shallow : List Laid → Type 0) (laid : List Laid) (p q : Place) : Type 0 where
   pub read : List Laid
   pub rest : List Laid
   pub here : Laid
   pub whole : laid ≡ read ++ here ∷ rest
-  pub begun : Begun (read ++ here ∷ [])
-  pub none : ¬ (FittingBegun (read ++ here ∷ []))
-  pub clash : run laid [] mode.Want ≡ ClashesAt p q (here ∷ rest)
+  pub begun : Begins (read ++ here ∷ [])
+  pub fits : Fitting read
+  pub none : ¬ (Fitting (read ++ here ∷ []))
+  pub shallow : Shallow read
+  pub places : Meets Begins read here p q
 
--- why the tokens are refused
-abbrev pub IsRefused : List Laid → ParseFault → Type 0
-IsRefused laid (Expected p) = CanNotFollow laid (Expected p) ⊎ EndsTooEarly laid p
-IsRefused laid (Conflict p q) = Conflicts laid p q
-IsRefused laid (TooNested p) = Unit {0}
-IsRefused laid (OutOfProfile f p) = CanNotFollow laid (OutOfProfile f p)
-IsRefused laid NoMemory = Unit {0}
+-- The first token that stands inside too many unfinished constructs. A text with its ranges goes on through it.
+pub record IsTooNested (Fitting Shallow : List Laid → Type 0) (laid : List Laid) (p : Place) : Type 0 where
+  pub read : List Laid
+  pub rest : List Laid
+  pub here : Laid
+  pub whole : laid ≡ read ++ here ∷ rest
+  pub fits : Fitting (read ++ here ∷ [])
+  pub shallow : Shallow read
+  pub deep : ¬ (Shallow (read ++ here ∷ []))
+  pub place : place_of here ≡ p
 
--- an expression from the one index to the other goes as far as a text goes on
-abbrev pub GoesAsFar : List Laid → ℕ → ℕ → Type 0
-GoesAsFar laid from behind = (x : Laid) × (rest : List Laid) × (drop behind laid ≡ x ∷ rest) × BegunUpTo (drop from laid) rest x
+-- why the tokens are refused as a text of one kind
+abbrev pub IsRefused : (Begins Fitting Shallow : List Laid → Type 0) → List Laid → ParseFault → Type 0
+IsRefused Begins Fitting Shallow laid (Expected p) = CanNotFollow Begins Shallow laid (Expected p) ⊎ EndsTooEarly Begins Shallow laid p
+IsRefused Begins Fitting Shallow laid (Conflict p q) = Conflicts Begins Fitting Shallow laid p q
+IsRefused Begins Fitting Shallow laid (TooNested p) = IsTooNested Fitting Shallow laid p
+IsRefused Begins Fitting Shallow laid (OutOfProfile f p) = CanNotFollow Begins Shallow laid (OutOfProfile f p)
+IsRefused Begins Fitting Shallow laid NoMemory = Unit {0}
+
+-- a text from the one index to the other goes as far as a text goes on
+abbrev pub GoesAsFar : (Begins Shallow : List Laid → Type 0) → List Laid → ℕ → ℕ → Type 0
+GoesAsFar Begins Shallow laid from behind = (x : Laid) × (rest : List Laid) × (drop behind laid ≡ x ∷ rest) × UpTo Begins Shallow (drop from laid) rest x

@@ -1,11 +1,12 @@
 -- Why laid tokens are refused from an index on, by the reader from a start.
-use Rattle.std.specs.Prelude.{◌≡◌, ◌⊎◌, ℕ, List, [], ◌∷◌, ◌++◌}
+use Rattle.std.specs.Prelude.{◌≡◌, ◌⊎◌, ℕ, List, [], ◌∷◌, ◌++◌, drop}
 use Rattle.trace_base.specs.declared.place.Place.{Place}
 use Rattle.tla_ast.specs.declared.laid.Laid.{Laid}
 use Rattle.tla_ast.specs.declared.laid.Laid.TheVariants.{Plain, ListOpen, ListItem, ListClose}
 use Rattle.tla_ast.specs.declared.token.Kind.{Kind}
 use Rattle.tla_ast.specs.declared.token.Kind.TheVariants as kinds
-use Rattle.tla_exprs.specs.Machine.{StopsAt, ClashesAt}
+use Rattle.tla_exprs.specs.Machine.{StopsAt, ClashesAt, run}
+use Rattle.tla_exprs.specs.Nesting.{ShallowIn}
 use Rattle.tla_exprs.specs.Kept.{kept_run}
 use Rattle.tla_exprs.specs.declared.fault.ParseFault.{ParseFault}
 use Rattle.tla_exprs.specs.declared.fault.ParseFault.TheVariants.{Expected, Conflict, TooNested, OutOfProfile, NoMemory}
@@ -29,18 +30,39 @@ refusal_of (ListOpen b at) = Expected at
 refusal_of (ListItem b at) = Expected at
 refusal_of (ListClose at) = Expected at
 
+-- the tokens from an index on up to these are read by the reader from a start, and each stands inside at most 100 unfinished constructs
+pub record ShallowUpTo (laid : List Laid) (from : ℕ) (start : Mode) (behind : List Laid) : Type 0 where
+  pub read : List Laid
+  pub whole : drop from laid ≡ read ++ behind
+  pub shallow : ShallowIn [] start read
+
 -- the reader stops at a token that can not follow, of which this is the refusal
 abbrev pub StopsBefore : List Laid → ℕ → Mode → ParseFault → Type 0
-StopsBefore laid from start fault = (x : Laid) × (rest : List Laid) × (kept_run laid from [] start ≡ StopsAt (x ∷ rest)) × (refusal_of x ≡ fault)
+StopsBefore laid from start fault = (x : Laid) × (rest : List Laid) × (kept_run laid from [] start ≡ StopsAt (x ∷ rest)) × (refusal_of x ≡ fault) × ShallowUpTo laid from start (x ∷ rest)
 
 -- every token from there on is read and nothing has ended, and the last token of the list stands at this place
 abbrev pub EndsEarly : List Laid → ℕ → Mode → Place → Type 0
-EndsEarly laid from start p = (before : List Laid) × (x : Laid) × (kept_run laid from [] start ≡ StopsAt []) × (laid ≡ before ++ x ∷ []) × (place_of x ≡ p)
+EndsEarly laid from start p = (before : List Laid) × (x : Laid) × (kept_run laid from [] start ≡ StopsAt []) × (laid ≡ before ++ x ∷ []) × (place_of x ≡ p) × ShallowUpTo laid from start []
 
--- why the reader refuses: it stops at a token; the list ends too early; or the operators at two places clash
+-- the operators at two places clash
+abbrev pub ClashesHere : List Laid → ℕ → Mode → Place → Place → Type 0
+ClashesHere laid from start p q = (rest : List Laid) × (kept_run laid from [] start ≡ ClashesAt p q rest) × ShallowUpTo laid from start rest
+
+-- the token at this place is read, and is the first that stands inside too many unfinished constructs
+pub record NestsTooDeep (laid : List Laid) (from : ℕ) (start : Mode) (p : Place) : Type 0 where
+  pub read : List Laid
+  pub rest : List Laid
+  pub here : Laid
+  pub whole : drop from laid ≡ read ++ here ∷ rest
+  pub reads : run (read ++ here ∷ []) [] start ≡ StopsAt []
+  pub shallow : ShallowIn [] start read
+  pub deep : ¬ (ShallowIn [] start (read ++ here ∷ []))
+  pub place : place_of here ≡ p
+
+-- why the reader refuses: it stops at a token; the list ends too early; the operators at two places clash; or a token is too deep
 abbrev pub Refuses : List Laid → ℕ → Mode → ParseFault → Type 0
 Refuses laid from start (Expected p) = StopsBefore laid from start (Expected p) ⊎ EndsEarly laid from start p
-Refuses laid from start (Conflict p q) = (rest : List Laid) × (kept_run laid from [] start ≡ ClashesAt p q rest)
-Refuses laid from start (TooNested p) = Unit {0}
+Refuses laid from start (Conflict p q) = ClashesHere laid from start p q
+Refuses laid from start (TooNested p) = NestsTooDeep laid from start p
 Refuses laid from start (OutOfProfile f p) = StopsBefore laid from start (OutOfProfile f p)
 Refuses laid from start NoMemory = Unit {0}

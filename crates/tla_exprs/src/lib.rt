@@ -5,6 +5,9 @@ mod behind;
 mod binders;
 mod brackets;
 mod closers;
+mod counted;
+mod definition_laws;
+mod extent_laws;
 mod fault;
 mod folding;
 mod frame;
@@ -22,6 +25,8 @@ mod stepped;
 mod steps;
 mod tree_laws;
 
+pub use definition_laws::laws_of_definitions;
+pub use extent_laws::laws_of_extents;
 pub use fault::ParseFault;
 pub use laws::laws_of_reading;
 pub use reader::{definition, expression};

@@ -1,16 +1,23 @@
 //! How many unfinished constructs there are: an open bracket, list, CASE, an IF before its ELSE, a LET before its IN, a binder before
 //! its `:`, and an operator whose last operand has not ended. A `\in` that may belong to a binder is never counted.
 
+ghost use Rattle.std.specs.Prelude.{◌≡◌};
+ghost use Rattle.tla_exprs.specs.Nesting.{of_binder, of_frame, of_mode, of_scope};
+
 use crate::frame::{Binder, Frame, Mode, Scope};
 
-fn of_scope(scope: &Scope) -> u64 {
+fn of_scope(scope: &Scope) -> u64
+    ensures { result ≡ of_scope scope.now }
+{
     match scope {
         Scope::Let(_, _) => 1,
         Scope::Unit => 0,
     }
 }
 
-fn of_binder(binder: &Binder) -> u64 {
+fn of_binder(binder: &Binder) -> u64
+    ensures { result ≡ of_binder binder.now }
+{
     match binder {
         Binder::Quantifier(_, _) | Binder::Function(_) | Binder::Map(_, _) => 1,
         Binder::Defined(Scope::Let(_, _), _, _, _) => 2,
@@ -19,7 +26,9 @@ fn of_binder(binder: &Binder) -> u64 {
 }
 
 /// How many of them a frame is.
-pub fn unfinished_in(frame: &Frame) -> u64 {
+pub fn unfinished_in(frame: &Frame) -> u64
+    ensures { result ≡ of_frame frame.now }
+{
     match frame {
         Frame::QuantifierBody(_, _, _)
         | Frame::ChooseBody(_, _, _)
@@ -35,7 +44,9 @@ pub fn unfinished_in(frame: &Frame) -> u64 {
 }
 
 /// How many are unfinished in the row of what is expected.
-pub fn unfinished_at(mode: &Mode) -> u64 {
+pub fn unfinished_at(mode: &Mode) -> u64
+    ensures { result ≡ of_mode mode.now }
+{
     match mode {
         Mode::Want
         | Mode::Have(_)

@@ -1,12 +1,17 @@
 //! The reader of expressions and of definitions.
 
-ghost use Rattle.std.specs.Prelude.{◌≡◌, ◌<◌, IfOk, IfErr, drop, length};
+ghost use Rattle.std.specs.Prelude.{◌≡◌, ◌<◌, IfOk, IfErr, drop, length, nat_lt};
+ghost use Rattle.tla_ast.specs.Begun.{Begun};
 ghost use Rattle.tla_ast.specs.Fits.{Fits, Spells};
 ghost use Rattle.tla_ast.specs.Grammar.{◌⨟◌, DefinitionRest, token};
 ghost use Rattle.tla_ast.specs.declared.token.Kind.TheVariants as kinds;
+ghost use Rattle.tla_exprs.specs.Beginnings.{BegunDefinition, FittingBegun, FittingBegunDefinition};
+ghost use Rattle.tla_exprs.specs.Does.{frames_in};
 ghost use Rattle.tla_exprs.specs.Ended.{IsRead};
+ghost use Rattle.tla_exprs.specs.Nesting.{Shallow, ShallowDefinition, deepest, unfinished};
 ghost use Rattle.tla_exprs.specs.Refusals.{GoesAsFar, IsRefused};
 ghost use Rattle.tla_exprs.specs.Refused.{Refuses, place_of, refusal_of};
+ghost use Rattle.tla_exprs.specs.Unended.{EndedDefinition, EndedText, IsUnended};
 
 use crate::fault::ParseFault;
 use crate::frame::{Mode, Scope};
@@ -53,6 +58,13 @@ fn expected(laid: &Laid) -> ParseFault
     }
 }
 
+/// Whether a token stands inside too many unfinished constructs.
+fn is_too_deep(stack: &Stack, mode: &Mode) -> bool
+    ensures { result ≡ nat_lt deepest (unfinished (frames_in stack.now) mode.now) }
+{
+    stack.unfinished.saturating_add(unfinished_at(mode)) > DEEPEST
+}
+
 /// Reads from an index on, until an expression or a definition ends before a token.
 fn read(alloc: Global, laid: &[Laid], from: usize, start: Mode) -> Result<Ended, ParseFault>
     requires { from < length laid.now }
@@ -65,10 +77,10 @@ fn read(alloc: Global, laid: &[Laid], from: usize, start: Mode) -> Result<Ended,
     for i in from..laid.len() {
         let next = &laid[i];
         last = place_of(next);
-        let unfinished = stack.unfinished.saturating_add(unfinished_at(&mode));
+        let deep = is_too_deep(&stack, &mode);
         match step(alloc, next, &mut stack, mode)? {
             Stepped::Reads(behind) => {
-                if unfinished > DEEPEST {
+                if deep {
                     return Err(ParseFault::TooNested(last));
                 }
                 mode = behind;
@@ -90,8 +102,9 @@ pub fn expression(alloc: Global, laid: &[Laid], from: usize) -> Result<(Expr, us
     ensures spelled { IfOk result (λ r. Spells r.0 (drop from laid.now) (drop r.1 laid.now)) }
     ensures ahead { IfOk result (λ r. from < r.1) }
     ensures within { IfOk result (λ r. r.1 < length laid.now) }
-    ensures far { IfOk result (λ r. GoesAsFar laid.now from r.1) }
-    ensures refused { IfErr result (λ e. IsRefused (drop from laid.now) e) }
+    ensures far { IfOk result (λ r. GoesAsFar Begun Shallow laid.now from r.1) }
+    ensures refused { IfErr result (λ e. IsRefused Begun FittingBegun Shallow (drop from laid.now) e) }
+    ensures unended { IfErr result (λ e. IsUnended EndedText (drop from laid.now) e) }
 {
     match read(alloc, laid, from, Mode::Want)? {
         Ended::Expression(e, behind) => Ok((e, behind)),
@@ -110,7 +123,9 @@ pub fn definition(
     ensures fits { IfOk result (λ r. Fits r.0.body) }
     ensures ahead { IfOk result (λ r. from < r.1) }
     ensures within { IfOk result (λ r. r.1 < length laid.now) }
-    ensures refused { IfErr result (λ e. Refuses laid.now from (Mode.DefinitionName Scope.Unit) e) }
+    ensures far { IfOk result (λ r. GoesAsFar BegunDefinition ShallowDefinition laid.now from r.1) }
+    ensures refused { IfErr result (λ e. IsRefused BegunDefinition FittingBegunDefinition ShallowDefinition (drop from laid.now) e) }
+    ensures unended { IfErr result (λ e. IsUnended EndedDefinition (drop from laid.now) e) }
 {
     match read(alloc, laid, from, Mode::DefinitionName(Scope::Unit))? {
         Ended::Definition(definition, behind) => Ok((definition, behind)),

@@ -1,6 +1,6 @@
 //! Laws of where the reader stops, proved with no code.
 
-ghost use Rattle.tla_exprs.specs.LawsOfRefusals.{StoppedBegun, ClashedBegun, EndsBegun, StoppedThere, EndsThere, ClashedThere, RanBegun};
+ghost use Rattle.tla_exprs.specs.LawsOfRefusals.{StoppedBegun, ClashedBegun, EndsBegun, StoppedThere, EndsThere, ClashedThere, RanBegun, RanFits, ClashedMeets};
 
 /// What is read before the reader stops is the beginning of a text, and no text goes on through the token at which it stops.
 /// The same is so where an expression has ended.
@@ -14,4 +14,6 @@ pub fn laws_of_refusals()
     ensures ends_there { EndsThere }
     ensures clashed_there { ClashedThere }
     ensures ran { RanBegun }
+    ensures ran_fits { RanFits }
+    ensures meets { ClashedMeets }
 {}

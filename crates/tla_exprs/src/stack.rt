@@ -4,19 +4,13 @@ ghost use Rattle.std.specs.Prelude.{◌≡◌, [], ◌∷◌, IfOk, MatchOption,
 ghost use Rattle.tla_exprs.specs.Does.{Does, frames_in};
 ghost use Rattle.tla_exprs.specs.Machine.{deliver, subscripted, want};
 
+pub use crate::counted::Stack;
 use crate::frame::{Action, Frame, Mode};
 use crate::nesting::unfinished_in;
 use crate::stepped::Stepped;
-use std::alloc::Global;
+use std::alloc::{AllocError, Global};
 use tla_ast::{Expr, Node};
 use trace_base::{NoMemory, Place};
-
-/// What is open, and how many unfinished constructs that is.
-#[derive(Drop)]
-pub struct Stack {
-    pub frames: Vec<Frame>,
-    pub unfinished: u64,
-}
 
 impl Stack {
     /// Nothing is open.
@@ -33,9 +27,11 @@ impl Stack {
 pub fn push(stack: &mut Stack, frame: Frame) -> Result<(), NoMemory>
     ensures { OnOk result (frames_in stack.new ≡ frame ∷ frames_in stack.old) }
 {
-    let more = unfinished_in(&frame);
+    let Some(unfinished) = stack.unfinished.checked_add(unfinished_in(&frame)) else {
+        return Err(AllocError);
+    };
     stack.frames.push(frame)?;
-    stack.unfinished = stack.unfinished.saturating_add(more);
+    stack.unfinished = unfinished;
     Ok(())
 }
 
@@ -44,7 +40,7 @@ pub fn pop(stack: &mut Stack) -> Option<Frame>
     ensures { MatchOption result ((frames_in stack.old ≡ []) × (frames_in stack.new ≡ [])) (λ f. frames_in stack.old ≡ f ∷ frames_in stack.new) }
 {
     let frame = stack.frames.pop()?;
-    stack.unfinished = stack.unfinished.saturating_sub(unfinished_in(&frame));
+    stack.unfinished -= unfinished_in(&frame);
     Some(frame)
 }
 

@@ -14,6 +14,7 @@ use Rattle.tla_ast.specs.Laid.{IsLaid, IsLeftOfList}
 use Rattle.tla_ast.specs.Modules.{SpellsModule}
 use Rattle.tla_exprs.specs.declared.fault.ParseFault.{ParseFault}
 use Rattle.tla_exprs.specs.declared.fault.ParseFault.TheVariants as parse
+use Rattle.tla_units.specs.Refusals.{IsRefusedModule}
 use Rattle.tla_modules.specs.declared.fault.LoadWhy.{LoadWhy}
 use Rattle.tla_modules.specs.declared.fault.LoadWhy.TheVariants.{Read, Lex, Lay, Parse, Cycle, TooMany, Twice, WrongName}
 use Rattle.tla_modules.specs.declared.fault.Stop.{Stop}
@@ -73,11 +74,7 @@ IsUnreadFile holds file (WrongName name at) = ⊥
 
 -- the laid tokens are refused as a module, by this cause
 abbrev pub IsUnparsed : List Laid → ParseFault → Type 0
-IsUnparsed laid (parse.Expected at) = Unit {0}
-IsUnparsed laid (parse.Conflict p q) = Unit {0}
-IsUnparsed laid (parse.TooNested at) = Unit {0}
-IsUnparsed laid (parse.OutOfProfile f at) = Unit {0}
-IsUnparsed laid parse.NoMemory = ⊥
+IsUnparsed laid fault = IsRefusedModule laid fault × (fault ≢ parse.NoMemory)
 
 -- the bytes spell no module: they have no tokens, the tokens no junction lists, or these are refused as a module
 abbrev pub Misspells : ℕ → List ℕ → LoadWhy → Type 0

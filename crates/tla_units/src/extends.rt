@@ -1,7 +1,9 @@
 //! The modules that a module extends.
 
-ghost use Rattle.std.specs.Prelude.{◌≡◌, ◌<◌, ◌≤◌, length, drop, IfOk};
+ghost use Rattle.std.specs.Prelude.{◌≡◌, ◌<◌, ◌≤◌, length, drop, IfOk, IfErr};
 ghost use Rattle.tla_ast.specs.Modules.{LaidEndsOnce, ExtendsText};
+ghost use Rattle.tla_units.specs.Reads.{Leads, RefusedIn, NeverDeep};
+ghost use Rattle.tla_units.specs.Rests.{◌▹◌, Extended, Tail};
 
 use crate::marks::{Mark, mark_at};
 use crate::names::names;
@@ -17,12 +19,12 @@ pub fn extends(alloc: Global, laid: &[Laid], from: usize) -> Result<(Names, usiz
     ensures spelled { IfOk result (λ r. ExtendsText r.0 (drop from laid.now) (drop r.1 laid.now)) }
     ensures ahead { IfOk result (λ r. from ≤ r.1) }
     ensures within { IfOk result (λ r. r.1 < length laid.now) }
+    ensures far { IfOk result (λ r. Leads (Extended ▹ Tail) Tail (drop from laid.now) (drop r.1 laid.now)) }
+    ensures refused { IfErr result (λ e. RefusedIn (Extended ▹ Tail) NeverDeep (drop from laid.now) e) }
 {
-    match mark_at(laid, from) {
-        Some(Mark::Extends) => {
-            let (names, next) = names(alloc, laid, from + 1)?;
-            Ok((names, next))
-        }
-        _ => Ok((Names::new(alloc), from)),
+    if mark_at(laid, from) == Some(Mark::Extends) {
+        let (names, next) = names(alloc, laid, from + 1)?;
+        return Ok((names, next));
     }
+    Ok((Names::new(alloc), from))
 }

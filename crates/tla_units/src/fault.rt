@@ -1,14 +1,15 @@
 //! Where the laid tokens stop to be a module.
 
-ghost use Rattle.std.specs.Prelude.{◌≡◌};
-ghost use Rattle.tla_units.specs.Faults.{kind_fault, fault_at};
+ghost use Rattle.std.specs.Prelude.{◌≡◌, ◌<◌, length, drop};
+ghost use Rattle.tla_exprs.specs.Refused.{refusal_of, refusal_of_kind};
+ghost use Rattle.tla_units.specs.Marks.{IsRefusedAt};
 
 use tla_ast::{Kind, Laid};
 use tla_exprs::ParseFault;
 use trace_base::Place;
 
 fn kind_fault(kind: &Kind, place: Place) -> ParseFault
-    ensures { result ≡ kind_fault kind.now place }
+    ensures { result ≡ refusal_of_kind kind.now place }
 {
     match kind {
         Kind::Foreign(foreign) => ParseFault::OutOfProfile(*foreign, place),
@@ -16,9 +17,8 @@ fn kind_fault(kind: &Kind, place: Place) -> ParseFault
     }
 }
 
-/// The refusal of a laid token that can not stand where it does.
-pub fn fault_at(laid: &Laid) -> ParseFault
-    ensures { result ≡ fault_at laid.now }
+fn token_fault(laid: &Laid) -> ParseFault
+    ensures { result ≡ refusal_of laid.now }
 {
     match laid {
         Laid::Plain(token) => kind_fault(&token.kind, token.place),
@@ -26,4 +26,12 @@ pub fn fault_at(laid: &Laid) -> ParseFault
             ParseFault::Expected(*place)
         }
     }
+}
+
+/// The refusal of the laid token at an index, which can not stand there.
+pub fn fault_at(laid: &[Laid], at: usize) -> ParseFault
+    requires { at < length laid.now }
+    ensures { IsRefusedAt (drop at laid.now) result }
+{
+    token_fault(&laid[at])
 }

@@ -1,20 +1,24 @@
 //! What the grammar of modules tells apart among tokens.
 
-ghost use Rattle.std.specs.Prelude.{◌≡◌, ◌<◌, ◌+◌, [], ◌∷◌, length, drop, IfSome, OnOk, IfOk};
+ghost use Rattle.std.specs.Prelude.{◌≡◌, ◌<◌, ◌+◌, [], ◌∷◌, false, None, length, drop, IfNone, IfSome, OnOk, OnErr, IfOk, IfErr};
 ghost use Rattle.tla_ast.specs.declared.laid.Laid.TheVariants.{Plain};
 ghost use Rattle.tla_ast.specs.declared.token.Kind.TheVariants as kinds;
 ghost use Rattle.tla_ast.specs.declared.token.Word.TheVariants as words;
 ghost use Rattle.tla_ast.specs.declared.token.Symbol.TheVariants as symbols;
 ghost use Rattle.tla_ast.specs.Grammar.{some_token, word};
 ghost use Rattle.tla_ast.specs.Modules.{LaidEndsOnce};
+ghost use Rattle.tla_units.specs.Marks.{word_mark, symbol_mark, kind_mark, first_mark, begins_end, IsRefusedAt};
 ghost use Rattle.tla_units.specs.Parts.{Part, MarkText, IsMark};
+ghost use Rattle.tla_units.specs.Reads.{Lacks};
+ghost use Rattle.tla_units.specs.Rests.{Marked};
+ghost use Rattle.tla_units.specs.declared.marks.Mark.TheVariants as marks;
 
 use crate::fault::fault_at;
 use tla_ast::{Kind, Laid, Symbol, Token, Word};
 use tla_exprs::ParseFault;
 
 /// A token by its part in the grammar of modules.
-#[derive(Clone, Copy, Debug, Drop)]
+#[derive(Clone, Copy, Debug, Drop, PartialEq, Eq)]
 pub enum Mark {
     Name,
     Dashes,
@@ -33,8 +37,10 @@ pub enum Mark {
     Theorem,
 }
 
+#[tactic(auto, unfolding(crate::specs::Marks::word_mark))]
 fn word_mark(word: Word) -> Option<Mark>
-    ensures { IfSome result (λ m. IsMark m (kinds.Word word)) }
+    ensures mark { IfSome result (λ m. IsMark m (kinds.Word word)) }
+    ensures told { result ≡ word_mark word }
 {
     match word {
         Word::Module => Some(Mark::Heading),
@@ -47,8 +53,10 @@ fn word_mark(word: Word) -> Option<Mark>
     }
 }
 
+#[tactic(auto, unfolding(crate::specs::Marks::symbol_mark))]
 fn symbol_mark(symbol: Symbol) -> Option<Mark>
-    ensures { IfSome result (λ m. IsMark m (kinds.Symbol symbol)) }
+    ensures mark { IfSome result (λ m. IsMark m (kinds.Symbol symbol)) }
+    ensures told { result ≡ symbol_mark symbol }
 {
     match symbol {
         Symbol::Comma => Some(Mark::Comma),
@@ -57,8 +65,10 @@ fn symbol_mark(symbol: Symbol) -> Option<Mark>
     }
 }
 
+#[tactic(auto, unfolding(crate::specs::Marks::kind_mark))]
 fn kind_mark(kind: &Kind) -> Option<Mark>
-    ensures { IfSome result (λ m. IsMark m kind.now) }
+    ensures mark { IfSome result (λ m. IsMark m kind.now) }
+    ensures told { result ≡ kind_mark kind.now }
 {
     match kind {
         Kind::Name(_) => Some(Mark::Name),
@@ -71,14 +81,19 @@ fn kind_mark(kind: &Kind) -> Option<Mark>
 }
 
 /// The token that stands at an index, if it is no mark of a junction list.
+#[tactic(auto, unfolding(crate::specs::Marks::mark_of))]
 pub fn token_at(laid: &[Laid], at: usize) -> Option<&Token>
     requires ends { LaidEndsOnce laid.now }
     requires inside { at < length laid.now }
-    ensures { IfSome result (λ t. drop at laid.now ≡ Plain t.now ∷ drop (at + 1) laid.now) }
+    ensures token { IfSome result (λ t. drop at laid.now ≡ Plain t.now ∷ drop (at + 1) laid.now) }
+    ensures none { IfNone result (first_mark (drop at laid.now) ≡ None) }
+    ensures not_end { IfNone result (begins_end (drop at laid.now) ≡ false) }
 {
     match &laid[at] {
         Laid::Plain(token) => Some(token),
-        _ => None,
+        Laid::ListOpen(_, _) => None,
+        Laid::ListItem(_, _) => None,
+        Laid::ListClose(_) => None,
     }
 }
 
@@ -86,7 +101,9 @@ pub fn token_at(laid: &[Laid], at: usize) -> Option<&Token>
 pub fn mark_at(laid: &[Laid], at: usize) -> Option<Mark>
     requires ends { LaidEndsOnce laid.now }
     requires inside { at < length laid.now }
-    ensures { IfSome result (λ m. Part (MarkText m) laid.now at (at + 1)) }
+    ensures part { IfSome result (λ m. Part (MarkText m) laid.now at (at + 1)) }
+    ensures token { IfSome result (λ m. Marked m (drop at laid.now) (drop (at + 1) laid.now)) }
+    ensures told { result ≡ first_mark (drop at laid.now) }
 {
     match token_at(laid, at) {
         Some(token) => kind_mark(&token.kind),
@@ -94,53 +111,70 @@ pub fn mark_at(laid: &[Laid], at: usize) -> Option<Mark>
     }
 }
 
+/// Reads a token of a mark.
+fn expect(laid: &[Laid], from: usize, mark: Mark) -> Result<usize, ParseFault>
+    requires ends { LaidEndsOnce laid.now }
+    requires inside { from < length laid.now }
+    ensures part { IfOk result (λ to. Part (MarkText mark) laid.now from to) }
+    ensures token { IfOk result (λ to. Marked mark (drop from laid.now) (drop to laid.now)) }
+    ensures lacks { OnErr result (Lacks mark (drop from laid.now)) }
+    ensures refused { IfErr result (λ e. IsRefusedAt (drop from laid.now) e) }
+{
+    if mark_at(laid, from) == Some(mark) {
+        return Ok(from + 1);
+    }
+    Err(fault_at(laid, from))
+}
+
 /// Reads dashes.
 pub fn dashes(laid: &[Laid], from: usize) -> Result<usize, ParseFault>
     requires ends { LaidEndsOnce laid.now }
     requires inside { from < length laid.now }
-    ensures { IfOk result (λ to. Part (some_token kinds.Dashes) laid.now from to) }
+    ensures part { IfOk result (λ to. Part (some_token kinds.Dashes) laid.now from to) }
+    ensures token { IfOk result (λ to. Marked marks.Dashes (drop from laid.now) (drop to laid.now)) }
+    ensures lacks { OnErr result (Lacks marks.Dashes (drop from laid.now)) }
+    ensures refused { IfErr result (λ e. IsRefusedAt (drop from laid.now) e) }
 {
-    match mark_at(laid, from) {
-        Some(Mark::Dashes) => Ok(from + 1),
-        _ => Err(fault_at(&laid[from])),
-    }
+    expect(laid, from, Mark::Dashes)
 }
 
 /// Reads the word MODULE.
 pub fn heading(laid: &[Laid], from: usize) -> Result<usize, ParseFault>
     requires ends { LaidEndsOnce laid.now }
     requires inside { from < length laid.now }
-    ensures { IfOk result (λ to. Part (word words.Module) laid.now from to) }
+    ensures part { IfOk result (λ to. Part (word words.Module) laid.now from to) }
+    ensures token { IfOk result (λ to. Marked marks.Heading (drop from laid.now) (drop to laid.now)) }
+    ensures lacks { OnErr result (Lacks marks.Heading (drop from laid.now)) }
+    ensures refused { IfErr result (λ e. IsRefusedAt (drop from laid.now) e) }
 {
-    match mark_at(laid, from) {
-        Some(Mark::Heading) => Ok(from + 1),
-        _ => Err(fault_at(&laid[from])),
-    }
+    expect(laid, from, Mark::Heading)
 }
 
 /// Reads equals signs.
 pub fn equals(laid: &[Laid], from: usize) -> Result<usize, ParseFault>
     requires ends { LaidEndsOnce laid.now }
     requires inside { from < length laid.now }
-    ensures { IfOk result (λ to. Part (some_token kinds.Equals) laid.now from to) }
+    ensures part { IfOk result (λ to. Part (some_token kinds.Equals) laid.now from to) }
+    ensures token { IfOk result (λ to. Marked marks.Equals (drop from laid.now) (drop to laid.now)) }
+    ensures lacks { OnErr result (Lacks marks.Equals (drop from laid.now)) }
+    ensures refused { IfErr result (λ e. IsRefusedAt (drop from laid.now) e) }
 {
-    match mark_at(laid, from) {
-        Some(Mark::Equals) => Ok(from + 1),
-        _ => Err(fault_at(&laid[from])),
-    }
+    expect(laid, from, Mark::Equals)
 }
 
 /// Reads the End.
 pub fn the_end(laid: &[Laid], from: usize) -> Result<(), ParseFault>
     requires ends { LaidEndsOnce laid.now }
     requires inside { from < length laid.now }
-    ensures { OnOk result (some_token kinds.End (drop from laid.now) []) }
+    ensures end { OnOk result (some_token kinds.End (drop from laid.now) []) }
+    ensures lacks { OnErr result (begins_end (drop from laid.now) ≡ false) }
+    ensures refused { IfErr result (λ e. IsRefusedAt (drop from laid.now) e) }
 {
     match token_at(laid, from) {
         Some(token) => match &token.kind {
             Kind::End => Ok(()),
-            _ => Err(fault_at(&laid[from])),
+            _ => Err(fault_at(laid, from)),
         },
-        None => Err(fault_at(&laid[from])),
+        None => Err(fault_at(laid, from)),
     }
 }

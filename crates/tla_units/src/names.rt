@@ -1,14 +1,17 @@
 //! Names and lists of them.
 
-ghost use Rattle.std.specs.Prelude.{◌≡◌, ◌<◌, length, drop, IfOk};
+ghost use Rattle.std.specs.Prelude.{◌≡◌, ◌<◌, length, drop, IfOk, IfErr};
 ghost use Rattle.tla_ast.specs.Grammar.{NamesText};
 ghost use Rattle.tla_ast.specs.Modules.{LaidEndsOnce, DeclaredText, DeclaredNamesText};
 ghost use Rattle.tla_units.specs.Parts.{Part};
+ghost use Rattle.tla_units.specs.Reads.{Leads, Misses, RefusedIn, NeverDeep};
+ghost use Rattle.tla_units.specs.Rests.{◌▹◌, Marked, Listed, Tail};
+ghost use Rattle.tla_units.specs.declared.marks.Mark.TheVariants as marks;
 
 use crate::fault::fault_at;
 use crate::marks::{Mark, mark_at, token_at};
 use std::alloc::Global;
-use tla_ast::{Declared, DeclaredNames, Kind, Laid, Token};
+use tla_ast::{Declared, DeclaredNames, Kind, Laid};
 use tla_exprs::ParseFault;
 use trace_base::Names;
 
@@ -16,19 +19,25 @@ use trace_base::Names;
 pub fn declared(laid: &[Laid], from: usize) -> Result<(Declared, usize), ParseFault>
     requires ends { LaidEndsOnce laid.now }
     requires inside { from < length laid.now }
-    ensures { IfOk result (λ r. Part (DeclaredText r.0) laid.now from r.1) }
+    ensures part { IfOk result (λ r. Part (DeclaredText r.0) laid.now from r.1) }
+    ensures token { IfOk result (λ r. Marked marks.Name (drop from laid.now) (drop r.1 laid.now)) }
+    ensures refused { IfErr result (λ e. Misses marks.Name (drop from laid.now) e) }
 {
     match token_at(laid, from) {
-        Some(
-            Token {
-                kind: Kind::Name(name),
-                place,
-            },
-        ) => {
-            let name = name.copy()?;
-            Ok((Declared { name, at: *place }, from + 1))
-        }
-        _ => Err(fault_at(&laid[from])),
+        Some(token) => match &token.kind {
+            Kind::Name(name) => {
+                let name = name.copy()?;
+                Ok((
+                    Declared {
+                        name,
+                        at: token.place,
+                    },
+                    from + 1,
+                ))
+            }
+            _ => Err(fault_at(laid, from)),
+        },
+        None => Err(fault_at(laid, from)),
     }
 }
 
@@ -40,12 +49,14 @@ pub fn declared_names(
 ) -> Result<(DeclaredNames, usize), ParseFault>
     requires ends { LaidEndsOnce laid.now }
     requires inside { from < length laid.now }
-    ensures { IfOk result (λ r. Part (DeclaredNamesText r.0) laid.now from r.1) }
+    ensures part { IfOk result (λ r. Part (DeclaredNamesText r.0) laid.now from r.1) }
+    ensures far { IfOk result (λ r. Leads (Listed ▹ Tail) Tail (drop from laid.now) (drop r.1 laid.now)) }
+    ensures refused { IfErr result (λ e. RefusedIn (Listed ▹ Tail) NeverDeep (drop from laid.now) e) }
 {
     let mut names = DeclaredNames::new(alloc);
     let (first, mut next) = declared(laid, from)?;
     names.push(first)?;
-    while let Some(Mark::Comma) = mark_at(laid, next) {
+    while mark_at(laid, next) == Some(Mark::Comma) {
         let (name, behind) = declared(laid, next + 1)?;
         names.push(name)?;
         next = behind;
@@ -57,12 +68,14 @@ pub fn declared_names(
 pub fn names(alloc: Global, laid: &[Laid], from: usize) -> Result<(Names, usize), ParseFault>
     requires ends { LaidEndsOnce laid.now }
     requires inside { from < length laid.now }
-    ensures { IfOk result (λ r. Part (NamesText r.0) laid.now from r.1) }
+    ensures part { IfOk result (λ r. Part (NamesText r.0) laid.now from r.1) }
+    ensures far { IfOk result (λ r. Leads (Listed ▹ Tail) Tail (drop from laid.now) (drop r.1 laid.now)) }
+    ensures refused { IfErr result (λ e. RefusedIn (Listed ▹ Tail) NeverDeep (drop from laid.now) e) }
 {
     let mut names = Names::new(alloc);
     let (first, mut next) = declared(laid, from)?;
     names.push(first.name)?;
-    while let Some(Mark::Comma) = mark_at(laid, next) {
+    while mark_at(laid, next) == Some(Mark::Comma) {
         let (name, behind) = declared(laid, next + 1)?;
         names.push(name.name)?;
         next = behind;

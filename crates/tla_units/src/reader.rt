@@ -1,7 +1,8 @@
 //! The module.
 
-ghost use Rattle.std.specs.Prelude.{◌≡◌, ◌<◌, length, drop, IfOk};
+ghost use Rattle.std.specs.Prelude.{◌≡◌, ◌<◌, length, drop, IfOk, IfErr};
 ghost use Rattle.tla_ast.specs.Modules.{LaidEndsOnce, SpellsModule};
+ghost use Rattle.tla_units.specs.Refusals.{IsRefusedModule};
 
 use crate::extends::extends;
 use crate::marks::{dashes, equals, heading, the_end};
@@ -17,15 +18,16 @@ use tla_exprs::ParseFault;
 pub fn module(alloc: Global, laid: &[Laid]) -> Result<Module, ParseFault>
     requires { LaidEndsOnce laid.now }
     ensures spelled { IfOk result (λ m. SpellsModule m laid.now) }
+    ensures refused { IfErr result (λ e. IsRefusedModule laid.now e) }
 {
-    let next = dashes(laid, 0)?;
-    let next = heading(laid, next)?;
-    let (name, next) = declared(laid, next)?;
-    let next = dashes(laid, next)?;
-    let (extends, next) = extends(alloc, laid, next)?;
-    let (units, next) = units(alloc, laid, next)?;
-    let next = equals(laid, next)?;
-    the_end(laid, next)?;
+    let word = dashes(laid, 0)?;
+    let called = heading(laid, word)?;
+    let (name, behind) = declared(laid, called)?;
+    let body = dashes(laid, behind)?;
+    let (extends, first) = extends(alloc, laid, body)?;
+    let (units, last) = units(alloc, laid, first)?;
+    let end = equals(laid, last)?;
+    the_end(laid, end)?;
     Ok(Module {
         name: name.name,
         at: name.at,

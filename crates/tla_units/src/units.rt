@@ -1,15 +1,19 @@
 //! The units of a module.
 
-ghost use Rattle.std.specs.Prelude.{◌≡◌, ◌+◌, ◌<◌, ◌≤◌, length, drop, IfOk};
+ghost use Rattle.std.specs.Prelude.{◌≡◌, ◌+◌, ◌<◌, ◌≤◌, Some, length, drop, IfOk, IfErr};
 ghost use Rattle.tla_ast.specs.Modules.{LaidEndsOnce, MaybeTitle, variable_word, constant_word, assume_word, theorem_word, UnitText, UnitsText, UnitFits, UnitsFit};
+ghost use Rattle.tla_units.specs.Marks.{first_mark};
 ghost use Rattle.tla_units.specs.Parts.{Part};
+ghost use Rattle.tla_units.specs.Reads.{Leads, Lacks, ReadsTitle, RefusedIn, DeepUnit, DeepUnits};
+ghost use Rattle.tla_units.specs.Rests.{Marked, Last, Tail};
+ghost use Rattle.tla_units.specs.declared.marks.Mark.TheVariants as marks;
 
 use crate::fault::fault_at;
 use crate::marks::{Mark, mark_at};
 use crate::names::declared_names;
 use std::alloc::Global;
 use tla_ast::{Laid, Unit, Units};
-use tla_exprs::{ParseFault, definition, expression};
+use tla_exprs::{ParseFault, definition, expression, laws_of_extents, laws_of_refusals};
 
 /// The index behind a name and `==`, or that at which they would begin.
 fn behind_title(laid: &[Laid], from: usize) -> usize
@@ -18,11 +22,13 @@ fn behind_title(laid: &[Laid], from: usize) -> usize
     ensures spelled { MaybeTitle (drop from laid.now) (drop result laid.now) }
     ensures ahead { from ≤ result }
     ensures within { result < length laid.now }
+    ensures told { ReadsTitle (drop from laid.now) (drop result laid.now) }
 {
-    if let Some(Mark::Name) = mark_at(laid, from) {
-        if let Some(Mark::Defined) = mark_at(laid, from + 1) {
+    if mark_at(laid, from) == Some(Mark::Name) {
+        if mark_at(laid, from + 1) == Some(Mark::Defined) {
             return from + 2;
         }
+        return from;
     }
     from
 }
@@ -31,8 +37,11 @@ fn behind_title(laid: &[Laid], from: usize) -> usize
 fn variables(alloc: Global, laid: &[Laid], from: usize) -> Result<(Unit, usize), ParseFault>
     requires ends { LaidEndsOnce laid.now }
     requires word { Part variable_word laid.now from (from + 1) }
-    ensures spelled { IfOk result (λ r. Part (UnitText r.0) laid.now from r.1) }
+    requires token { Marked marks.Variables (drop from laid.now) (drop (from + 1) laid.now) }
+    ensures part { IfOk result (λ r. Part (UnitText r.0) laid.now from r.1) }
     ensures fits { IfOk result (λ r. UnitFits r.0) }
+    ensures far { IfOk result (λ r. Leads Tail Tail (drop from laid.now) (drop r.1 laid.now)) }
+    ensures refused { IfErr result (λ e. RefusedIn Tail (DeepUnit (drop from laid.now)) (drop from laid.now) e) }
 {
     let (names, next) = declared_names(alloc, laid, from + 1)?;
     Ok((Unit::Variables(names), next))
@@ -42,8 +51,11 @@ fn variables(alloc: Global, laid: &[Laid], from: usize) -> Result<(Unit, usize),
 fn constants(alloc: Global, laid: &[Laid], from: usize) -> Result<(Unit, usize), ParseFault>
     requires ends { LaidEndsOnce laid.now }
     requires word { Part constant_word laid.now from (from + 1) }
-    ensures spelled { IfOk result (λ r. Part (UnitText r.0) laid.now from r.1) }
+    requires token { Marked marks.Constants (drop from laid.now) (drop (from + 1) laid.now) }
+    ensures part { IfOk result (λ r. Part (UnitText r.0) laid.now from r.1) }
     ensures fits { IfOk result (λ r. UnitFits r.0) }
+    ensures far { IfOk result (λ r. Leads Tail Tail (drop from laid.now) (drop r.1 laid.now)) }
+    ensures refused { IfErr result (λ e. RefusedIn Tail (DeepUnit (drop from laid.now)) (drop from laid.now) e) }
 {
     let (names, next) = declared_names(alloc, laid, from + 1)?;
     Ok((Unit::Constants(names), next))
@@ -53,9 +65,13 @@ fn constants(alloc: Global, laid: &[Laid], from: usize) -> Result<(Unit, usize),
 fn defined(alloc: Global, laid: &[Laid], from: usize) -> Result<(Unit, usize), ParseFault>
     requires ends { LaidEndsOnce laid.now }
     requires inside { from < length laid.now }
-    ensures spelled { IfOk result (λ r. Part (UnitText r.0) laid.now from r.1) }
+    requires token { first_mark (drop from laid.now) ≡ Some marks.Name }
+    ensures part { IfOk result (λ r. Part (UnitText r.0) laid.now from r.1) }
     ensures fits { IfOk result (λ r. UnitFits r.0) }
+    ensures far { IfOk result (λ r. Leads Tail Tail (drop from laid.now) (drop r.1 laid.now)) }
+    ensures refused { IfErr result (λ e. RefusedIn Tail (DeepUnit (drop from laid.now)) (drop from laid.now) e) }
 {
+    laws_of_extents();
     let (definition, next) = definition(alloc, laid, from)?;
     Ok((Unit::Define(definition), next))
 }
@@ -64,9 +80,14 @@ fn defined(alloc: Global, laid: &[Laid], from: usize) -> Result<(Unit, usize), P
 fn assumption(alloc: Global, laid: &[Laid], from: usize) -> Result<(Unit, usize), ParseFault>
     requires ends { LaidEndsOnce laid.now }
     requires word { Part assume_word laid.now from (from + 1) }
-    ensures spelled { IfOk result (λ r. Part (UnitText r.0) laid.now from r.1) }
+    requires token { Marked marks.Assume (drop from laid.now) (drop (from + 1) laid.now) }
+    ensures part { IfOk result (λ r. Part (UnitText r.0) laid.now from r.1) }
     ensures fits { IfOk result (λ r. UnitFits r.0) }
+    ensures far { IfOk result (λ r. Leads Tail Tail (drop from laid.now) (drop r.1 laid.now)) }
+    ensures refused { IfErr result (λ e. RefusedIn Tail (DeepUnit (drop from laid.now)) (drop from laid.now) e) }
 {
+    laws_of_extents();
+    laws_of_refusals();
     let start = behind_title(laid, from + 1);
     let (assumed, next) = expression(alloc, laid, start)?;
     Ok((Unit::Assume(assumed), next))
@@ -76,21 +97,29 @@ fn assumption(alloc: Global, laid: &[Laid], from: usize) -> Result<(Unit, usize)
 fn theorem(alloc: Global, laid: &[Laid], from: usize) -> Result<(Unit, usize), ParseFault>
     requires ends { LaidEndsOnce laid.now }
     requires word { Part theorem_word laid.now from (from + 1) }
-    ensures spelled { IfOk result (λ r. Part (UnitText r.0) laid.now from r.1) }
+    requires token { Marked marks.Theorem (drop from laid.now) (drop (from + 1) laid.now) }
+    ensures part { IfOk result (λ r. Part (UnitText r.0) laid.now from r.1) }
     ensures fits { IfOk result (λ r. UnitFits r.0) }
+    ensures far { IfOk result (λ r. Leads Tail Tail (drop from laid.now) (drop r.1 laid.now)) }
+    ensures refused { IfErr result (λ e. RefusedIn Tail (DeepUnit (drop from laid.now)) (drop from laid.now) e) }
 {
+    laws_of_extents();
+    laws_of_refusals();
     let start = behind_title(laid, from + 1);
     let (stated, next) = expression(alloc, laid, start)?;
     drop(stated);
     Ok((Unit::Passed, next))
 }
 
-/// Reads a unit.
+/// Reads a unit, where no equals signs stand.
 fn unit(alloc: Global, laid: &[Laid], from: usize) -> Result<(Unit, usize), ParseFault>
     requires ends { LaidEndsOnce laid.now }
     requires inside { from < length laid.now }
-    ensures spelled { IfOk result (λ r. Part (UnitText r.0) laid.now from r.1) }
+    requires more { Lacks marks.Equals (drop from laid.now) }
+    ensures part { IfOk result (λ r. Part (UnitText r.0) laid.now from r.1) }
     ensures fits { IfOk result (λ r. UnitFits r.0) }
+    ensures far { IfOk result (λ r. Leads Tail Tail (drop from laid.now) (drop r.1 laid.now)) }
+    ensures refused { IfErr result (λ e. RefusedIn Tail (DeepUnit (drop from laid.now)) (drop from laid.now) e) }
 {
     match mark_at(laid, from) {
         Some(Mark::Variables) => variables(alloc, laid, from),
@@ -99,7 +128,12 @@ fn unit(alloc: Global, laid: &[Laid], from: usize) -> Result<(Unit, usize), Pars
         Some(Mark::Assume) => assumption(alloc, laid, from),
         Some(Mark::Theorem) => theorem(alloc, laid, from),
         Some(Mark::Dashes) => Ok((Unit::Passed, from + 1)),
-        _ => Err(fault_at(&laid[from])),
+        Some(Mark::Equals) => Err(fault_at(laid, from)),
+        Some(Mark::Comma) => Err(fault_at(laid, from)),
+        Some(Mark::Defined) => Err(fault_at(laid, from)),
+        Some(Mark::Heading) => Err(fault_at(laid, from)),
+        Some(Mark::Extends) => Err(fault_at(laid, from)),
+        None => Err(fault_at(laid, from)),
     }
 }
 
@@ -110,10 +144,12 @@ pub fn units(alloc: Global, laid: &[Laid], from: usize) -> Result<(Units, usize)
     ensures spelled { IfOk result (λ r. UnitsText r.0 (drop from laid.now) (drop r.1 laid.now)) }
     ensures fits { IfOk result (λ r. UnitsFit r.0) }
     ensures within { IfOk result (λ r. r.1 < length laid.now) }
+    ensures far { IfOk result (λ r. Leads Tail Last (drop from laid.now) (drop r.1 laid.now)) }
+    ensures refused { IfErr result (λ e. RefusedIn Tail (DeepUnits Tail (drop from laid.now)) (drop from laid.now) e) }
 {
     let mut units = Units::new(alloc);
     let mut next = from;
-    while !matches!(mark_at(laid, next), Some(Mark::Equals)) {
+    while mark_at(laid, next) != Some(Mark::Equals) {
         let (item, behind) = unit(alloc, laid, next)?;
         units.push(item)?;
         next = behind;

@@ -1,10 +1,18 @@
 use Rattle.std.specs.Prelude.{IfErr}
 use Rattle.std.proofs.Common.{rules}
+use Rattle.tla_ast.specs.Begun.{Begun}
+use Rattle.tla_exprs.specs.Beginnings.{FittingBegun}
 use Rattle.tla_exprs.specs.Refused.{Refuses}
 use Rattle.tla_exprs.specs.declared.frame.Mode.TheVariants as mode
+use Rattle.tla_exprs.proofs.FittingEnds.{ran_fits}
+use Rattle.tla_exprs.proofs.MeetsThere.{clashed_meets}
 use Rattle.tla_exprs.proofs.ReadLaws.{expression_on, expression_only, expression_spelled}
-use Rattle.tla_exprs.proofs.RefusedSo.{expression_goes, refused_result}
+use Rattle.tla_exprs.proofs.RefusedSo.{TextsFrom, texts_of_expressions, expression_goes, refused_result}
+use Rattle.tla_exprs.proofs.UnendedTexts.{unended_result}
 use Rattle.tla_exprs.proofs.reader.expression.Goals as goal
+
+texts : TextsFrom mode.Want Begun FittingBegun
+texts = texts_of_expressions ran_fits clashed_meets
 
 pub returns-in-Expression-clause-spelled : goal.returns-in-Expression-clause-spelled
 returns-in-Expression-clause-spelled c =
@@ -19,9 +27,17 @@ returns-clause-refused c = absurd (expression_only _ _ _ _ _ c.in_ok-e.ensures.r
 
 pub returns-in-Expression-clause-far : goal.returns-in-Expression-clause-far
 returns-in-Expression-clause-far c =
-    expression_goes c.args.laid.now c.args.from c.in-Expression.behind c.in-Expression.e c.in_ok-e.field-0 c.in_ok-e.ensures.read c.in-Expression.is
+    expression_goes mode.Want Begun FittingBegun texts c.args.laid.now c.args.from c.in-Expression.behind c.in-Expression.e c.in_ok-e.field-0 c.in_ok-e.ensures.read c.in-Expression.is
 
 pub returns-in_err-e-clause-refused : goal.returns-in_err-e-clause-refused
 returns-in_err-e-clause-refused c =
     let q : IfErr c.from_residual.result (λ e. Refuses c.args.laid.now c.args.from mode.Want e) = search rules in
-    refused_result c.args.laid.now c.args.from c.from_residual.result c.requires q
+    refused_result mode.Want Begun FittingBegun texts c.args.laid.now c.args.from c.from_residual.result c.requires q
+
+pub returns-in_err-e-clause-unended : goal.returns-in_err-e-clause-unended
+returns-in_err-e-clause-unended c =
+    let q : IfErr c.from_residual.result (λ e. Refuses c.args.laid.now c.args.from mode.Want e) = search rules in
+    unended_result c.args.laid.now c.args.from c.from_residual.result q
+
+pub returns-clause-unended : goal.returns-clause-unended
+returns-clause-unended c = absurd (expression_only _ _ _ _ _ c.in_ok-e.ensures.read c.in-Definition.is)

@@ -1,3 +1,5 @@
+use Rattle.tla_exprs.proofs.FittingEnds as fitting
+use Rattle.tla_exprs.proofs.MeetsThere as meets
 use Rattle.tla_exprs.proofs.RefusalsBegun as begun
 use Rattle.tla_exprs.proofs.RefusalsClash as clash
 use Rattle.tla_exprs.proofs.RefusalsThere as there
@@ -23,3 +25,9 @@ returns-clause-clashed_there c = clash.clashed_there
 
 pub returns-clause-ran : goal.returns-clause-ran
 returns-clause-ran c = clash.ran_begun
+
+pub returns-clause-ran_fits : goal.returns-clause-ran_fits
+returns-clause-ran_fits c = fitting.ran_fits
+
+pub returns-clause-meets : goal.returns-clause-meets
+returns-clause-meets c = meets.clashed_meets

@@ -1,10 +1,12 @@
-use Rattle.std.proofs.Common.{ℕ, ◌-◌, length}
+use Rattle.std.proofs.Common.{◌-◌, length, drop}
 use Rattle.tla_ast.specs.Modules.{DeclaredNamesText}
 use Rattle.tla_units.specs.Parts.{Part}
+use Rattle.tla_units.specs.Reads.{Leads}
+use Rattle.tla_units.specs.Rests.{◌▹◌, Listed, SomeOthers, Tail}
 use Rattle.tla_units.proofs.names.declared_names.Given as goal
 
 abbrev pub invariant-loop-names : goal.invariant-loop-names
-invariant-loop-names l = Part (DeclaredNamesText l.names) l.laid l.from l.next
+invariant-loop-names l = record { part : Part (DeclaredNamesText l.names) l.laid l.from l.next; far : Leads (Listed ▹ Tail) (SomeOthers ▹ Tail) (drop l.from l.laid) (drop l.next l.laid) }
 
 abbrev pub decreases-loop-names : goal.decreases-loop-names
 decreases-loop-names l = length l.laid - l.next

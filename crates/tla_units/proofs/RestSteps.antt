@@ -1,0 +1,149 @@
+-- One token of the rest of a module, and names.
+use Rattle.std.proofs.Common.{◌≡◌, ℕ, zero, suc, Bool, false, List, [], ◌∷◌, Option, Some, Result, Ok, Err, refl, sym, ap, subst, ◌∙◌}
+use Rattle.std.specs.Option.{IfSome}
+use Rattle.std.specs.Result.{IfErr}
+use Rattle.trace_base.specs.declared.place.Place.{Place}
+use Rattle.tla_ast.specs.declared.laid.Laid.{Laid}
+use Rattle.tla_ast.specs.declared.laid.Laid.TheVariants.{Plain, ListOpen, ListItem, ListClose}
+use Rattle.tla_ast.specs.declared.token.Kind.{Kind}
+use Rattle.tla_ast.specs.declared.token.Kind.TheVariants as kinds
+use Rattle.tla_ast.specs.Grammar.{Span, ◌⨟◌}
+use Rattle.tla_exprs.specs.Refused.{refusal_of, refusal_of_kind}
+use Rattle.tla_exprs.specs.declared.fault.ParseFault.{ParseFault}
+use Rattle.tla_exprs.specs.declared.fault.ParseFault.TheVariants.{Expected, Conflict, TooNested, OutOfProfile, NoMemory}
+use Rattle.tla_units.specs.Marks.{mark_of, first_mark, IsRefusedAt}
+use Rattle.tla_units.specs.Rests.{Rest, ◌▹◌, Marked, Others, SomeOthers, Listed}
+use Rattle.tla_units.specs.Reads.{SameHead, Leads, Lacks, Misses, IsStopped, RefusedIn, BegunBy}
+use Rattle.tla_units.specs.declared.marks.Mark.{Mark}
+use Rattle.tla_units.specs.declared.marks.Mark.TheVariants as marks
+use Rattle.tla_units.proofs.Leading.{leads_on}
+
+-- ---- a token
+
+pub token_leads : (m : Mark) (T : Rest) (xs ys : List Laid) → Marked m xs ys → Leads (Marked m ▹ T) T xs ys
+token_leads m T [] ys h = absurd h
+token_leads m T (x ∷ xs) ys h = record {
+  text = x ∷ [];
+  whole = ap (λ v. x ∷ v) h.1;
+  goes = λ fit zs u. (zs, (h.0, refl), u);
+  comes = λ fit zs s t. subst (T fit) (sym t.1.1) t.2;
+}
+
+abbrev IsOfToken : ParseFault → Type 0
+IsOfToken (Expected p) = Unit {0}
+IsOfToken (OutOfProfile f p) = Unit {0}
+IsOfToken _ = ⊥
+
+kind_refusal : (k : Kind) (p : Place) → IsOfToken (refusal_of_kind k p)
+kind_refusal (kinds.Foreign f) p = tt
+kind_refusal _ p = tt
+
+of_token : (x : Laid) → IsOfToken (refusal_of x)
+of_token (Plain t) = kind_refusal t.kind t.place
+of_token (ListOpen b at) = tt
+of_token (ListItem b at) = tt
+of_token (ListClose at) = tt
+
+pub refused_stopped : (T : Rest) (D : Place → Type 0) (xs : List Laid) (e : ParseFault) → IsStopped T xs e → RefusedIn T D xs e
+refused_stopped T D xs (Expected p) s = s
+refused_stopped T D xs (OutOfProfile f p) s = s
+refused_stopped T D xs (Conflict p q) s = absurd (subst IsOfToken s.3 (of_token s.0))
+refused_stopped T D xs (TooNested p) s = absurd (subst IsOfToken s.3 (of_token s.0))
+refused_stopped T D xs NoMemory s = tt
+
+-- the first token is refused
+pub refused_first : (T : Rest) (D : Place → Type 0) (xs : List Laid) (e : ParseFault) → BegunBy T false [] → ((zs : List Laid) → SameHead xs zs → T false zs → ⊥) → IsRefusedAt xs e → RefusedIn T D xs e
+refused_first T D [] e b none h = absurd h
+refused_first T D (x ∷ xs) e b none h = refused_stopped T D (x ∷ xs) e (x, xs, record { read = []; whole = refl; begun = b; there = λ more t. none (x ∷ more) refl t }, h)
+
+pub same_first : (xs zs : List Laid) → SameHead xs zs → first_mark xs ≡ first_mark zs
+same_first [] zs h = absurd h
+same_first (x ∷ xs) [] h = absurd h
+same_first (x ∷ xs) (z ∷ zs) h = ap mark_of h
+
+pub token_first : (m : Mark) (xs ys : List Laid) → Marked m xs ys → first_mark xs ≡ Some m
+token_first m [] ys h = absurd h
+token_first m (x ∷ xs) ys h = h.0
+
+pub no_token : (m : Mark) (xs zs ys : List Laid) → Lacks m xs → SameHead xs zs → Marked m zs ys → ⊥
+no_token m xs zs ys l s t = l (same_first xs zs s ∙ token_first m zs ys t)
+
+-- another token stands where one of a mark is expected
+pub token_refused : (m : Mark) (T : Rest) (D : Place → Type 0) (xs : List Laid) (e : ParseFault) → BegunBy (Marked m ▹ T) false [] → Lacks m xs → IsRefusedAt xs e → RefusedIn (Marked m ▹ T) D xs e
+token_refused m T D xs e b l h = refused_first (Marked m ▹ T) D xs e b (λ zs s t. no_token m xs zs t.0 l s t.1) h
+
+pub misses_refused : (m : Mark) (T : Rest) (D : Place → Type 0) (xs : List Laid) (e : ParseFault) → BegunBy (Marked m ▹ T) false [] → Misses m xs e → RefusedIn (Marked m ▹ T) D xs e
+misses_refused m T D xs (Expected p) b h = token_refused m T D xs (Expected p) b h.0 h.1
+misses_refused m T D xs (OutOfProfile f p) b h = token_refused m T D xs (OutOfProfile f p) b h.0 h.1
+misses_refused m T D xs (Conflict p q) b h = token_refused m T D xs (Conflict p q) b h.0 h.1
+misses_refused m T D xs (TooNested p) b h = token_refused m T D xs (TooNested p) b h.0 h.1
+misses_refused m T D xs NoMemory b h = tt
+
+pub misses : (m : Mark) (xs : List Laid) (e : ParseFault) → Lacks m xs → IsRefusedAt xs e → Misses m xs e
+misses m xs NoMemory l h = tt
+misses m xs (Expected p) l h = (l, h)
+misses m xs (OutOfProfile f p) l h = (l, h)
+misses m xs (Conflict p q) l h = (l, h)
+misses m xs (TooNested p) l h = (l, h)
+
+pub misses_memory : (m : Mark) (xs : List Laid) (e : ParseFault) → e ≡ NoMemory → Misses m xs e
+misses_memory m xs e q = subst (Misses m xs) (sym q) tt
+
+pub refused_memory : (T : Rest) (D : Place → Type 0) (xs : List Laid) (e : ParseFault) → e ≡ NoMemory → RefusedIn T D xs e
+refused_memory T D xs e q = subst (RefusedIn T D xs) (sym q) tt
+
+-- ---- parts of parts
+
+pub leads_part : (R S : Span) (T : Rest) (xs : List Laid) → Leads ((R ⨟ S) ▹ T) (R ▹ S ▹ T) xs xs
+leads_part R S T xs = record {
+  text = [];
+  whole = refl;
+  goes = λ fit zs u. (u.2.0, (u.0, u.1, u.2.1), u.2.2);
+  comes = λ fit zs s t. (t.1.0, t.1.1, (t.0, t.1.2, t.2));
+}
+
+-- ---- names
+
+-- no rest of this kind begins with a token of this mark
+abbrev pub Avoids : Mark → Rest → Type 0
+Avoids m T = (fit : Bool) (zs : List Laid) → T fit zs → Lacks m zs
+
+pub first_name : (T : Rest) (xs ys : List Laid) → Marked marks.Name xs ys → Leads (Listed ▹ T) (SomeOthers ▹ T) xs ys
+first_name T xs ys h = leads_on (Listed ▹ T) (Marked marks.Name ▹ SomeOthers ▹ T) (SomeOthers ▹ T) xs xs ys (leads_part (Marked marks.Name) SomeOthers T xs) (token_leads marks.Name (SomeOthers ▹ T) xs ys h)
+
+behind_comma : (T : Rest) (n : ℕ) (fit : Bool) (x : Laid) (zs ys : List Laid) → Avoids marks.Comma T → mark_of x ≡ Some marks.Comma → Others n (x ∷ zs) ys → T fit ys → (Marked marks.Name ▹ SomeOthers ▹ T) fit zs
+behind_comma T zero fit x zs ys avoids e o t = absurd (avoids fit ys t (subst (λ v. first_mark v ≡ Some marks.Comma) o e))
+behind_comma T (suc n) fit x zs ys avoids e o t = (o.2.0, subst (λ v. Marked marks.Name v o.2.0) (sym o.1.1) o.2.1, (ys, (n, o.2.2), t))
+
+pub comma_leads : (T : Rest) (xs ys : List Laid) → Avoids marks.Comma T → Marked marks.Comma xs ys → Leads (SomeOthers ▹ T) (Marked marks.Name ▹ SomeOthers ▹ T) xs ys
+comma_leads T [] ys avoids h = absurd h
+comma_leads T (x ∷ xs) ys avoids h = record {
+  text = x ∷ [];
+  whole = ap (λ v. x ∷ v) h.1;
+  goes = λ fit zs u. (u.2.0, (suc u.2.1.0, (zs, (h.0, refl), (u.0, u.1, u.2.1.1))), u.2.2);
+  comes = λ fit zs s t. behind_comma T t.1.0 fit x zs t.0 avoids h.0 t.1.1 t.2;
+}
+
+pub one_more : (T : Rest) (xs ys zs : List Laid) → Avoids marks.Comma T → Marked marks.Comma xs ys → Marked marks.Name ys zs → Leads (SomeOthers ▹ T) (SomeOthers ▹ T) xs zs
+one_more T xs ys zs avoids c n = leads_on (SomeOthers ▹ T) (Marked marks.Name ▹ SomeOthers ▹ T) (SomeOthers ▹ T) xs ys zs (comma_leads T xs ys avoids c) (token_leads marks.Name (SomeOthers ▹ T) ys zs n)
+
+no_others : (T : Rest) (n : ℕ) (fit : Bool) (xs zs ys : List Laid) → Lacks marks.Comma xs → SameHead xs zs → Others n zs ys → T fit ys → T fit zs
+no_others T zero fit xs zs ys l s o t = subst (T fit) (sym o) t
+no_others T (suc n) fit xs zs ys l s o t = absurd (no_token marks.Comma xs zs o.0 l s o.1)
+
+pub names_end : (T : Rest) (xs : List Laid) → Lacks marks.Comma xs → Leads (SomeOthers ▹ T) T xs xs
+names_end T xs l = record {
+  text = [];
+  whole = refl;
+  goes = λ fit zs t. (zs, (zero, refl), t);
+  comes = λ fit zs s t. no_others T t.1.0 fit xs zs t.0 l s t.1.1 t.2;
+}
+
+-- what is so of the mark that there is
+pub at_some : (P : Mark → Type 0) (o : Option Mark) (m : Mark) → o ≡ Some m → IfSome o P → P m
+at_some P o m q h = let Q : Option Mark → Type 0 = λ v. IfSome v P in subst Q q h
+
+-- a refusal handed on
+pub err_mapped : {T : Type 0} (r : Result T ParseFault) (P Q : ParseFault → Type 0) → IfErr r P → ((e : ParseFault) → P e → Q e) → IfErr r Q
+err_mapped (Ok x) P Q h f = tt
+err_mapped (Err e) P Q h f = f e h

@@ -1,0 +1,127 @@
+-- Units in the rest of a module: how far each goes, and why one is refused.
+use Rattle.std.proofs.Common.{◌≡◌, ℕ, ◌+◌, ◌<◌, ◌≤◌, true, false, List, [], ◌∷◌, drop, length, Option, Some, Result, Ok, Err, inl, inr, ap, subst, ◌∙◌, arith, length-append}
+use Rattle.std.proofs.lemmas.List.{drop-append-le}
+use Rattle.std.specs.Result.{IfErr}
+use Rattle.trace_base.specs.declared.place.Place.{Place}
+use Rattle.tla_ast.specs.declared.laid.Laid.{Laid}
+use Rattle.tla_ast.specs.declared.laid.Laid.TheVariants.{Plain}
+use Rattle.tla_ast.specs.declared.expr.Definition.{Definition as UnitDefinition}
+use Rattle.tla_ast.specs.Begun.{Begun}
+use Rattle.tla_ast.specs.Fits.{Fits, Spells}
+use Rattle.tla_ast.specs.Modules.{LaidEndsOnce}
+use Rattle.tla_ast.specs.Trees.{Tree}
+use Rattle.tla_exprs.specs.Beginnings.{FittingBegun, DefinitionText, BegunDefinition, FittingBegunDefinition}
+use Rattle.tla_exprs.specs.LawsOfExtents.{LocalText, NoneFollows, NoMarkInside, LocalDefinition, NoneFollowsDefinition, NoMarkInsideDefinition}
+use Rattle.tla_exprs.specs.LawsOfRefusals.{EndsThere}
+use Rattle.tla_exprs.specs.Nesting.{Shallow, ShallowDefinition}
+use Rattle.tla_exprs.specs.Refusals.{GoesAsFar, IsRefused}
+use Rattle.tla_exprs.specs.Unended.{EndedText, EndedDefinition, IsUnended}
+use Rattle.tla_exprs.specs.declared.fault.ParseFault.{ParseFault}
+use Rattle.tla_units.specs.Marks.{first_mark, IsRefusedAt}
+use Rattle.tla_units.specs.Reads.{Leads, ReadsTitle, RefusedIn, NeverDeep, DeepExpression, DeepDefinition, DeepTitled, DeepStated, DeepUnit, DeepUnits}
+use Rattle.tla_units.specs.Rests.{◌▹◌, Then, Marked, Listed, Titled, Expression, Definition, Last, Tail}
+use Rattle.tla_units.specs.declared.marks.Mark.{Mark}
+use Rattle.tla_units.specs.declared.marks.Mark.TheVariants as marks
+use Rattle.tla_units.proofs.Extents.{LastIsEnd, Passed, passed, part_refused}
+use Rattle.tla_units.proofs.Leading.{leads_on, refused_on}
+use Rattle.tla_units.proofs.TailSteps.{NoUnit, tail_ending, tail_variables, tail_constants, tail_assume, tail_theorem, tail_definition, tail_last, some_tail, last_tokens, unit_refused}
+use Rattle.tla_units.proofs.TextKinds.{expression_kind, expression_open, definition_kind, definition_open, none_titled}
+use Rattle.tla_units.proofs.Titles.{titled_passed, titled_refused}
+
+-- ---- declarations
+
+pub variables_far : (xs ws ys : List Laid) → Marked marks.Variables xs ws → Leads (Listed ▹ Tail) Tail ws ys → Leads Tail Tail xs ys
+variables_far xs ws ys t h = leads_on Tail (Listed ▹ Tail) Tail xs ws ys (tail_variables xs ws t) h
+
+pub variables_refused : (xs ws : List Laid) (e : ParseFault) → Marked marks.Variables xs ws → RefusedIn (Listed ▹ Tail) NeverDeep ws e → RefusedIn Tail (DeepUnit xs) xs e
+variables_refused xs ws e t r = refused_on Tail (Listed ▹ Tail) (DeepUnit xs) NeverDeep xs ws e (tail_variables xs ws t) (λ h p d. absurd d) r
+
+pub constants_far : (xs ws ys : List Laid) → Marked marks.Constants xs ws → Leads (Listed ▹ Tail) Tail ws ys → Leads Tail Tail xs ys
+constants_far xs ws ys t h = leads_on Tail (Listed ▹ Tail) Tail xs ws ys (tail_constants xs ws t) h
+
+pub constants_refused : (xs ws : List Laid) (e : ParseFault) → Marked marks.Constants xs ws → RefusedIn (Listed ▹ Tail) NeverDeep ws e → RefusedIn Tail (DeepUnit xs) xs e
+constants_refused xs ws e t r = refused_on Tail (Listed ▹ Tail) (DeepUnit xs) NeverDeep xs ws e (tail_constants xs ws t) (λ h p d. absurd d) r
+
+-- ---- the last token
+
+pub last_of : (laid : List Laid) (i : ℕ) → LaidEndsOnce laid → i < length laid → LastIsEnd (drop i laid)
+last_of laid i ends inside =
+    let long : length laid ≡ length ends.before + 1 = ap length ends.whole ∙ length-append ends.before (Plain ends.last ∷ []) in
+    let within : i ≤ length ends.before = omega (arith, inside, long) in
+    record { before = drop i ends.before; last = ends.last; whole = ap (λ v. drop i v) ends.whole ∙ drop-append-le i ends.before (Plain ends.last ∷ []) within; is_last = ends.is_last }
+
+-- ---- what is assumed and stated
+
+-- the laws of expressions that are used
+pub record Laws : Type 0 where
+  pub local : LocalText
+  pub none_follows : NoneFollows
+  pub no_mark : NoMarkInside
+  pub ends_there : EndsThere
+
+expression_passed : Laws → (e : Tree) (laid : List Laid) (from behind : ℕ) → Spells e (drop from laid) (drop behind laid) → GoesAsFar Begun Shallow laid from behind → Passed Expression Tail (drop from laid) (drop behind laid)
+expression_passed k e laid from behind s g = passed Expression Begun FittingBegun (expression_kind k.local k.none_follows k.no_mark) Tail tail_ending (drop from laid) (drop behind laid) g.1 g.0 Shallow (e, s.text, s.fits) g.2 g.3
+
+titled_far : Laws → (e : Tree) (laid : List Laid) (ws : List Laid) (start behind : ℕ) → ReadsTitle ws (drop start laid) → Spells e (drop start laid) (drop behind laid) → GoesAsFar Begun Shallow laid start behind → Leads (Then Titled Tail) Tail ws (drop behind laid)
+titled_far k e laid ws start behind t s g = titled_passed (none_titled k.local k.none_follows k.ends_there) ws (drop start laid) (drop behind laid) t (expression_passed k e laid start behind s g)
+
+titled_stops : Laws → (laid : List Laid) (ws : List Laid) (start : ℕ) (e : ParseFault) → LaidEndsOnce laid → start < length laid → ReadsTitle ws (drop start laid) → IsRefused Begun FittingBegun Shallow (drop start laid) e → IsUnended EndedText (drop start laid) e → RefusedIn (Then Titled Tail) (DeepTitled ws) ws e
+titled_stops k laid ws start e ends inside t r u =
+    let there : RefusedIn (Then Expression Tail) (DeepExpression (drop start laid)) (drop start laid) e = part_refused Expression Begun FittingBegun (expression_kind k.local k.none_follows k.no_mark) Tail tail_ending last_tokens (some_tail false) (some_tail true) Shallow (drop start laid) e (last_of laid start ends inside) (expression_open (drop start laid) e u) r in
+    titled_refused (none_titled k.local k.none_follows k.ends_there) ws (drop start laid) e t there
+
+pub assumed_far : Laws → (e : Tree) (laid xs ws : List Laid) (start behind : ℕ) → Marked marks.Assume xs ws → ReadsTitle ws (drop start laid) → Spells e (drop start laid) (drop behind laid) → GoesAsFar Begun Shallow laid start behind → Leads Tail Tail xs (drop behind laid)
+assumed_far k e laid xs ws start behind m t s g = leads_on Tail (Then Titled Tail) Tail xs ws (drop behind laid) (tail_assume xs ws m) (titled_far k e laid ws start behind t s g)
+
+pub stated_far : Laws → (e : Tree) (laid xs ws : List Laid) (start behind : ℕ) → Marked marks.Theorem xs ws → ReadsTitle ws (drop start laid) → Spells e (drop start laid) (drop behind laid) → GoesAsFar Begun Shallow laid start behind → Leads Tail Tail xs (drop behind laid)
+stated_far k e laid xs ws start behind m t s g = leads_on Tail (Then Titled Tail) Tail xs ws (drop behind laid) (tail_theorem xs ws m) (titled_far k e laid ws start behind t s g)
+
+deep_assumed : (xs ws : List Laid) (p : Place) → Marked marks.Assume xs ws → DeepTitled ws p → DeepStated xs p
+deep_assumed [] ws p m d = absurd m
+deep_assumed (x ∷ xs) ws p m d = record { word = x; behind = ws; whole = ap (λ v. x ∷ v) m.1; is_word = inl m.0; deep = d }
+
+deep_stated : (xs ws : List Laid) (p : Place) → Marked marks.Theorem xs ws → DeepTitled ws p → DeepStated xs p
+deep_stated [] ws p m d = absurd m
+deep_stated (x ∷ xs) ws p m d = record { word = x; behind = ws; whole = ap (λ v. x ∷ v) m.1; is_word = inr m.0; deep = d }
+
+pub assumed_refused : Laws → (laid xs ws : List Laid) (start : ℕ) (e : ParseFault) → LaidEndsOnce laid → start < length laid → Marked marks.Assume xs ws → ReadsTitle ws (drop start laid) → IsRefused Begun FittingBegun Shallow (drop start laid) e × IsUnended EndedText (drop start laid) e → RefusedIn Tail (DeepUnit xs) xs e
+assumed_refused k laid xs ws start e ends inside m t r = refused_on Tail (Then Titled Tail) (DeepUnit xs) (DeepTitled ws) xs ws e (tail_assume xs ws m) (λ h p d. inr (deep_assumed xs ws p m d)) (titled_stops k laid ws start e ends inside t r.0 r.1)
+
+pub stated_refused : Laws → (laid xs ws : List Laid) (start : ℕ) (e : ParseFault) → LaidEndsOnce laid → start < length laid → Marked marks.Theorem xs ws → ReadsTitle ws (drop start laid) → IsRefused Begun FittingBegun Shallow (drop start laid) e × IsUnended EndedText (drop start laid) e → RefusedIn Tail (DeepUnit xs) xs e
+stated_refused k laid xs ws start e ends inside m t r = refused_on Tail (Then Titled Tail) (DeepUnit xs) (DeepTitled ws) xs ws e (tail_theorem xs ws m) (λ h p d. inr (deep_stated xs ws p m d)) (titled_stops k laid ws start e ends inside t r.0 r.1)
+
+pub err_both : {T : Type 0} (r : Result T ParseFault) (P Q : ParseFault → Type 0) → IfErr r P → IfErr r Q → IfErr r (λ e. P e × Q e)
+err_both (Ok x) P Q p q = tt
+err_both (Err e) P Q p q = (p, q)
+
+-- ---- definitions
+
+-- the laws of definitions that are used
+pub record DefinitionLaws : Type 0 where
+  pub local : LocalDefinition
+  pub none_follows : NoneFollowsDefinition
+  pub no_mark : NoMarkInsideDefinition
+
+pub defined_far : DefinitionLaws → (d : UnitDefinition) (laid : List Laid) (from behind : ℕ) → first_mark (drop from laid) ≡ Some marks.Name → DefinitionText d.name d.at d.params d.body (drop from laid) (drop behind laid) → Fits d.body → GoesAsFar BegunDefinition ShallowDefinition laid from behind → Leads Tail Tail (drop from laid) (drop behind laid)
+defined_far k d laid from behind m s f g =
+    let p = passed Definition BegunDefinition FittingBegunDefinition (definition_kind k.local k.none_follows k.no_mark) Tail tail_ending (drop from laid) (drop behind laid) g.1 g.0 ShallowDefinition (d.name, d.at, d.params, d.body, s, f) g.2 g.3 in
+    leads_on Tail (Then Definition Tail) Tail (drop from laid) (drop from laid) (drop behind laid) (tail_definition (drop from laid) m) p.0
+
+pub defined_refused : DefinitionLaws → (laid : List Laid) (from : ℕ) (e : ParseFault) → LaidEndsOnce laid → from < length laid → first_mark (drop from laid) ≡ Some marks.Name → IsRefused BegunDefinition FittingBegunDefinition ShallowDefinition (drop from laid) e × IsUnended EndedDefinition (drop from laid) e → RefusedIn Tail (DeepUnit (drop from laid)) (drop from laid) e
+defined_refused k laid from e ends inside m r =
+    let there : RefusedIn (Then Definition Tail) (DeepDefinition (drop from laid)) (drop from laid) e = part_refused Definition BegunDefinition FittingBegunDefinition (definition_kind k.local k.none_follows k.no_mark) Tail tail_ending last_tokens (some_tail false) (some_tail true) ShallowDefinition (drop from laid) e (last_of laid from ends inside) (definition_open (drop from laid) e r.1) r.0 in
+    refused_on Tail (Then Definition Tail) (DeepUnit (drop from laid)) (DeepDefinition (drop from laid)) (drop from laid) (drop from laid) e (tail_definition (drop from laid) m) (λ h p d. inl d) there
+
+-- ---- units
+
+pub other_refused : (D : Place → Type 0) (xs : List Laid) (e : ParseFault) (o : Option Mark) → o ≡ first_mark xs → NoUnit o → IsRefusedAt xs e → RefusedIn Tail D xs e
+other_refused D xs e o q n r = unit_refused D xs e (subst NoUnit q n) r
+
+pub more_units_far : (xs ys zs : List Laid) → Leads Tail Tail xs ys → Leads Tail Tail ys zs → Leads Tail Tail xs zs
+more_units_far xs ys zs h g = leads_on Tail Tail Tail xs ys zs h g
+
+pub more_units_refused : (xs ys : List Laid) (e : ParseFault) → Leads Tail Tail xs ys → RefusedIn Tail (DeepUnit ys) ys e → RefusedIn Tail (DeepUnits Tail xs) xs e
+more_units_refused xs ys e h r = refused_on Tail Tail (DeepUnits Tail xs) (DeepUnit ys) xs ys e h (λ l p d. record { before = l.text; body = ys; whole = l.whole; units = l.goes true; deep = d }) r
+
+pub units_end_far : (xs ys : List Laid) → Leads Tail Tail xs ys → first_mark ys ≡ Some marks.Equals → Leads Tail Last xs ys
+units_end_far xs ys h q = leads_on Tail Tail Last xs ys ys h (tail_last ys q)

@@ -1,0 +1,36 @@
+use Rattle.std.proofs.Common.{◌≡◌, ◌+◌, Some, None, drop, rules, subst}
+use Rattle.tla_units.specs.Marks.{first_mark}
+use Rattle.tla_units.specs.Reads.{DeepUnit}
+use Rattle.tla_units.specs.Rests.{Marked}
+use Rattle.tla_units.specs.declared.marks.Mark.TheVariants as marks
+use Rattle.tla_units.proofs.TailSteps.{tail_dashes}
+use Rattle.tla_units.proofs.UnitsRead.{other_refused}
+use Rattle.tla_units.proofs.units.unit.Goals as goal
+
+pub returns-in-Some-Dashes-clause-far : goal.returns-in-Some-Dashes-clause-far
+returns-in-Some-Dashes-clause-far c = tail_dashes (drop c.args.from c.args.laid.now) (drop (c.args.from + 1) c.args.laid.now) (subst (λ m. Marked m (drop c.args.from c.args.laid.now) (drop (c.args.from + 1) c.args.laid.now)) c.in-Some-Dashes.field-0-is c.in-Some-Dashes.ensures.token)
+
+pub returns-in-Some-Comma-clause-refused : goal.returns-in-Some-Comma-clause-refused
+returns-in-Some-Comma-clause-refused c =
+    let q : Some marks.Comma ≡ first_mark (drop c.args.from c.args.laid.now) = search rules in
+    other_refused (DeepUnit (drop c.args.from c.args.laid.now)) (drop c.args.from c.args.laid.now) _ (Some marks.Comma) q (λ b. b) c.fault_at-in-Some-Comma.ensures
+
+pub returns-in-Some-Defined-clause-refused : goal.returns-in-Some-Defined-clause-refused
+returns-in-Some-Defined-clause-refused c =
+    let q : Some marks.Defined ≡ first_mark (drop c.args.from c.args.laid.now) = search rules in
+    other_refused (DeepUnit (drop c.args.from c.args.laid.now)) (drop c.args.from c.args.laid.now) _ (Some marks.Defined) q (λ b. b) c.fault_at-in-Some-Defined.ensures
+
+pub returns-in-Some-Heading-clause-refused : goal.returns-in-Some-Heading-clause-refused
+returns-in-Some-Heading-clause-refused c =
+    let q : Some marks.Heading ≡ first_mark (drop c.args.from c.args.laid.now) = search rules in
+    other_refused (DeepUnit (drop c.args.from c.args.laid.now)) (drop c.args.from c.args.laid.now) _ (Some marks.Heading) q (λ b. b) c.fault_at-in-Some-Heading.ensures
+
+pub returns-in-Some-Extends-clause-refused : goal.returns-in-Some-Extends-clause-refused
+returns-in-Some-Extends-clause-refused c =
+    let q : Some marks.Extends ≡ first_mark (drop c.args.from c.args.laid.now) = search rules in
+    other_refused (DeepUnit (drop c.args.from c.args.laid.now)) (drop c.args.from c.args.laid.now) _ (Some marks.Extends) q (λ b. b) c.fault_at-in-Some-Extends.ensures
+
+pub returns-in-None-clause-refused : goal.returns-in-None-clause-refused
+returns-in-None-clause-refused c =
+    let q : None ≡ first_mark (drop c.args.from c.args.laid.now) = search rules in
+    other_refused (DeepUnit (drop c.args.from c.args.laid.now)) (drop c.args.from c.args.laid.now) _ None q tt c.fault_at-in-None.ensures

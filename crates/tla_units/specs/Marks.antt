@@ -1,0 +1,68 @@
+-- What a laid token is to the grammar of modules: its mark, if it has one.
+use Rattle.std.specs.Prelude.{◌≡◌, Bool, false, List, [], ◌∷◌, Option, Some, None}
+use Rattle.tla_ast.specs.declared.laid.Laid.{Laid}
+use Rattle.tla_ast.specs.declared.laid.Laid.TheVariants.{Plain, ListOpen, ListItem, ListClose}
+use Rattle.tla_ast.specs.declared.token.Kind.{Kind}
+use Rattle.tla_ast.specs.declared.token.Kind.TheVariants as kinds
+use Rattle.tla_ast.specs.declared.token.Word.{Word}
+use Rattle.tla_ast.specs.declared.token.Word.TheVariants as words
+use Rattle.tla_ast.specs.declared.token.Symbol.{Symbol}
+use Rattle.tla_ast.specs.declared.token.Symbol.TheVariants as symbols
+use Rattle.tla_ast.specs.Opens.{is_end}
+use Rattle.tla_exprs.specs.Refused.{refusal_of}
+use Rattle.tla_exprs.specs.declared.fault.ParseFault.{ParseFault}
+use Rattle.tla_units.specs.declared.marks.Mark.{Mark}
+use Rattle.tla_units.specs.declared.marks.Mark.TheVariants.{Name, Dashes, Equals, Comma, Defined, Heading, Extends, Variables, Constants, Assume, Theorem}
+
+unfoldable pub word_mark : Word → Option Mark
+word_mark words.Module = Some Heading
+word_mark words.Extends = Some Extends
+word_mark words.Variable = Some Variables
+word_mark words.Variables = Some Variables
+word_mark words.Constant = Some Constants
+word_mark words.Constants = Some Constants
+word_mark words.Assume = Some Assume
+word_mark words.Assumption = Some Assume
+word_mark words.Axiom = Some Assume
+word_mark words.Theorem = Some Theorem
+word_mark words.Lemma = Some Theorem
+word_mark words.Proposition = Some Theorem
+word_mark words.Corollary = Some Theorem
+word_mark _ = None
+
+unfoldable pub symbol_mark : Symbol → Option Mark
+symbol_mark symbols.Comma = Some Comma
+symbol_mark symbols.Defined = Some Defined
+symbol_mark _ = None
+
+unfoldable pub kind_mark : Kind → Option Mark
+kind_mark (kinds.Name n) = Some Name
+kind_mark kinds.Dashes = Some Dashes
+kind_mark kinds.Equals = Some Equals
+kind_mark (kinds.Word w) = word_mark w
+kind_mark (kinds.Symbol s) = symbol_mark s
+kind_mark _ = None
+
+unfoldable pub mark_of : Laid → Option Mark
+mark_of (Plain t) = kind_mark t.kind
+mark_of (ListOpen b at) = None
+mark_of (ListItem b at) = None
+mark_of (ListClose at) = None
+
+-- the mark of the first of these
+abbrev pub first_mark : List Laid → Option Mark
+first_mark [] = None
+first_mark (x ∷ xs) = mark_of x
+
+-- whether the first of these is the End
+abbrev pub begins_end : List Laid → Bool
+begins_end [] = false
+begins_end (Plain t ∷ xs) = is_end t.kind
+begins_end (ListOpen b at ∷ xs) = false
+begins_end (ListItem b at ∷ xs) = false
+begins_end (ListClose at ∷ xs) = false
+
+-- the first of these is refused so
+abbrev pub IsRefusedAt : List Laid → ParseFault → Type 0
+IsRefusedAt [] fault = ⊥
+IsRefusedAt (x ∷ xs) fault = refusal_of x ≡ fault

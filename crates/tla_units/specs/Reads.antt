@@ -1,0 +1,123 @@
+-- What is read of the rest of a module, and why it is refused.
+use Rattle.std.specs.Prelude.{◌≡◌, ◌⊎◌, Bool, true, false, List, [], ◌∷◌, ◌++◌, Some}
+use Rattle.trace_base.specs.declared.place.Place.{Place}
+use Rattle.tla_ast.specs.declared.laid.Laid.{Laid}
+use Rattle.tla_ast.specs.Grammar.{either, nothing}
+use Rattle.tla_exprs.specs.Beginnings.{FittingBegun, FittingBegunDefinition}
+use Rattle.tla_exprs.specs.Meeting.{Meets}
+use Rattle.tla_exprs.specs.Nesting.{Shallow, ShallowDefinition}
+use Rattle.tla_exprs.specs.Refusals.{IsTooNested}
+use Rattle.tla_exprs.specs.Refused.{refusal_of}
+use Rattle.tla_exprs.specs.declared.fault.ParseFault.{ParseFault}
+use Rattle.tla_exprs.specs.declared.fault.ParseFault.TheVariants.{Expected, Conflict, TooNested, OutOfProfile, NoMemory}
+use Rattle.tla_units.specs.Marks.{first_mark, IsRefusedAt}
+use Rattle.tla_units.specs.Rests.{Rest, Title, Tail}
+use Rattle.tla_units.specs.declared.marks.Mark.{Mark}
+use Rattle.tla_units.specs.declared.marks.Mark.TheVariants as marks
+
+-- ---- what is read
+
+abbrev pub SameHead : List Laid → List Laid → Type 0
+SameHead [] ys = ⊥
+SameHead (x ∷ xs) [] = ⊥
+SameHead (x ∷ xs) (y ∷ ys) = x ≡ y
+
+-- Read is what stands from the one list to the other. Behind it each rest of the second kind makes one of the first, and what makes
+-- one of the first, where it begins as the list behind, is of the second.
+pub record Leads (T U : Rest) (xs ys : List Laid) : Type 0 where
+  pub text : List Laid
+  pub whole : xs ≡ text ++ ys
+  pub goes : (fit : Bool) (zs : List Laid) → U fit zs → T fit (text ++ zs)
+  pub comes : (fit : Bool) (zs : List Laid) → SameHead ys zs → T fit (text ++ zs) → U fit zs
+
+-- the first token has another mark, or none
+abbrev pub Lacks : Mark → List Laid → Type 0
+Lacks m xs = first_mark xs ≡ Some m → ⊥
+
+-- a token of a mark does not stand there, or memory is out
+abbrev pub Misses : Mark → List Laid → ParseFault → Type 0
+Misses m xs NoMemory = Unit {0}
+Misses m xs fault = Lacks m xs × IsRefusedAt xs fault
+
+abbrev pub second_mark_is : Mark → List Laid → Type 0
+second_mark_is m [] = ⊥
+second_mark_is m (x ∷ xs) = first_mark xs ≡ Some m
+
+-- a name and `==` are read, or nothing where no such two tokens stand
+abbrev pub ReadsTitle : List Laid → List Laid → Type 0
+ReadsTitle xs ys = Title xs ys ⊎ ((xs ≡ ys) × (first_mark xs ≡ Some marks.Name → second_mark_is marks.Defined xs → ⊥))
+
+-- ---- why it is refused
+
+-- these begin such a rest
+abbrev pub BegunBy : Rest → Bool → List Laid → Type 0
+BegunBy T fit read = (more : List Laid) × T fit (read ++ more)
+
+-- a rest is begun up to one of the tokens, and none goes on through that one; ranges play no part
+pub record Stops (T : Rest) (xs rest : List Laid) (x : Laid) : Type 0 where
+  pub read : List Laid
+  pub whole : xs ≡ read ++ x ∷ rest
+  pub begun : BegunBy T false read
+  pub there : (more : List Laid) → T false (read ++ x ∷ more) → ⊥
+
+abbrev pub IsStopped : Rest → List Laid → ParseFault → Type 0
+IsStopped T xs fault = (x : Laid) × (rest : List Laid) × Stops T xs rest x × (refusal_of x ≡ fault)
+
+-- up to one of the tokens a rest with its ranges is begun; through that one a rest goes on where ranges play no part, and none with them
+pub record Meeting (T : Rest) (xs : List Laid) (p q : Place) : Type 0 where
+  pub read : List Laid
+  pub rest : List Laid
+  pub here : Laid
+  pub whole : xs ≡ read ++ here ∷ rest
+  pub begun : BegunBy T false (read ++ here ∷ [])
+  pub fits : BegunBy T true read
+  pub none : (more : List Laid) → T true (read ++ here ∷ more) → ⊥
+  pub places : Meets (BegunBy T false) read here p q
+
+-- why it is refused; of a token that stands too deep the second tells
+abbrev pub RefusedIn : Rest → (Place → Type 0) → List Laid → ParseFault → Type 0
+RefusedIn T Deep xs (Expected p) = IsStopped T xs (Expected p)
+RefusedIn T Deep xs (OutOfProfile f p) = IsStopped T xs (OutOfProfile f p)
+RefusedIn T Deep xs (Conflict p q) = Meeting T xs p q
+RefusedIn T Deep xs (TooNested p) = Deep p
+RefusedIn T Deep xs NoMemory = Unit {0}
+
+abbrev pub NeverDeep : Place → Type 0
+NeverDeep p = ⊥
+
+-- ---- tokens that stand too deep
+
+-- an expression begins with these tokens, and the token there is too deep in it
+abbrev pub DeepExpression : List Laid → Place → Type 0
+DeepExpression xs p = IsTooNested FittingBegun Shallow xs p
+
+-- the same of a unit's definition
+abbrev pub DeepDefinition : List Laid → Place → Type 0
+DeepDefinition xs p = IsTooNested FittingBegunDefinition ShallowDefinition xs p
+
+-- the same of an expression behind a title or none
+pub record DeepTitled (xs : List Laid) (p : Place) : Type 0 where
+  pub title : List Laid
+  pub body : List Laid
+  pub whole : xs ≡ title ++ body
+  pub titled : either nothing Title title []
+  pub deep : DeepExpression body p
+
+-- the same behind ASSUME or THEOREM, and a title or none
+pub record DeepStated (xs : List Laid) (p : Place) : Type 0 where
+  pub word : Laid
+  pub behind : List Laid
+  pub whole : xs ≡ word ∷ behind
+  pub is_word : (first_mark (word ∷ []) ≡ Some marks.Assume) ⊎ (first_mark (word ∷ []) ≡ Some marks.Theorem)
+  pub deep : DeepTitled behind p
+
+abbrev pub DeepUnit : List Laid → Place → Type 0
+DeepUnit xs p = DeepDefinition xs p ⊎ DeepStated xs p
+
+-- the same behind units that fit
+pub record DeepUnits (T : Rest) (xs : List Laid) (p : Place) : Type 0 where
+  pub before : List Laid
+  pub body : List Laid
+  pub whole : xs ≡ before ++ body
+  pub units : (zs : List Laid) → Tail true zs → T true (before ++ zs)
+  pub deep : DeepUnit body p

@@ -1,0 +1,103 @@
+-- The grammar of modules as a reader meets it, by the marks of its tokens and with no trees: what stands from one point of a module to
+-- another, and the rest of a module from a point on. Where `fit` is true, the operators of the expressions fit their ranges; where it is
+-- false, ranges play no part.
+use Rattle.std.specs.Prelude.{◌≡◌, ℕ, zero, suc, Bool, true, false, List, [], ◌∷◌, Option, Some}
+use Rattle.trace_base.specs.declared.place.Place.{Place}
+use Rattle.tla_ast.specs.declared.laid.Laid.{Laid}
+use Rattle.tla_ast.specs.Trees.{Tree}
+use Rattle.tla_ast.specs.Fits.{Fits}
+use Rattle.tla_ast.specs.declared.token.Kind.TheVariants as kinds
+use Rattle.tla_ast.specs.Grammar.{Span, ◌⨟◌, nothing, never, either, some_token, Text}
+use Rattle.tla_exprs.specs.Beginnings.{DefinitionText}
+use Rattle.tla_units.specs.Marks.{mark_of}
+use Rattle.tla_units.specs.declared.marks.Mark.{Mark}
+use Rattle.tla_units.specs.declared.marks.Mark.TheVariants as marks
+
+-- ---- parts
+
+-- a token of this mark
+abbrev pub Marked : Mark → Span
+Marked m [] ys = ⊥
+Marked m (x ∷ xs) ys = (mark_of x ≡ Some m) × (xs ≡ ys)
+
+-- so many names, each with a comma before it
+abbrev pub Others : ℕ → Span
+Others zero = nothing
+Others (suc n) = Marked marks.Comma ⨟ Marked marks.Name ⨟ Others n
+
+abbrev pub SomeOthers : Span
+SomeOthers xs ys = (n : ℕ) × Others n xs ys
+
+-- one or more names with commas between them
+abbrev pub Listed : Span
+Listed = Marked marks.Name ⨟ SomeOthers
+
+-- EXTENDS and names, or nothing
+abbrev pub Extended : Span
+Extended = either nothing (Marked marks.Extends ⨟ Listed)
+
+-- a name and `==`
+abbrev pub Title : Span
+Title = Marked marks.Name ⨟ Marked marks.Defined
+
+abbrev pub FitsIf : Bool → Tree → Type 0
+FitsIf true e = Fits e
+FitsIf false e = Unit {0}
+
+abbrev pub Expression : Bool → Span
+Expression fit xs ys = (e : Tree) × Text e xs ys × FitsIf fit e
+
+abbrev pub Definition : Bool → Span
+Definition fit xs ys = (n : List ℕ) × (at : Place) × (ns : List (List ℕ)) × (e : Tree) × DefinitionText n at ns e xs ys × FitsIf fit e
+
+-- an expression, and a name and `==` before it or not
+abbrev pub Titled : Bool → Span
+Titled fit = either nothing Title ⨟ Expression fit
+
+-- what stands behind the first token of a unit, by its mark
+abbrev pub Behind : Bool → Option Mark → Laid → Span
+Behind fit (Some marks.Variables) x = Listed
+Behind fit (Some marks.Constants) x = Listed
+Behind fit (Some marks.Assume) x = Titled fit
+Behind fit (Some marks.Theorem) x = Titled fit
+Behind fit (Some marks.Dashes) x = nothing
+Behind fit (Some marks.Name) x = λ xs ys. Definition fit (x ∷ xs) ys
+Behind fit _ x = never
+
+abbrev pub UnitPart : Bool → Span
+UnitPart fit [] ys = ⊥
+UnitPart fit (x ∷ xs) ys = Behind fit (mark_of x) x xs ys
+
+-- ---- rests of a module
+
+abbrev pub Rest : Type 1
+Rest = Bool → List Laid → Type 0
+
+infixr 55 ◌▹◌
+-- a part and then a rest
+abbrev pub ◌▹◌ : Span → Rest → Rest
+◌▹◌ R T fit xs = (ys : List Laid) × R xs ys × T fit ys
+
+-- the same of a part in which ranges may play a part
+abbrev pub Then : (Bool → Span) → Rest → Rest
+Then S T fit xs = (ys : List Laid) × S fit xs ys × T fit ys
+
+-- the End alone
+abbrev pub AtEnd : Rest
+AtEnd fit xs = some_token kinds.End xs []
+
+-- equals signs and the End
+abbrev pub Last : Rest
+Last = Marked marks.Equals ▹ AtEnd
+
+-- so many units before those
+abbrev pub UnitsLeft : ℕ → Rest
+UnitsLeft zero = Last
+UnitsLeft (suc n) = Then UnitPart (UnitsLeft n)
+
+abbrev pub Tail : Rest
+Tail fit xs = (n : ℕ) × UnitsLeft n fit xs
+
+-- a whole module
+abbrev pub Whole : Rest
+Whole = Marked marks.Dashes ▹ Marked marks.Heading ▹ Marked marks.Name ▹ Marked marks.Dashes ▹ Extended ▹ Tail
