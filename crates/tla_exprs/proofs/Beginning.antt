@@ -11,8 +11,7 @@ use Rattle.tla_ast.specs.Precedence.{prefix_kind}
 use Rattle.tla_ast.specs.Trees.{NoArms}
 use Rattle.tla_exprs.specs.declared.frame.Frame.{Frame}
 use Rattle.tla_exprs.specs.Machine.{Stepped, prefix_step, word_begins, symbol_begins, token_begins, begins, name_or, on_name, symbol_or, on_symbol, subscript_symbol, subscript_started}
-use Rattle.tla_exprs.proofs.Opened.{FramesFit, Good, laid_symbol}
-use Rattle.tla_exprs.proofs.Texts.{FramesText}
+use Rattle.tla_exprs.proofs.Opened.{Good, laid_symbol}
 use Rattle.tla_exprs.proofs.Rows.{want_good, deliver_good}
 use Rattle.tla_exprs.proofs.Closing.{laid, laid_word, laid_name}
 use Rattle.tla_ast.specs.declared.token.Kind.TheVariants as kinds
@@ -21,6 +20,8 @@ use Rattle.tla_ast.specs.declared.token.Symbol.TheVariants as symbols
 use Rattle.tla_ast.specs.declared.operators.PrefixOperator.TheVariants as prefixes
 use Rattle.tla_ast.specs.Trees as tree
 use Rattle.tla_exprs.specs.declared.frame.Frame.TheVariants as frame
+use Rattle.tla_exprs.specs.OpenFits.{FramesFit}
+use Rattle.tla_exprs.specs.OpenRows.{FramesText}
 
 module _ (xs r : List Laid) (q : Place) (fs : List Frame) where
   prefix_good : (o : PrefixOperator) → FramesText fs xs (laid (prefix_kind o) q ∷ r) → FramesFit fs → Good xs (laid (prefix_kind o) q ∷ r) r (prefix_step o q fs)
@@ -39,7 +40,7 @@ module _ (xs r : List Laid) (q : Place) (fs : List Frame) where
   word_good words.Choose F h = ((laid_word words.Choose q ∷ r, F, refl), h, tt)
   word_good words.If F h = want_good xs (laid_word words.If q ∷ r) r (frame.IfTest q) fs (laid_word words.If q ∷ r) F refl tt h
   word_good words.Case F h = want_good xs (laid_word words.Case q ∷ r) r (frame.CaseTest q NoArms) fs (laid_word words.Case q ∷ r) F (r, refl, refl) tt h
-  word_good words.Let F h = ((laid_word words.Let q ∷ r, F, (r, refl, refl)), h, tt)
+  word_good words.Let F h = ((laid_word words.Let q ∷ r, F, (r, refl, refl)), h, (tt, refl))
   word_good _ F h = tt
 
   symbol_good : (s : Symbol) → FramesText fs xs (laid_symbol s q ∷ r) → FramesFit fs → Good xs (laid_symbol s q ∷ r) r (symbol_begins s q fs)

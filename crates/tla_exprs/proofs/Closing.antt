@@ -15,8 +15,7 @@ use Rattle.tla_ast.specs.Trees.{Tree, NoTrees, MoreTrees, MoreDefinitions}
 use Rattle.tla_exprs.specs.declared.frame.Form.{Form}
 use Rattle.tla_exprs.specs.declared.frame.Frame.{Frame}
 use Rattle.tla_exprs.specs.Machine.{Stepped, Stops, infix_of_symbol, infix_step, with_step, parameters_of, body_of, same_bullet, Settled, settle, word_closes, name_closes, item_closes, list_closes, kind_closes, laid_closes, closes, is_always, is_case_mark, settled_closes, behind, call_step, infix_or, symbol_follows, kind_follows, follows}
-use Rattle.tla_exprs.proofs.Opened.{IsOperand, FormFits, FrameFits, FramesFit, Defines, Good, laid_symbol}
-use Rattle.tla_exprs.proofs.Texts.{FormText, FrameText, FramesText}
+use Rattle.tla_exprs.proofs.Opened.{Defines, Good, laid_symbol}
 use Rattle.tla_exprs.proofs.Edges.{operand_left, operand_right, operand_ends, top_all, one_of_two, infix_good}
 use Rattle.tla_exprs.proofs.Settling.{IsSettled, settles}
 use Rattle.tla_exprs.proofs.Rows.{step_good, want_good, have_good, stepped_good}
@@ -30,6 +29,8 @@ use Rattle.tla_ast.specs.Trees as tree
 use Rattle.tla_exprs.specs.declared.frame.Scope.TheVariants as scopes
 use Rattle.tla_exprs.specs.declared.frame.Form.TheVariants as forms
 use Rattle.tla_exprs.specs.declared.frame.Frame.TheVariants as frame
+use Rattle.tla_exprs.specs.OpenFits.{IsOperand, FormFits, FrameFits, FramesFit}
+use Rattle.tla_exprs.specs.OpenRows.{FormText, FrameText, FramesText}
 
 abbrev pub laid : Kind → Place → Laid
 laid c q = Plain (record { kind = c; place = q })

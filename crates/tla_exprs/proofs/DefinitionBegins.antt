@@ -6,7 +6,7 @@ use Rattle.tla_ast.specs.declared.laid.Laid.{Laid}
 use Rattle.tla_ast.specs.declared.token.Kind.TheVariants as kinds
 use Rattle.tla_ast.specs.declared.token.Symbol.TheVariants as symbols
 use Rattle.tla_ast.specs.Begun.{Begun}
-use Rattle.tla_ast.specs.Grammar.{Text, DefinitionRest, sign}
+use Rattle.tla_ast.specs.Grammar.{Text}
 use Rattle.tla_ast.specs.Trees as tree
 use Rattle.tla_ast.specs.Trees.{Tree, Bounds, MoreBounds}
 use Rattle.tla_exprs.specs.Beginnings.{DefinitionText, BegunDefinition}
@@ -22,52 +22,22 @@ use Rattle.tla_exprs.specs.declared.frame.Frame.{Frame}
 use Rattle.tla_exprs.specs.declared.frame.Frame.TheVariants as frame
 use Rattle.tla_exprs.specs.declared.frame.Mode.{Mode}
 use Rattle.tla_exprs.specs.declared.frame.Mode.TheVariants as mode
-use Rattle.tla_exprs.specs.Machine.{Stepped, Reads, Stops, Clashes, Ends, EndsDefinition, parameters_of, body_of, step, Outcome, StopsAt, ClashesAt, EndsDefinitionAt, after, run}
+use Rattle.tla_exprs.specs.Machine.{Reads, Clashes, parameters_of, body_of, step, StopsAt, ClashesAt, EndsDefinitionAt}
+use Rattle.tla_exprs.specs.OpenRows.{FrameText}
 use Rattle.tla_exprs.proofs.Flat as flat
 use Rattle.tla_exprs.proofs.FlatStates.{rows, expected, Same}
 use Rattle.tla_exprs.proofs.FlatSteps.{Goes, steps_same}
 use Rattle.tla_exprs.proofs.Finishing.{State, Finish, finish}
 use Rattle.tla_exprs.proofs.OpenEnds.{Ending, start, one, one_tree, a_kind, a_sign}
 use Rattle.tla_exprs.proofs.Opened.{Opened, Good}
-use Rattle.tla_exprs.proofs.Paths.{Path, Reach, reach, rest_of, reach_clashes}
+use Rattle.tla_exprs.proofs.Paths.{Path, Reach, reach, reach_clashes, All, all_read, read_before}
+use Rattle.tla_exprs.proofs.Closing.{definition_rest}
 use Rattle.tla_exprs.proofs.RefusalsBegun.{begun, path_state, first_state}
 use Rattle.tla_exprs.proofs.Stepping.{reads_good}
-use Rattle.tla_exprs.proofs.Texts.{FrameText, FormText}
 use Rattle.tla_exprs.proofs.UniqueSpans.{Front, tree_local}
 use Rattle.tla_exprs.proofs.DefinitionStates.{OfUnit, BindsUnit, InHead, IsBottom, Head, Inside, Reached, ClashesOver, definition_reached, clash_inside}
 
 -- ---- runs along paths
-
--- what is read along a path
-pub along : (read r : List Laid) (fs : List Frame) (m : Mode) (gs : List Frame) (n : Mode) → Path read fs m gs n → run (read ++ r) fs m ≡ run r gs n
-along [] r fs m gs n p = ap (λ v. run r v m) p.0 ∙ ap (λ v. run r gs v) p.1
-along (y ∷ read) r fs m gs n p = ap (λ v. after v (y ∷ read ++ r) (run (read ++ r))) p.2 ∙ along read r p.0 p.1 gs n p.3
-
--- the state behind tokens that are all read
-record All (read : List Laid) (fs : List Frame) (m : Mode) : Type 0 where
-  frames : List Frame
-  expects : Mode
-  path : Path read fs m frames expects
-
-no_stop : (x : Laid) (xs : List Laid) → StopsAt (x ∷ xs) ≡ StopsAt [] → ⊥
-no_stop x xs h = cc
-
-all_after : (s : Stepped) (x : Laid) (xs : List Laid) (fs : List Frame) (m : Mode) → step x fs m ≡ s → after s (x ∷ xs) (run xs) ≡ StopsAt [] → ((gs : List Frame) (n : Mode) → run xs gs n ≡ StopsAt [] → All xs gs n) → All (x ∷ xs) fs m
-all_after (Reads gs n) x xs fs m e q f = let a : All xs gs n = f gs n q in record { frames = a.frames; expects = a.expects; path = (gs, n, e, a.path) }
-all_after Stops x xs fs m e q f = absurd (no_stop x xs q)
-all_after (Clashes a b) x xs fs m e q f = cc
-all_after (Ends t) x xs fs m e q f = cc
-all_after (EndsDefinition n p ns t) x xs fs m e q f = cc
-
-all_read : (xs : List Laid) (fs : List Frame) (m : Mode) → run xs fs m ≡ StopsAt [] → All xs fs m
-all_read [] fs m q = record { frames = fs; expects = m; path = (refl, refl) }
-all_read (x ∷ xs) fs m q = all_after (step x fs m) x xs fs m refl q (λ gs n h. all_read xs gs n h)
-
--- what stands before the token at which a run is done is read
-pub read_before : (read rest : List Laid) (x : Laid) (fs : List Frame) (m : Mode) (o : Outcome) → run (read ++ x ∷ rest) fs m ≡ o → rest_of o ≡ x ∷ rest → run read fs m ≡ StopsAt []
-read_before read rest x fs m o q l =
-    let h : Reach read fs m x rest o = reach read x rest fs m o q l in
-    ap (λ v. run v fs m) (sym (append-nil read)) ∙ along read [] fs m h.frames h.expects h.path
 
 -- ---- ends
 
@@ -77,10 +47,6 @@ record DefinitionEnding (xs : List Laid) : Type 0 where
   parameters : List (List ℕ)
   body : Tree
   text : DefinitionText name at parameters body xs []
-
-definition_rest : (form : Form) (e : Tree) (xs ys zs ws : List Laid) → FormText form xs ys → sign symbols.Defined ys zs → Text e zs ws → DefinitionRest (parameters_of form) (body_of form e) xs ws
-definition_rest (forms.Operator ns) e xs ys zs ws a d t = inl (ys, a, (zs, d, t))
-definition_rest (forms.Function at bs) e xs ys zs ws a d t = inr (refl, (a.0, a.1, (a.2.0, a.2.1, (ys, a.2.2, (zs, d, t)))))
 
 -- the text of the row at the bottom, and then that of an expression
 body_ends : (s : Scope) (n : List ℕ) (p : Place) (form : Form) (e : Tree) (xs ys : List Laid) → OfUnit s → FrameText (frame.DefinitionBody s n p form) xs ys → Text e ys [] → DefinitionEnding xs

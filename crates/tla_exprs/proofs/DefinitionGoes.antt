@@ -14,11 +14,10 @@ use Rattle.tla_exprs.specs.declared.frame.Mode.{Mode}
 use Rattle.tla_exprs.specs.declared.frame.Mode.TheVariants as mode
 use Rattle.tla_exprs.specs.declared.frame.Scope.TheVariants as scopes
 use Rattle.tla_exprs.specs.Machine.{step, Stepped, Reads, Stops, Clashes, Ends, EndsDefinition, Outcome, StopsAt, ClashesAt, EndsDefinitionAt, after, run}
-use Rattle.tla_exprs.proofs.Paths.{Reach, reach, IsLast, reach_stops, reach_clashes}
+use Rattle.tla_exprs.proofs.Paths.{Reach, reach, IsLast, reach_stops, reach_clashes, along}
 use Rattle.tla_exprs.proofs.UniqueSpans.{Front}
 use Rattle.tla_exprs.proofs.UniqueTree.{definition_read}
 use Rattle.tla_exprs.proofs.FittingFronts.{definition_local}
-use Rattle.tla_exprs.proofs.DefinitionBegins.{along}
 use Rattle.tla_exprs.proofs.DefinitionRuns.{Passes, definition_passes}
 
 -- what comes of the token at which a run is done, whatever stands behind it

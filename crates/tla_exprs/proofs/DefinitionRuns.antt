@@ -25,7 +25,7 @@ use Rattle.tla_exprs.proofs.FlatGoes.{Reached, part}
 use Rattle.tla_exprs.proofs.FlatStates.{rows, expected, FramesKept, ModeKept, Same}
 use Rattle.tla_exprs.proofs.FlatSteps.{Goes, steps_same}
 use Rattle.tla_exprs.proofs.FlatTrees.{good}
-use Rattle.tla_exprs.proofs.RunsBounds.{names_run}
+use Rattle.tla_exprs.proofs.Modelled.{names_run}
 use Rattle.tla_exprs.proofs.RunsParts.{plain}
 use Rattle.tla_exprs.proofs.DefinitionSteps.{Waits, over, step_over}
 

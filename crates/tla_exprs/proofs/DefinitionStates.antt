@@ -22,11 +22,11 @@ use Rattle.tla_exprs.specs.declared.frame.Frame.TheVariants as frame
 use Rattle.tla_exprs.specs.declared.frame.Mode.{Mode}
 use Rattle.tla_exprs.specs.declared.frame.Mode.TheVariants as mode
 use Rattle.tla_exprs.specs.Machine.{Stepped, Reads, Stops, Clashes, Ends, EndsDefinition, bound_named, definition_named, parameter_named, defined_as, binder_close, bound_close, word_closes, kind_closes, closes, step}
+use Rattle.tla_exprs.specs.OpenRows.{FrameText}
 use Rattle.tla_exprs.proofs.Beginning.{on_name_good, on_symbol_good}
 use Rattle.tla_exprs.proofs.Opened.{Opened, Good}
 use Rattle.tla_exprs.proofs.Paths.{Path}
 use Rattle.tla_exprs.proofs.Stepping.{reads_good}
-use Rattle.tla_exprs.proofs.Texts.{FrameText}
 use Rattle.tla_exprs.proofs.DefinitionSteps.{Waits, over, step_over}
 
 -- ---- where a unit's definition is open
@@ -255,7 +255,7 @@ reached_path (y ∷ ys) read fs m gs n p s =
 -- the state behind tokens that lead there from the name of the definition on
 pub definition_reached : (read : List Laid) (gs : List Frame) (n : Mode) → Path read [] (mode.DefinitionName scopes.Unit) gs n → Reached read gs n
 definition_reached read gs n p =
-    reached_path read [] [] (mode.DefinitionName scopes.Unit) gs n p (record { opened = λ r. ((r, refl, refl), tt, refl); stands = inl (record { empty = refl; head = tt }) })
+    reached_path read [] [] (mode.DefinitionName scopes.Unit) gs n p (record { opened = λ r. ((r, refl, refl), tt, (refl, tt)); stands = inl (record { empty = refl; head = tt }) })
 
 -- ---- clashes
 

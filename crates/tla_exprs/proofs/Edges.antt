@@ -14,8 +14,9 @@ use Rattle.tla_ast.specs.Trees.{Tree, First}
 use Rattle.tla_exprs.specs.declared.frame.Frame.{Frame}
 use Rattle.tla_exprs.specs.declared.frame.Frame.TheVariants as frame
 use Rattle.tla_exprs.specs.Machine.{Stepped, want, above, operator_number, goes_on, infix_step}
-use Rattle.tla_exprs.proofs.Opened.{IsOperand, Top, FramesFit, Good, laid_symbol}
-use Rattle.tla_exprs.proofs.Texts.{FramesText}
+use Rattle.tla_exprs.specs.OpenFits.{IsOperand, Top, FramesFit}
+use Rattle.tla_exprs.specs.OpenRows.{FramesText}
+use Rattle.tla_exprs.proofs.Opened.{Good, laid_symbol}
 
 pub operand_left : (r : Range) (e : Tree) → IsOperand e → LeftAbove r e
 operand_left r (tree.Infix at o es e) h = absurd h

@@ -10,8 +10,7 @@ use Rattle.tla_exprs.specs.declared.frame.Binder.{Binder}
 use Rattle.tla_exprs.specs.declared.frame.Binding.{Binding}
 use Rattle.tla_exprs.specs.declared.frame.Frame.{Frame}
 use Rattle.tla_exprs.specs.Machine.{Stepped, Reads, Stops, Joined, Joins, Meets, join, begin_binding, braces_close, bracket_close, on_joined, filter_close, function_close, is_subscript, tuple_close, binder_close, bound_close}
-use Rattle.tla_exprs.proofs.Opened.{BinderFits, BindingFits, FramesFit, Good, laid_symbol}
-use Rattle.tla_exprs.proofs.Texts.{BinderText, BindingText, FramesText}
+use Rattle.tla_exprs.proofs.Opened.{Good, laid_symbol}
 use Rattle.tla_exprs.proofs.Edges.{one_of_two}
 use Rattle.tla_exprs.proofs.JoinedTexts.{IsJoined, join_good}
 use Rattle.tla_exprs.proofs.Rows.{deliver_good}
@@ -21,6 +20,8 @@ use Rattle.tla_ast.specs.Trees as tree
 use Rattle.tla_exprs.specs.declared.frame.Action.TheVariants as actions
 use Rattle.tla_exprs.specs.declared.frame.Binder.TheVariants as binders
 use Rattle.tla_exprs.specs.declared.frame.Mode.TheVariants as mode
+use Rattle.tla_exprs.specs.OpenFits.{BinderFits, BindingFits, FramesFit}
+use Rattle.tla_exprs.specs.OpenRows.{BinderText, BindingText, FramesText}
 
 module _ (xs r : List Laid) (q : Place) where
   pub braces_good : (s : Symbol) (at : Place) (es : Trees) (fs : List Frame) (e : Tree) (ys zs : List Laid) → FramesText fs xs ys → (sign_at at symbols.OpenBrace ⨟ CommasBefore es) ys zs → Text e zs (laid_symbol s q ∷ r) → AllFit es → FramesFit fs → Fits e → Good xs (laid_symbol s q ∷ r) r (braces_close s at es fs e)

@@ -1,6 +1,7 @@
 -- Every state that the reader reaches can be ended so that the operators fit their ranges. So what is read is the beginning of a text that
 -- fits them, and a number can stand behind the frames of each state.
 use Rattle.std.proofs.Common.{◌≡◌, ℕ, Bool, true, false, List, [], ◌∷◌, ◌++◌, append_assoc, refl, sym, ap, subst, ◌∙◌}
+use Rattle.std.proofs.lemmas.List.{append-nil}
 use Rattle.std.specs.Prelude.{ℤ, if◌then◌else◌}
 use Rattle.trace_base.specs.declared.place.Place.{Place}
 use Rattle.tla_ast.specs.declared.laid.Bullet.{Bullet}
@@ -28,21 +29,22 @@ use Rattle.tla_exprs.specs.declared.frame.Frame.TheVariants as frame
 use Rattle.tla_exprs.specs.declared.frame.Mode.{Mode}
 use Rattle.tla_exprs.specs.declared.frame.Mode.TheVariants as mode
 use Rattle.tla_exprs.specs.Machine.{Reads, Stops, with_step, subscripted, step, StopsAt, EndsAt, EndsDefinitionAt, after, run}
-use Rattle.tla_exprs.proofs.Opened.{Top, FramesFit, Opened, Defines, Good}
-use Rattle.tla_exprs.proofs.Texts.{FramesText}
+use Rattle.tla_exprs.specs.OpenFits.{Top, FramesFit, in_frame, in_mode, FramesStand, ModeStands, Outermost}
+use Rattle.tla_exprs.specs.OpenRows.{FramesText}
+use Rattle.tla_exprs.proofs.Opened.{Opened, Defines, Good}
 use Rattle.tla_exprs.proofs.Edges.{top_all, operand_left}
 use Rattle.tla_exprs.proofs.Stepping.{reads_good}
 use Rattle.tla_exprs.proofs.NoUnits as units
-use Rattle.tla_exprs.proofs.NoUnits.{in_frame, in_mode}
+use Rattle.tla_exprs.proofs.NoUnits.{different}
 use Rattle.tla_exprs.proofs.OpenEnds.{start, one, one_tree, a_kind, a_sign, Suits, suits}
 use Rattle.tla_exprs.proofs.Finishing.{a_name, fresh, fresh_new}
-use Rattle.tla_exprs.proofs.Paths.{Path, Reach, reach}
-use Rattle.tla_exprs.proofs.RefusalsClash.{the_end, ended, All, all_read}
+use Rattle.tla_exprs.proofs.Paths.{Path, Reach, reach, All, all_read}
+use Rattle.tla_exprs.proofs.RefusalsClash.{the_end, ended}
 use Rattle.tla_exprs.proofs.UniqueSpans.{Front}
 use Rattle.tla_exprs.proofs.UniqueTree.{definition_read}
-use Rattle.tla_exprs.proofs.FittingWalk.{FramesHeld, ModeHeld, Held, next_held}
+use Rattle.tla_exprs.proofs.FittingWalk.{Held, next_held}
 use Rattle.tla_exprs.proofs.FittingFronts.{frames_local, definition_local}
-use Rattle.tla_exprs.proofs.FittingRows.{different, closer, closed, IsClosed, closed_spells, closed_suits, unit_spells}
+use Rattle.tla_exprs.proofs.FittingRows.{closer, closed, IsClosed, closed_spells, closed_suits, unit_spells}
 
 -- a whole text that fits, of a unit's definition or of an expression
 abbrev pub Fitting : Bool → List Laid → Type 0
@@ -68,22 +70,22 @@ definition_ends false xs i d = absurd (different i)
 definition_ends true xs i d = d
 
 -- a unit's definition stands in no row
-outermost : (unit : Bool) (fs : List Frame) → units.Opened unit fs true → fs ≡ []
+outermost : (unit : Bool) (fs : List Frame) → Outermost unit fs true → fs ≡ []
 outermost unit [] o = refl
 outermost unit (f ∷ fs) o = absurd (different o.0)
 
-is_unit : (unit : Bool) (fs : List Frame) → units.Opened unit fs true → true ≡ unit
+is_unit : (unit : Bool) (fs : List Frame) → Outermost unit fs true → true ≡ unit
 is_unit unit [] o = o
 is_unit unit (f ∷ fs) o = absurd (different o.0)
 
 module _ (unit : Bool) where
-  by_unit : (f : Frame) (fs : List Frame) (xs : List Laid) → (b : Bool) → in_frame f ≡ b → units.Opened unit fs b → (in_frame f ≡ false → units.Opened unit fs false → Fitting unit xs)
+  by_unit : (f : Frame) (fs : List Frame) (xs : List Laid) → (b : Bool) → in_frame f ≡ b → Outermost unit fs b → (in_frame f ≡ false → Outermost unit fs false → Fitting unit xs)
       → (in_frame f ≡ true → fs ≡ [] → Fitting true xs) → Fitting unit xs
   by_unit f fs xs false i o inner outer = inner i o
   by_unit f fs xs true i o inner outer = definition_ends unit xs (is_unit unit fs o) (outer i (outermost unit fs o))
 
   -- an expression and what ends the frames are a text that fits
-  pub fit_close : (fs : List Frame) → units.Opened unit fs false → FramesHeld fs → FramesFit fs → (e : Tree) → Suits e fs → Fits e → Top fs (λ s. LeftAbove s e) → (xs ys : List Laid) → FramesText fs xs ys → Text e ys (closing fs) → Fitting unit xs
+  pub fit_close : (fs : List Frame) → Outermost unit fs false → FramesStand fs → FramesFit fs → (e : Tree) → Suits e fs → Fits e → Top fs (λ s. LeftAbove s e) → (xs ys : List Laid) → FramesText fs xs ys → Text e ys (closing fs) → Fitting unit xs
   fit_close [] o h g e u k l xs ys F t = expression_ends unit e xs o (record { text = subst (λ w. Text e w []) (sym F) t; fits = k })
   fit_close (f ∷ fs) o h g e u k l xs ys F t =
       by_unit f fs xs (in_frame f) refl o.1
@@ -94,7 +96,7 @@ module _ (unit : Bool) where
   -- ---- states
 
   abbrev pub State : List Laid → List Frame → Mode → List Laid → Type 0
-  State xs fs m r = Opened xs fs m r × (ModeHeld m fs × FramesHeld fs) × units.Opened unit fs (in_mode m)
+  State xs fs m r = Opened xs fs m r × (ModeStands m fs × FramesStand fs) × Outermost unit fs (in_mode m)
 
   next_state : (xs r : List Laid) (x : Laid) (fs : List Frame) (m : Mode) (gs : List Frame) (n : Mode) → step x fs m ≡ Reads gs n → State xs fs m (x ∷ r) → State xs gs n r
   next_state xs r x fs m gs n q s = (
@@ -207,7 +209,7 @@ module _ (unit : Bool) where
 -- before the first token
 pub first_state : (unit : Bool) (xs : List Laid) → State unit xs [] (first_mode unit) xs
 first_state false xs = (((xs, refl, refl), tt, tt), (tt, tt), refl)
-first_state true xs = (((xs, refl, refl), tt, refl), (tt, tt), refl)
+first_state true xs = (((xs, refl, refl), tt, (refl, tt)), (tt, tt), refl)
 
 -- ---- what is read
 
@@ -227,16 +229,12 @@ definition_ran_fits read q = let f = ran true read q in record { name = f.1.0; a
 
 -- ---- a text that fits is read
 
-append_nil : (xs : List Laid) → xs ++ [] ≡ xs
-append_nil [] = refl
-append_nil (x ∷ xs) = ap (λ v. x ∷ v) (append_nil xs)
-
 -- up to an End behind it
 definition_ended : (n : List ℕ) (p : Place) (ns : List (List ℕ)) (e : Tree) (xs : List Laid) → Defines n p ns e xs [] → run (xs ++ the_end ∷ []) [] (mode.DefinitionName scopes.Unit) ≡ EndsDefinitionAt n p ns e (the_end ∷ [])
 unfolding the_end
 definition_ended n p ns e xs d =
     let f : Front (token p (kinds.Name n) ⨟ DefinitionRest ns e) xs [] = definition_local n p ns e xs [] d.0 in
-    let k : xs ≡ f.front = f.here ∙ append_nil f.front in
+    let k : xs ≡ f.front = f.here ∙ append-nil f.front in
     definition_read (xs ++ the_end ∷ []) [] the_end n p ns e (subst (λ v. (token p (kinds.Name n) ⨟ DefinitionRest ns e) (v ++ the_end ∷ []) (the_end ∷ [])) (sym k) (f.anywhere (the_end ∷ []))) d.1 tt
 
 all_of : (xs : List Laid) (fs : List Frame) (m : Mode) (o : _) → Reach xs fs m the_end [] o → All xs fs m
@@ -248,7 +246,7 @@ all_fitting true xs s =
     all_of xs [] (mode.DefinitionName scopes.Unit) _
     (reach xs the_end [] [] (mode.DefinitionName scopes.Unit) (EndsDefinitionAt s.0 s.1 s.2 s.3 (the_end ∷ [])) (definition_ended s.0 s.1 s.2 s.3 xs s.4) refl)
 
-path_runs : (done more : List Laid) (fs : List Frame) (m : Mode) (gs : List Frame) (n : Mode) → Path (done ++ more) fs m gs n → run done fs m ≡ StopsAt []
+pub path_runs : (done more : List Laid) (fs : List Frame) (m : Mode) (gs : List Frame) (n : Mode) → Path (done ++ more) fs m gs n → run done fs m ≡ StopsAt []
 path_runs [] more fs m gs n p = refl
 path_runs (y ∷ done) more fs m gs n p = ap (λ v. after v (y ∷ done) (run done)) p.2 ∙ path_runs done more p.0 p.1 gs n p.3
 
@@ -259,7 +257,7 @@ pub record Hungry (unit : Bool) (xs ys : List Laid) : Type 0 where
   pub accepts : (z : ℤ) (at : Place) → run (before ++ at_place (kinds.Number z) at ∷ []) [] (first_mode unit) ≡ StopsAt []
 
 -- a number can stand behind frames where no subscript is expected
-pub hungry : (unit : Bool) (fs : List Frame) (xs ys : List Laid) → units.Opened unit fs false → Held fs → FramesFit fs → FramesText fs xs ys → Hungry unit xs ys
+pub hungry : (unit : Bool) (fs : List Frame) (xs ys : List Laid) → Outermost unit fs false → Held fs → FramesFit fs → FramesText fs xs ys → Hungry unit xs ys
 hungry unit fs xs ys o h g F =
     let f : Front (FramesText fs) xs ys = frames_local fs xs ys F in
     let c : List Laid = closing fs in

@@ -19,8 +19,8 @@ use Rattle.tla_exprs.specs.declared.frame.Form.{Form}
 use Rattle.tla_exprs.specs.declared.frame.Form.TheVariants as forms
 use Rattle.tla_exprs.specs.declared.frame.Frame.{Frame}
 use Rattle.tla_exprs.specs.declared.frame.Frame.TheVariants as frame
-use Rattle.tla_exprs.specs.Machine.{field_mark}
-use Rattle.tla_exprs.proofs.Texts.{ScopeText, FormText, BinderText, BindingText, ActionText, ExceptText, PathText, FrameText, FramesText}
+use Rattle.tla_exprs.specs.OpenRows.{field_mark}
+use Rattle.tla_exprs.specs.OpenRows.{ScopeText, FormText, BinderText, BindingText, ActionText, ExceptText, PathText, FrameText, FramesText}
 use Rattle.tla_exprs.proofs.UniqueSpans.{Local, nothing_local, token_local, some_local, open_local, item_local, then_local, only_local, either_local, symbol, symbol_at, names_local, parameters_local, tree_local, commas_before_local, items_before_local, chain_local, steps_local, bounds_before_local, bounds_local, fields_before_local, changes_before_local, arms_before_local, some_arms_local, function_local, definitions_local, some_definitions_local}
 
 scope_local : (c : Scope) → Local (ScopeText c)

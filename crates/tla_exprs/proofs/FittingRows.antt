@@ -20,14 +20,14 @@ use Rattle.tla_exprs.specs.declared.frame.Binder.TheVariants as binders
 use Rattle.tla_exprs.specs.declared.frame.Frame.{Frame}
 use Rattle.tla_exprs.specs.declared.frame.Frame.TheVariants as frame
 use Rattle.tla_exprs.specs.Machine.{with_step, subscripted, of_records, parameters_of, body_of}
-use Rattle.tla_exprs.proofs.Opened.{Top, BinderFits, FrameFits, Defines}
-use Rattle.tla_exprs.proofs.Texts.{BinderText, FrameText}
+use Rattle.tla_exprs.specs.OpenFits.{Top, BinderFits, FrameFits, in_binder, in_frame, FrameStands}
+use Rattle.tla_exprs.specs.OpenRows.{BinderText, FrameText}
+use Rattle.tla_exprs.proofs.Opened.{Defines}
 use Rattle.tla_exprs.proofs.Edges.{top_all, operand_left}
 use Rattle.tla_exprs.proofs.Rows.{step_good}
 use Rattle.tla_exprs.proofs.Closing.{definition_rest, definition_fits, unit_good}
-use Rattle.tla_exprs.proofs.NoUnits.{in_binder, in_frame}
 use Rattle.tla_exprs.proofs.OpenEnds.{start, a_sign, a_word, one, one_tree, Suits, suits, subscript_suits, path_of}
-use Rattle.tla_exprs.proofs.FittingWalk.{FrameHeld}
+use Rattle.tla_exprs.proofs.NoUnits.{different}
 
 -- ---- tokens and trees
 
@@ -118,9 +118,6 @@ closed (frame.FairSubscript at) e = tree.Fairness at e one_tree
 closed (frame.FairBody at v) e = tree.Fairness at v e
 
 -- ---- what is closed is spelled and fits
-
-pub different : true ≡ false → ⊥
-different e = cc
 
 -- the tree t stands between two points, in these frames
 abbrev pub IsClosed : Tree → List Frame → List Laid → List Laid → Type 0
@@ -254,7 +251,7 @@ module _ (fs : List Frame) (xs ys r : List Laid) where
   closed_spells (frame.FairBody at v) e i h k u l a t = ((h.0, (a.0, a.1, (a.2.0, a.2.1, (ys, a.2.2, (a_sign symbols.CloseParenthesis ∷ r, t, (start, refl)))))), (h.1, k), any fs)
 
 -- a tree that may stand in the frames
-pub closed_suits : (f : Frame) (fs : List Frame) (e : Tree) → FrameHeld f fs → Suits (closed f e) fs
+pub closed_suits : (f : Frame) (fs : List Frame) (e : Tree) → FrameStands f fs → Suits (closed f e) fs
 closed_suits (frame.Parenthesis at) fs e h = subscript_suits (tree.Parenthesized at e) fs tt
 closed_suits (frame.Tuple at es) fs e h = subscript_suits (tree.Tuple at (MoreTrees es e)) fs tt
 closed_suits f fs e h = suits (closed f e) fs h

@@ -1,6 +1,6 @@
 -- What each token keeps: a subscript is a name, a tuple or an expression in parentheses, and nothing else is read where one is expected.
 -- Where a token is a clash, it is one of an infix operator behind an operand, or of the late `\in` in braces or brackets.
-use Rattle.std.proofs.Common.{◌≡◌, ℕ, Bool, true, false, List, [], ◌∷◌, Option, Some, None, refl, sym, ap, subst, ◌∙◌}
+use Rattle.std.proofs.Common.{◌≡◌, ◌⊎◌, inl, inr, ℕ, Bool, true, false, List, [], ◌∷◌, Option, Some, None, refl, sym, ap, subst, ◌∙◌}
 use Rattle.trace_base.specs.declared.place.Place.{Place}
 use Rattle.tla_ast.specs.declared.laid.Bullet.{Bullet}
 use Rattle.tla_ast.specs.declared.laid.Laid.{Laid}
@@ -29,39 +29,25 @@ use Rattle.tla_exprs.specs.declared.frame.Frame.TheVariants as frame
 use Rattle.tla_exprs.specs.declared.frame.Mode.{Mode}
 use Rattle.tla_exprs.specs.declared.frame.Mode.TheVariants as mode
 use Rattle.tla_exprs.specs.Machine.{Stepped, Reads, Stops, Clashes, Ends, EndsDefinition, Joined, Joins, Meets, Settled, above, goes_on, infix_step, join, deliver, same_bullet, has_field, word_begins, symbol_begins, token_begins, begins, settle, braces_close, bracket_close, on_joined, filter_close, function_close, is_subscript, tuple_close, binder_close, bound_close, symbol_closes, word_closes, name_closes, item_closes, list_closes, kind_closes, laid_closes, closes, is_case_mark, settled_closes, behind, call_step, infix_or, infix_of_symbol, symbol_follows, kind_follows, follows, bound_named, bracket_named, brace_started, brace_named, tuple_started, list_started, choose_named, definition_named, parameter_named, defined_as, except_mark, path_ends, except_path, record_named, subscript_symbol, subscript_started, fair_opened, is_other, case_next, other_arrow, step}
+use Rattle.tla_exprs.specs.OpenFits.{Open, FramesStand, ModeStands}
 use Rattle.tla_exprs.proofs.Edges.{one_of_two}
 use Rattle.tla_exprs.proofs.Rows.{only_parenthesis, only_bracket, only_brace, only_colon, only_arrow, only_always, comma_parenthesis, comma_bracket}
 use Rattle.tla_exprs.proofs.Beginning.{on_name_good, on_symbol_good}
 use Rattle.tla_exprs.proofs.Opened.{laid_symbol}
 use Rattle.tla_exprs.proofs.Closing.{SymbolOf, symbol_of, laid}
-use Rattle.tla_exprs.proofs.FlatStates.{Open}
 
 -- ---- what is kept
 
--- a row that stands where a subscript is expected is one that can be one
-abbrev pub FrameHeld : Frame → List Frame → Type 0
-FrameHeld (frame.Parenthesis at) fs = Unit {0}
-FrameHeld (frame.Tuple at es) fs = Unit {0}
-FrameHeld _ fs = Open fs
-
-abbrev pub FramesHeld : List Frame → Type 0
-FramesHeld [] = Unit {0}
-FramesHeld (f ∷ fs) = FrameHeld f fs × FramesHeld fs
-
-abbrev pub ModeHeld : Mode → List Frame → Type 0
-ModeHeld (mode.TupleStart at) fs = Unit {0}
-ModeHeld _ fs = Open fs
-
 -- where no subscript is expected
 abbrev pub Held : List Frame → Type 0
-Held fs = Open fs × FramesHeld fs
+Held fs = Open fs × FramesStand fs
 
 -- a fact of the two places of a clash
 abbrev Fact : Type 1
 Fact = Place → Place → Type 0
 
 abbrev Good : Fact → Stepped → Type 0
-Good C (Reads fs m) = ModeHeld m fs × FramesHeld fs
+Good C (Reads fs m) = ModeStands m fs × FramesStand fs
 Good C (Clashes p q) = C p q
 Good C _ = Unit {0}
 
@@ -76,21 +62,32 @@ with_clash C (Clashes p q) h c = c p q refl
 with_clash C (Ends e) h c = tt
 with_clash C (EndsDefinition n p ns e) h c = tt
 
--- a row of a late `\in` tells the fact where that clashes
-abbrev pub FrameMeets : Fact → Frame → Tree → Type 0
-FrameMeets C (frame.MaybeFilter at n p q) e = (m : Place) → join (tree.Name p n) q e ≡ Meets m → C q m
-FrameMeets C (frame.MaybeFunction at n p q) e = (m : Place) → join (tree.Name p n) q e ≡ Meets m → C q m
-FrameMeets C _ e = Unit {0}
+-- tokens at which a late `\in` can only be an operator
+abbrev pub EndsElement : Kind → Type 0
+EndsElement k = (k ≡ kinds.Symbol symbols.Comma) ⊎ (k ≡ kinds.Symbol symbols.CloseBrace)
 
-abbrev pub FramesMeet : Fact → List Frame → Tree → Type 0
-FramesMeet C [] e = Unit {0}
-FramesMeet C (f ∷ fs) e = FrameMeets C f e
+abbrev pub EndsOperand : Kind → Type 0
+EndsOperand k = (k ≡ kinds.Symbol symbols.Arrow) ⊎ (k ≡ kinds.Symbol symbols.CloseBracketSubscript) ⊎ (k ≡ kinds.Word words.Except)
+
+-- a row of a late `\in` tells the fact where that clashes
+abbrev pub FrameMeets : Fact → Kind → Frame → Tree → Type 0
+FrameMeets C k (frame.MaybeFilter at n p q) e = (m : Place) → join (tree.Name p n) q e ≡ Meets m → EndsElement k → C q m
+FrameMeets C k (frame.MaybeFunction at n p q) e = (m : Place) → join (tree.Name p n) q e ≡ Meets m → EndsOperand k → C q m
+FrameMeets C k _ e = Unit {0}
+
+abbrev pub LaidMeets : Fact → Laid → Frame → Tree → Type 0
+LaidMeets C (Plain t) f e = FrameMeets C t.kind f e
+LaidMeets C _ f e = Unit {0}
+
+abbrev pub FramesMeet : Fact → Laid → List Frame → Tree → Type 0
+FramesMeet C x [] e = Unit {0}
+FramesMeet C x (f ∷ fs) e = LaidMeets C x f e
 
 -- a token behind an operand tells the fact where it clashes
 abbrev pub FollowMeets : Fact → Laid → List Frame → Tree → Type 0
 FollowMeets C x fs e =
     ((o : InfixOperator) (at : Place) → x ≡ laid_symbol (infix_symbol o) at → (p q : Place) → infix_step o at fs e ≡ Clashes p q → C p q)
-    × FramesMeet C (settle (is_case_mark x) fs e).frames (settle (is_case_mark x) fs e).tree
+    × FramesMeet C x (settle (is_case_mark x) fs e).frames (settle (is_case_mark x) fs e).tree
 
 abbrev pub ModeMeets : Fact → Laid → Mode → List Frame → Type 0
 ModeMeets C x (mode.Have e) fs = FollowMeets C x fs e
@@ -121,7 +118,7 @@ module _ (C : Fact) where
   abbrev Keeps : Stepped → Type 0
   Keeps = Good C
 
-  deliver_kept : (e : Tree) (fs : List Frame) → FramesHeld fs → Keeps (deliver e fs)
+  deliver_kept : (e : Tree) (fs : List Frame) → FramesStand fs → Keeps (deliver e fs)
   deliver_kept e (frame.Subscript k at a ∷ fs) h = h
   deliver_kept e (frame.FairSubscript at ∷ fs) h = h
   deliver_kept e [] h = (tt, h)
@@ -208,20 +205,20 @@ module _ (C : Fact) where
   joined_kept (Joins e) q next g j = g e
   joined_kept (Meets m) q next g j = j m refl
 
-  filter_kept : (s : Symbol) (at : Place) (n : List ℕ) (p q : Place) (fs : List Frame) (e : Tree) → Held fs → ((m : Place) → join (tree.Name p n) q e ≡ Meets m → C q m) → Keeps (filter_close s at n p q fs e)
+  filter_kept : (s : Symbol) (at : Place) (n : List ℕ) (p q : Place) (fs : List Frame) (e : Tree) → Held fs → FrameMeets C (kinds.Symbol s) (frame.MaybeFilter at n p q) e → Keeps (filter_close s at n p q fs e)
   filter_kept symbols.Colon at n p q fs e h j = (tt, h)
-  filter_kept symbols.Comma at n p q fs e h j = joined_kept (join (tree.Name p n) q e) q _ (λ x. braces_kept symbols.Comma at NoTrees fs x h) j
-  filter_kept symbols.CloseBrace at n p q fs e h j = joined_kept (join (tree.Name p n) q e) q _ (λ x. braces_kept symbols.CloseBrace at NoTrees fs x h) j
+  filter_kept symbols.Comma at n p q fs e h j = joined_kept (join (tree.Name p n) q e) q _ (λ x. braces_kept symbols.Comma at NoTrees fs x h) (λ m i. j m i (inl refl))
+  filter_kept symbols.CloseBrace at n p q fs e h j = joined_kept (join (tree.Name p n) q e) q _ (λ x. braces_kept symbols.CloseBrace at NoTrees fs x h) (λ m i. j m i (inr refl))
   filter_kept _ at n p q fs e h j = tt
 
-  function_kept : (s : Symbol) (at : Place) (n : List ℕ) (p q : Place) (fs : List Frame) (e : Tree) → Held fs → ((m : Place) → join (tree.Name p n) q e ≡ Meets m → C q m) → Keeps (function_close s at n p q fs e)
+  function_kept : (s : Symbol) (at : Place) (n : List ℕ) (p q : Place) (fs : List Frame) (e : Tree) → Held fs → FrameMeets C (kinds.Symbol s) (frame.MaybeFunction at n p q) e → Keeps (function_close s at n p q fs e)
   function_kept symbols.Comma at n p q fs e h j = h
   function_kept symbols.MapsTo at n p q fs e h j = (tt, h)
-  function_kept symbols.Arrow at n p q fs e h j = joined_kept (join (tree.Name p n) q e) q _ (λ x. bracket_kept symbols.Arrow at fs x h) j
-  function_kept symbols.CloseBracketSubscript at n p q fs e h j = joined_kept (join (tree.Name p n) q e) q _ (λ x. bracket_kept symbols.CloseBracketSubscript at fs x h) j
+  function_kept symbols.Arrow at n p q fs e h j = joined_kept (join (tree.Name p n) q e) q _ (λ x. bracket_kept symbols.Arrow at fs x h) (λ m i. j m i (inl refl))
+  function_kept symbols.CloseBracketSubscript at n p q fs e h j = joined_kept (join (tree.Name p n) q e) q _ (λ x. bracket_kept symbols.CloseBracketSubscript at fs x h) (λ m i. j m i (inr (inl refl)))
   function_kept _ at n p q fs e h j = tt
 
-  tuple_kept : (s : Symbol) (at : Place) (es : Trees) (fs : List Frame) (e : Tree) → FramesHeld fs → Keeps (tuple_close s at es fs e)
+  tuple_kept : (s : Symbol) (at : Place) (es : Trees) (fs : List Frame) (e : Tree) → FramesStand fs → Keeps (tuple_close s at es fs e)
   tuple_kept symbols.Comma at es fs e h = (tt, (tt, h))
   tuple_kept symbols.CloseTuple at es fs e h = deliver_kept (tree.Tuple at (MoreTrees es e)) fs h
   tuple_kept symbols.CloseTupleSubscript at NoTrees fs e h = one_of_two Keeps (is_subscript fs) _ _ (λ a. tt) (λ a. (not_subscript fs a, h))
@@ -239,7 +236,7 @@ module _ (C : Fact) where
   bound_kept symbols.Comma b ns fs e h = h
   bound_kept s b ns fs e h = binder_kept s b.binder (MoreBounds b.bounds ns e) fs h
 
-  symbol_kept : (s : Symbol) (f : Frame) (fs : List Frame) (e : Tree) → FramesHeld (f ∷ fs) → FrameMeets C f e → Keeps (symbol_closes s f fs e)
+  symbol_kept : (s : Symbol) (f : Frame) (fs : List Frame) (e : Tree) → FramesStand (f ∷ fs) → FrameMeets C (kinds.Symbol s) f e → Keeps (symbol_closes s f fs e)
   symbol_kept s (frame.Parenthesis at) fs e h j = only_parenthesis Keeps tt s _ (λ i. deliver_kept (tree.Parenthesized at e) fs h.1)
   symbol_kept s (frame.Call n at es) fs e h j = comma_parenthesis Keeps tt s _ _ (λ i. (tt, h)) (λ i. h)
   symbol_kept s (frame.Index a at es) fs e h j = comma_bracket Keeps tt s _ _ (λ i. (tt, h)) (λ i. h)
@@ -261,44 +258,44 @@ module _ (C : Fact) where
   symbol_kept s (frame.FairBody at v) fs e h j = only_parenthesis Keeps tt s _ (λ i. h)
   symbol_kept s f fs e h j = tt
 
-  word_kept : (w : Word) (f : Frame) (fs : List Frame) (e : Tree) → FramesHeld (f ∷ fs) → FrameMeets C f e → Keeps (word_closes w f fs e)
+  word_kept : (w : Word) (f : Frame) (fs : List Frame) (e : Tree) → FramesStand (f ∷ fs) → FrameMeets C (kinds.Word w) f e → Keeps (word_closes w f fs e)
   word_kept words.Then (frame.IfTest at) fs e h j = (tt, h)
   word_kept words.Else (frame.IfThen at a) fs e h j = (tt, h)
   word_kept words.Except (frame.Bracket at) fs e h j = h
-  word_kept words.Except (frame.MaybeFunction at n p q) fs e h j = joined_kept (join (tree.Name p n) q e) q _ (λ x. h) j
+  word_kept words.Except (frame.MaybeFunction at n p q) fs e h j = joined_kept (join (tree.Name p n) q e) q _ (λ x. h) (λ m i. j m i (inr (inr refl)))
   word_kept words.In (frame.DefinitionBody (scopes.Let at ds) n p form) fs e h j = (tt, h)
   word_kept w f fs e h j = tt
 
-  name_kept : (m : List ℕ) (q : Place) (f : Frame) (fs : List Frame) (e : Tree) → FramesHeld (f ∷ fs) → Keeps (name_closes m q f fs e)
+  name_kept : (m : List ℕ) (q : Place) (f : Frame) (fs : List Frame) (e : Tree) → FramesStand (f ∷ fs) → Keeps (name_closes m q f fs e)
   name_kept m q (frame.DefinitionBody (scopes.Let at ds) n p form) fs e h = h
   name_kept m q f fs e h = tt
 
-  item_kept : (c : Bullet) (f : Frame) (fs : List Frame) (e : Tree) → FramesHeld (f ∷ fs) → Keeps (item_closes c f fs e)
+  item_kept : (c : Bullet) (f : Frame) (fs : List Frame) (e : Tree) → FramesStand (f ∷ fs) → Keeps (item_closes c f fs e)
   item_kept c (frame.Junction b at es) fs e h = one_of_two Keeps (same_bullet b c) _ _ (λ a. (tt, h)) (λ a. tt)
   item_kept c f fs e h = tt
 
-  list_kept : (f : Frame) (fs : List Frame) (e : Tree) → FramesHeld (f ∷ fs) → Keeps (list_closes f fs e)
+  list_kept : (f : Frame) (fs : List Frame) (e : Tree) → FramesStand (f ∷ fs) → Keeps (list_closes f fs e)
   list_kept (frame.Junction b at es) fs e h = h
   list_kept f fs e h = tt
 
-  kind_kept : (k : Kind) (q : Place) (f : Frame) (fs : List Frame) (e : Tree) → FramesHeld (f ∷ fs) → FrameMeets C f e → Keeps (kind_closes k q f fs e)
+  kind_kept : (k : Kind) (q : Place) (f : Frame) (fs : List Frame) (e : Tree) → FramesStand (f ∷ fs) → FrameMeets C k f e → Keeps (kind_closes k q f fs e)
   kind_kept (kinds.Symbol s) q f fs e h j = symbol_kept s f fs e h j
   kind_kept (kinds.Word w) q f fs e h j = word_kept w f fs e h j
   kind_kept (kinds.Name m) q f fs e h j = name_kept m q f fs e h
   kind_kept _ q f fs e h j = tt
 
-  laid_kept : (x : Laid) (f : Frame) (fs : List Frame) (e : Tree) → FramesHeld (f ∷ fs) → FrameMeets C f e → Keeps (laid_closes x f fs e)
+  laid_kept : (x : Laid) (f : Frame) (fs : List Frame) (e : Tree) → FramesStand (f ∷ fs) → LaidMeets C x f e → Keeps (laid_closes x f fs e)
   laid_kept (Plain t) f fs e h j = kind_kept t.kind t.place f fs e h j
   laid_kept (ListOpen b at) f fs e h j = tt
   laid_kept (ListItem b at) f fs e h j = item_kept b f fs e h
   laid_kept (ListClose at) f fs e h j = list_kept f fs e h
 
-  closes_kept : (x : Laid) (fs : List Frame) (e : Tree) → Held fs → FramesMeet C fs e → Keeps (closes x fs e)
+  closes_kept : (x : Laid) (fs : List Frame) (e : Tree) → Held fs → FramesMeet C x fs e → Keeps (closes x fs e)
   closes_kept x [] e h j = tt
   closes_kept x (frame.DefinitionBody scopes.Unit n p form ∷ fs) e h j = tt
   closes_kept x (f ∷ fs) e h j = laid_kept x f fs e h.1 j
 
-  settled_kept : (x : Laid) (s : Settled) → Held s.frames → FramesMeet C s.frames s.tree → Keeps (settled_closes x s)
+  settled_kept : (x : Laid) (s : Settled) → Held s.frames → FramesMeet C x s.frames s.tree → Keeps (settled_closes x s)
   settled_kept x s h j = closes_kept x s.frames s.tree h j
 
   behind_kept : (x : Laid) (fs : List Frame) (e : Tree) → Held fs → FollowMeets C x fs e → Keeps (behind x fs e)
@@ -357,7 +354,7 @@ module _ (C : Fact) where
   brace_named_kept x at n p fs symbols.Member q h j = (tt, h)
   brace_named_kept x at n p fs s q h j = follows_kept x (frame.Braces at NoTrees ∷ fs) (tree.Name p n) (tt, h) j
 
-  tuple_started_kept : (x : Laid) (at : Place) (fs : List Frame) (s : Symbol) (q : Place) → FramesHeld fs → Keeps (tuple_started x at fs s q)
+  tuple_started_kept : (x : Laid) (at : Place) (fs : List Frame) (s : Symbol) (q : Place) → FramesStand fs → Keeps (tuple_started x at fs s q)
   tuple_started_kept x at fs symbols.CloseTuple q h = deliver_kept (tree.Tuple at NoTrees) fs h
   tuple_started_kept x at fs s q h = begins_kept x (frame.Tuple at NoTrees ∷ fs) (tt, (tt, h))
 
@@ -403,12 +400,12 @@ module _ (C : Fact) where
   record_named_kept records.Set at hs n fs symbols.Colon h = (tt, h)
   record_named_kept k at hs n fs _ h = tt
 
-  parenthesis_kept : (fs : List Frame) (s : Symbol) (q : Place) → FramesHeld fs → Keeps (subscript_symbol fs s q)
+  parenthesis_kept : (fs : List Frame) (s : Symbol) (q : Place) → FramesStand fs → Keeps (subscript_symbol fs s q)
   parenthesis_kept fs symbols.OpenParenthesis q h = (tt, (tt, h))
   parenthesis_kept fs symbols.OpenTuple q h = (tt, h)
   parenthesis_kept fs _ q h = tt
 
-  subscript_kept : (x : Laid) (fs : List Frame) → FramesHeld fs → Keeps (subscript_started x fs)
+  subscript_kept : (x : Laid) (fs : List Frame) → FramesStand fs → Keeps (subscript_started x fs)
   subscript_kept x fs h =
       on_name_good Keeps x _ _ (λ n p e. deliver_kept (tree.Name p n) fs h) (on_symbol_good Keeps x _ _ (λ s q e. parenthesis_kept fs s q h) tt)
 
@@ -425,7 +422,7 @@ module _ (C : Fact) where
   other_arrow_kept at arms fs symbols.Arrow h = (tt, h)
   other_arrow_kept at arms fs _ h = tt
 
-  pub step_kept : (x : Laid) (fs : List Frame) (m : Mode) → ModeHeld m fs × FramesHeld fs → ModeMeets C x m fs → Keeps (step x fs m)
+  pub step_kept : (x : Laid) (fs : List Frame) (m : Mode) → ModeStands m fs × FramesStand fs → ModeMeets C x m fs → Keeps (step x fs m)
   step_kept x fs mode.Want h j = begins_kept x fs h
   step_kept x fs (mode.Have e) h j = follows_kept x fs e h j
   step_kept x fs (mode.BoundName b ns) h j = on_name_good Keeps x _ _ (λ n p e. h) tt
@@ -461,17 +458,23 @@ module _ (C : Fact) where
 
 -- ---- from one state to the next, and at a clash
 
-frame_none : (f : Frame) (e : Tree) → FrameMeets Nothing f e
-frame_none (frame.MaybeFilter at n p q) e = λ m i. tt
-frame_none (frame.MaybeFunction at n p q) e = λ m i. tt
-frame_none _ e = tt
+frame_none : (k : Kind) (f : Frame) (e : Tree) → FrameMeets Nothing k f e
+frame_none k (frame.MaybeFilter at n p q) e = λ m i l. tt
+frame_none k (frame.MaybeFunction at n p q) e = λ m i l. tt
+frame_none k _ e = tt
 
-frames_none : (fs : List Frame) (e : Tree) → FramesMeet Nothing fs e
-frames_none [] e = tt
-frames_none (f ∷ fs) e = frame_none f e
+laid_none : (x : Laid) (f : Frame) (e : Tree) → LaidMeets Nothing x f e
+laid_none (Plain t) f e = frame_none t.kind f e
+laid_none (ListOpen b at) f e = tt
+laid_none (ListItem b at) f e = tt
+laid_none (ListClose at) f e = tt
+
+frames_none : (x : Laid) (fs : List Frame) (e : Tree) → FramesMeet Nothing x fs e
+frames_none x [] e = tt
+frames_none x (f ∷ fs) e = laid_none x f e
 
 follow_none : (x : Laid) (fs : List Frame) (e : Tree) → FollowMeets Nothing x fs e
-follow_none x fs e = (λ o at i p q k. tt, frames_none (settle (is_case_mark x) fs e).frames (settle (is_case_mark x) fs e).tree)
+follow_none x fs e = (λ o at i p q k. tt, frames_none x (settle (is_case_mark x) fs e).frames (settle (is_case_mark x) fs e).tree)
 
 mode_none : (x : Laid) (m : Mode) (fs : List Frame) → ModeMeets Nothing x m fs
 mode_none x (mode.Have e) fs = follow_none x fs e
@@ -479,12 +482,12 @@ mode_none x (mode.BracketName at n p) fs = follow_none x (frame.Bracket at ∷ f
 mode_none x (mode.BraceName at n p) fs = follow_none x (frame.Braces at NoTrees ∷ fs) (tree.Name p n)
 mode_none x _ fs = tt
 
-pub next_held : (x : Laid) (fs : List Frame) (m : Mode) (gs : List Frame) (n : Mode) → step x fs m ≡ Reads gs n → ModeHeld m fs × FramesHeld fs → ModeHeld n gs × FramesHeld gs
+pub next_held : (x : Laid) (fs : List Frame) (m : Mode) (gs : List Frame) (n : Mode) → step x fs m ≡ Reads gs n → ModeStands m fs × FramesStand fs → ModeStands n gs × FramesStand gs
 next_held x fs m gs n q h = subst (λ v. Good Nothing v) q (step_kept Nothing x fs m h (mode_none x m fs))
 
 -- the rows that are left when those are put together that end with their expression
 pub settle_held : (case : Bool) (fs : List Frame) (e : Tree) → Held fs → Held (settle case fs e).frames
 settle_held case fs e h = settle_kept Nothing case fs e h
 
-pub clash_held : (C : Place → Place → Type 0) (x : Laid) (fs : List Frame) (m : Mode) (p q : Place) → step x fs m ≡ Clashes p q → ModeHeld m fs × FramesHeld fs → ModeMeets C x m fs → C p q
+pub clash_held : (C : Place → Place → Type 0) (x : Laid) (fs : List Frame) (m : Mode) (p q : Place) → step x fs m ≡ Clashes p q → ModeStands m fs × FramesStand fs → ModeMeets C x m fs → C p q
 clash_held C x fs m p q i h j = subst (λ v. Good C v) i (step_kept C x fs m h j)

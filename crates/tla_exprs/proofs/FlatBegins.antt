@@ -19,8 +19,9 @@ use Rattle.tla_exprs.specs.declared.frame.Frame.{Frame}
 use Rattle.tla_exprs.specs.declared.frame.Frame.TheVariants as frame
 use Rattle.tla_exprs.specs.declared.frame.Mode.TheVariants as mode
 use Rattle.tla_exprs.specs.Machine.{Stepped, Reads, is_bare_name, deliver, word_begins, symbol_begins, token_begins, begins, name_or, on_name, symbol_or, on_symbol, subscript_symbol, subscript_started}
+use Rattle.tla_exprs.specs.OpenFits.{Open}
 use Rattle.tla_exprs.proofs.Flat as flat
-use Rattle.tla_exprs.proofs.FlatStates.{rows, Open, Unfresh, Sits, FramesKept, Same, sits, unfresh_sits}
+use Rattle.tla_exprs.proofs.FlatStates.{rows, Unfresh, Sits, FramesKept, Same, sits, unfresh_sits}
 
 -- ---- no subscript is expected
 

@@ -18,7 +18,8 @@ use Rattle.tla_ast.specs.Trees as tree
 use Rattle.tla_ast.specs.Trees.{Tree, Bounds, NoBounds, MoreBounds, Fields, NoFields, MoreFields, Changes}
 use Rattle.tla_exprs.specs.declared.frame.RecordKind.{RecordKind}
 use Rattle.tla_exprs.specs.declared.frame.RecordKind.TheVariants as records
-use Rattle.tla_exprs.specs.Machine.{field_mark, is_case_mark, is_always_symbol}
+use Rattle.tla_exprs.specs.Machine.{is_case_mark, is_always_symbol}
+use Rattle.tla_exprs.specs.OpenRows.{field_mark}
 use Rattle.tla_exprs.proofs.RunsParts.{plain}
 use Rattle.tla_exprs.proofs.RunsStarts.{SecondKind, Clear, clear_here, NamedKind, Named, Special, named}
 use Rattle.tla_exprs.proofs.Flat as flat

@@ -25,11 +25,12 @@ use Rattle.tla_exprs.specs.declared.frame.Frame.{Frame}
 use Rattle.tla_exprs.specs.declared.frame.Frame.TheVariants as frame
 use Rattle.tla_exprs.specs.declared.frame.Mode.TheVariants as mode
 use Rattle.tla_exprs.specs.Machine.{Stepped, Reads, Stops, Joined, Joins, Meets, is_bare_name, with_step, of_records, same_bullet, on_joined, is_subscript, braces_close, bracket_close, tuple_close, binder_close, bound_close, comma_or, only_at, symbol_closes, word_closes, name_closes, item_closes, list_closes, kind_closes, laid_closes, closes}
-use Rattle.tla_exprs.proofs.Opened.{FramesFit, laid_symbol}
-use Rattle.tla_exprs.proofs.Texts.{FramesText}
+use Rattle.tla_exprs.specs.OpenFits.{FramesFit, Open}
+use Rattle.tla_exprs.specs.OpenRows.{FramesText}
+use Rattle.tla_exprs.proofs.Opened.{laid_symbol}
 use Rattle.tla_exprs.proofs.Closing.{laid, laid_word}
 use Rattle.tla_exprs.proofs.Flat as flat
-use Rattle.tla_exprs.proofs.FlatStates.{binds, row, rows, Open, Settles, BinderInLet, FrameKept, FramesKept, Same, sits}
+use Rattle.tla_exprs.proofs.FlatStates.{binds, row, rows, Settles, BinderInLet, FrameKept, FramesKept, Same, sits}
 use Rattle.tla_exprs.proofs.FlatBegins.{open_rows, flat_no_subscript, deliver_same}
 use Rattle.tla_exprs.proofs.FlatFolds.{Waits}
 use Rattle.tla_exprs.proofs.OpenEnds.{start, one, one_tree, a_sign, a_kind, ends, suits, sound, close, Ending}

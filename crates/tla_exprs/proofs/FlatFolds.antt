@@ -10,8 +10,9 @@ use Rattle.tla_ast.specs.Trees.{Tree, NoTrees, Arms, MoreArms, Operands, First, 
 use Rattle.tla_exprs.specs.declared.frame.Frame.{Frame}
 use Rattle.tla_exprs.specs.declared.frame.Frame.TheVariants as frame
 use Rattle.tla_exprs.specs.Machine.{Stepped, above, goes_on, infix_step, Settled, settle}
+use Rattle.tla_exprs.specs.OpenFits.{Open}
 use Rattle.tla_exprs.proofs.Flat as flat
-use Rattle.tla_exprs.proofs.FlatStates.{rows, Open, Sits, Settles, ChainSits, FramesKept, Same, sits, chain_sits, half_sits}
+use Rattle.tla_exprs.proofs.FlatStates.{rows, Sits, Settles, ChainSits, FramesKept, Same, sits, chain_sits, half_sits}
 
 no_two : (a b c : Bool) → b ≡ false → c ≡ false → (a && b || c) ≡ false
 no_two true b c h k = cc

@@ -15,6 +15,7 @@ use Rattle.tla_exprs.specs.declared.frame.Frame.TheVariants as frame
 use Rattle.tla_exprs.specs.declared.frame.Mode.{Mode}
 use Rattle.tla_exprs.specs.declared.frame.Mode.TheVariants as mode
 use Rattle.tla_exprs.specs.Machine.{Stepped, Reads, Stops, Clashes, Ends, EndsDefinition, has_field, is_bare_name}
+use Rattle.tla_exprs.specs.OpenFits.{Open}
 use Rattle.tla_exprs.proofs.Flat as flat
 
 -- ---- flat states
@@ -107,12 +108,6 @@ expected (mode.CaseNext at arms) = flat.CaseNext
 expected (mode.OtherArrow at arms) = flat.OtherArrow
 
 -- ---- what is kept
-
--- the innermost frame expects no subscript
-abbrev pub Open : List Frame → Type 0
-Open (frame.Subscript k at a ∷ fs) = ⊥
-Open (frame.FairSubscript at ∷ fs) = ⊥
-Open _ = Unit {0}
 
 -- the innermost frame is no brace with nothing behind it
 abbrev pub Unfresh : List Frame → Type 0

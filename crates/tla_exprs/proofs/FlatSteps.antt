@@ -25,13 +25,15 @@ use Rattle.tla_exprs.specs.declared.frame.Frame.TheVariants as frame
 use Rattle.tla_exprs.specs.declared.frame.Mode.{Mode}
 use Rattle.tla_exprs.specs.declared.frame.Mode.TheVariants as mode
 use Rattle.tla_exprs.specs.Machine.{Stepped, Reads, Stops, infix_of_symbol, settle, closes, is_bare_name, is_case_mark, behind, call_step, infix_or, symbol_follows, kind_follows, follows, same_bullet, has_field, is_other, begins, bound_named, bracket_named, brace_started, brace_named, tuple_started, list_started, choose_named, definition_named, parameter_named, defined_as, except_mark, path_ends, except_path, record_named, fair_opened, case_next, other_arrow, step}
-use Rattle.tla_exprs.proofs.Opened.{IsOperand, FramesFit, Opened, laid_symbol}
-use Rattle.tla_exprs.proofs.Texts.{FramesText}
+use Rattle.tla_exprs.specs.OpenFits.{IsOperand, FramesFit, Open}
+use Rattle.tla_exprs.specs.OpenRows.{FramesText}
+use Rattle.tla_exprs.proofs.Opened.{Opened, laid_symbol}
 use Rattle.tla_exprs.proofs.Edges.{top_all, operand_left, operand_ends}
 use Rattle.tla_exprs.proofs.Settling.{settles}
 use Rattle.tla_exprs.proofs.Closing.{laid}
 use Rattle.tla_exprs.proofs.Flat as flat
-use Rattle.tla_exprs.proofs.FlatStates.{has_steps, names_of, same_names, binds, rows, expected, Open, Sits, Settles, ChainSits, InLet, FramesKept, ModeKept, Same, same_map, sits, half_sits}
+use Rattle.tla_exprs.proofs.Closing.{SymbolOf, symbol_of}
+use Rattle.tla_exprs.proofs.FlatStates.{has_steps, names_of, same_names, binds, rows, expected, Sits, Settles, ChainSits, InLet, FramesKept, ModeKept, Same, same_map, sits, half_sits}
 use Rattle.tla_exprs.proofs.FlatBegins.{BeginsSits, deliver_same, on_name_same, on_symbol_same, kind_same, begins_same, action_same, fair_same}
 use Rattle.tla_exprs.proofs.FlatFolds.{first_sits, infix_same, settle_same}
 use Rattle.tla_exprs.proofs.FlatCloses.{Meet, closes_same, step_same}
@@ -57,42 +59,6 @@ behind_same x fs e k i =
     let h = settle_same (is_case_mark x) fs e k i in
     same_map (Meet x s.frames s.tree) (Follow x fs e) (meet_follow x fs e i) (behind x fs e) (flat.behind x (rows fs))
     (subst (λ v. Same (Meet x s.frames s.tree) (closes x s.frames s.tree) (flat.closes x v)) (sym h.0) (closes_same x s.frames s.tree h.1 h.2 h.3))
-
--- an infix operator is the symbol of its name
-abbrev SymbolOf : Symbol → Option InfixOperator → Type 0
-SymbolOf s (Some o) = infix_symbol o ≡ s
-SymbolOf s None = Unit {0}
-
-symbol_of : (s : Symbol) → SymbolOf s (infix_of_symbol s)
-symbol_of symbols.Implies = refl
-symbol_of symbols.Equivalent = refl
-symbol_of symbols.LeadsTo = refl
-symbol_of symbols.And = refl
-symbol_of symbols.Or = refl
-symbol_of symbols.Equal = refl
-symbol_of symbols.NotEqual = refl
-symbol_of symbols.Less = refl
-symbol_of symbols.Greater = refl
-symbol_of symbols.LessOrEqual = refl
-symbol_of symbols.GreaterOrEqual = refl
-symbol_of symbols.Member = refl
-symbol_of symbols.NotMember = refl
-symbol_of symbols.SubsetOrEqual = refl
-symbol_of symbols.MergedFunctions = refl
-symbol_of symbols.SingleFunction = refl
-symbol_of symbols.Union = refl
-symbol_of symbols.Intersection = refl
-symbol_of symbols.Difference = refl
-symbol_of symbols.Interval = refl
-symbol_of symbols.Plus = refl
-symbol_of symbols.Remainder = refl
-symbol_of symbols.Minus = refl
-symbol_of symbols.CartesianProduct = refl
-symbol_of symbols.Times = refl
-symbol_of symbols.Concatenation = refl
-symbol_of symbols.Quotient = refl
-symbol_of symbols.Power = refl
-symbol_of _ = tt
 
 -- an operator may stand behind the primary as the first of its chain
 abbrev OptionSits : Option InfixOperator → Tree → List Frame → Type 0

@@ -12,9 +12,10 @@ use Rattle.tla_ast.specs.declared.laid.Laid.{Laid}
 use Rattle.tla_ast.specs.Trees.{Tree}
 use Rattle.tla_exprs.specs.Does.{Does}
 use Rattle.tla_exprs.specs.Ended.{IsRead}
-use Rattle.tla_exprs.specs.Nesting.{ShallowBehind, ShallowIn, deepest, unfinished}
-use Rattle.tla_exprs.specs.Refused.{Refuses, ShallowUpTo, place_of, refusal_of, refusal_of_kind}
+use Rattle.tla_exprs.specs.Nesting.{deepest, unfinished}
+use Rattle.tla_exprs.specs.Refused.{ShallowIn, Refuses, ShallowUpTo, place_of, refusal_of, refusal_of_kind}
 use Rattle.tla_exprs.proofs.Paths.{Path}
+use Rattle.tla_exprs.proofs.ShallowRuns.{shallow_on, shallow_there}
 use Rattle.tla_exprs.specs.Machine.{Stepped, Reads, Stops, Clashes, Ends, EndsDefinition, StopsAt, after, run, step}
 use Rattle.tla_exprs.specs.declared.fault.ParseFault.{ParseFault}
 use Rattle.tla_exprs.specs.declared.fault.ParseFault.TheVariants as faults
@@ -59,26 +60,6 @@ reads_all : (read : List Laid) (fs gs : List Frame) (m n : Mode) → Path read f
 reads_all [] fs gs m n p = refl
 reads_all (y ∷ ys) fs gs m n p = ap (λ s. after s (y ∷ ys) (run ys)) p.2 ∙ reads_all ys p.0 gs p.1 n p.3
 
-nothing_behind : (s : Stepped) → ShallowBehind s (λ gs n. ShallowIn gs n [])
-nothing_behind (Reads fs m) = tt
-nothing_behind Stops = tt
-nothing_behind (Clashes p q) = tt
-nothing_behind (Ends e) = tt
-nothing_behind (EndsDefinition n p ns e) = tt
-
-shallow_on : (read : List Laid) (x : Laid) (fs gs : List Frame) (m n : Mode) → Path read fs m gs n → ShallowIn fs m read → unfinished gs n ≤ deepest → ShallowIn fs m (read ++ x ∷ [])
-shallow_on [] x fs gs m n p h u =
-    (subst (λ v. unfinished v m ≤ deepest) (sym p.0) (subst (λ v. unfinished gs v ≤ deepest) (sym p.1) u), nothing_behind (step x fs m))
-shallow_on (y ∷ ys) x fs gs m n p h u =
-    let k : ShallowIn p.0 p.1 ys = subst (λ s. ShallowBehind s (λ v w. ShallowIn v w ys)) p.2 h.1 in
-    (h.0, subst (λ s. ShallowBehind s (λ v w. ShallowIn v w (ys ++ x ∷ []))) (sym p.2) (shallow_on ys x p.0 gs p.1 n p.3 k u))
-
-shallow_there : (read : List Laid) (x : Laid) (fs gs : List Frame) (m n : Mode) → Path read fs m gs n → ShallowIn fs m (read ++ x ∷ []) → unfinished gs n ≤ deepest
-shallow_there [] x fs gs m n p h = subst (λ v. unfinished gs v ≤ deepest) p.1 (subst (λ v. unfinished v m ≤ deepest) p.0 h.0)
-shallow_there (y ∷ ys) x fs gs m n p h =
-    let k : ShallowIn p.0 p.1 (ys ++ x ∷ []) = subst (λ s. ShallowBehind s (λ v w. ShallowIn v w (ys ++ x ∷ []))) p.2 h.1 in
-    shallow_there ys x p.0 gs p.1 n p.3 k
-
 one_more : (read rest : List Laid) (x : Laid) → read ++ x ∷ rest ≡ (read ++ x ∷ []) ++ rest
 one_more read rest x = sym (append_assoc read (x ∷ []) rest)
 
@@ -116,7 +97,7 @@ read_too_deep laid from i start m n p x fs gs r k h g d e u q = record {
   whole = k.whole ∙ ap (λ v. k.read ++ v) (here laid i x h g);
   reads = reads_all (k.read ++ x ∷ []) [] gs start n (path_on k.read x [] fs gs start m n k.path (reads_there x fs gs m n r d e));
   shallow = k.shallow;
-  deep = λ s. let v : unfinished fs m ≤ deepest = shallow_there k.read x [] fs start m k.path s in omega (arith, u, v);
+  deep = λ s. let v : unfinished fs m ≤ deepest = shallow_there k.read [] x [] fs start m k.path s in omega (arith, u, v);
   place = sym q;
 }
 

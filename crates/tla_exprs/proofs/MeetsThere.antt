@@ -1,12 +1,16 @@
 -- Where the reader finds a clash, two operators meet at its places.
 use Rattle.std.proofs.Common.{◌≡◌, ◌⊎◌, ℕ, false, List, [], ◌∷◌, ◌++◌, append_assoc, inl, inr, refl, sym, ap, subst, ◌∙◌}
-use Rattle.std.proofs.lemmas.List.{append_cancel_right}
+use Rattle.std.proofs.lemmas.List.{append-nil, append_cancel_right}
 use Rattle.std.specs.Prelude.{Bool, true, pos}
 use Rattle.trace_base.specs.declared.place.Place.{Place}
 use Rattle.tla_ast.specs.declared.laid.Laid.{Laid}
+use Rattle.tla_ast.specs.declared.laid.Laid.TheVariants.{Plain, ListOpen, ListItem, ListClose}
+use Rattle.tla_ast.specs.declared.token.Kind.{Kind}
 use Rattle.tla_ast.specs.declared.token.Kind.TheVariants as kinds
 use Rattle.tla_ast.specs.declared.token.Symbol.{Symbol}
 use Rattle.tla_ast.specs.declared.token.Symbol.TheVariants as symbols
+use Rattle.tla_ast.specs.declared.token.Token.{Token}
+use Rattle.tla_ast.specs.declared.token.Word.TheVariants as words
 use Rattle.tla_ast.specs.declared.operators.InfixOperator.{InfixOperator}
 use Rattle.tla_ast.specs.Begun.{Begun}
 use Rattle.tla_ast.specs.Precedence.{infix_symbol, prefix_range, infix_range}
@@ -15,15 +19,16 @@ use Rattle.tla_ast.specs.Fits.{Fits, LeftAbove, RightAbove}
 use Rattle.tla_ast.specs.Trees as tree
 use Rattle.tla_ast.specs.Trees.{Tree, NoTrees}
 use Rattle.tla_exprs.specs.LawsOfRefusals.{ClashedMeets}
-use Rattle.tla_exprs.specs.Meeting.{OfPrefix, OfInfix, right_edge, MeetsOn, MeetsMember, at_place, ExpressionNext, MeetsBehind, MeetsLate, Meets}
+use Rattle.tla_exprs.specs.Meeting.{OfPrefix, OfInfix, right_edge, MeetsOn, MeetsMember, at_place, ExpressionNext, IsKind, OnlyOperator, MeetsBehind, MeetsLate, Meets}
 use Rattle.tla_exprs.specs.declared.frame.Frame.{Frame}
 use Rattle.tla_exprs.specs.declared.frame.Frame.TheVariants as frame
 use Rattle.tla_exprs.specs.declared.frame.Mode.{Mode}
 use Rattle.tla_exprs.specs.declared.frame.Mode.TheVariants as mode
 use Rattle.tla_exprs.specs.declared.frame.Scope.TheVariants as scopes
 use Rattle.tla_exprs.specs.Machine.{Stepped, Clashes, StopsAt, ClashesAt, above, goes_on, infix_step, is_case_mark, settle, run}
-use Rattle.tla_exprs.proofs.Opened.{IsOperand, Top, FramesFit, laid_symbol}
-use Rattle.tla_exprs.proofs.Texts.{FramesText}
+use Rattle.tla_exprs.specs.OpenFits.{IsOperand, Top, FramesFit, FramesStand, Outermost}
+use Rattle.tla_exprs.specs.OpenRows.{FramesText}
+use Rattle.tla_exprs.proofs.Opened.{laid_symbol}
 use Rattle.tla_exprs.proofs.Edges.{operand_left, operand_right, operand_ends, top_all, above_is, one_of_two}
 use Rattle.tla_exprs.proofs.Settling.{IsSettled, settles}
 use Rattle.tla_exprs.proofs.NoUnits as units
@@ -31,13 +36,9 @@ use Rattle.tla_exprs.proofs.OpenEnds.{start}
 use Rattle.tla_exprs.proofs.Paths.{Reach, reach, reach_clashes}
 use Rattle.tla_exprs.proofs.RefusalsClash.{ran_begun}
 use Rattle.tla_exprs.proofs.UniqueSpans.{Front, tree_local}
-use Rattle.tla_exprs.proofs.FittingWalk.{FramesHeld, Held, FramesMeet, FollowMeets, ModeMeets, settle_held, clash_held}
+use Rattle.tla_exprs.proofs.FittingWalk.{Held, EndsElement, EndsOperand, FrameMeets, LaidMeets, FramesMeet, FollowMeets, ModeMeets, settle_held, clash_held}
 use Rattle.tla_exprs.proofs.FittingEnds.{first_mode, State, path_state, first_state, Hungry, hungry}
 use Rattle.tla_exprs.proofs.MeetsEdges.{overlap, no_chain, over, meets_member}
-
-append_nil : (xs : List Laid) → xs ++ [] ≡ xs
-append_nil [] = refl
-append_nil (x ∷ xs) = ap (λ v. x ∷ v) (append_nil xs)
 
 module _ (unit : Bool) (Begins : List Laid → Type 0) (begun : (read : List Laid) → run read [] (first_mode unit) ≡ StopsAt [] → Begins read) where
   next_begins : (xs ys : List Laid) → (h : Hungry unit xs ys) → ExpressionNext Begins h.before
@@ -48,7 +49,7 @@ module _ (unit : Bool) (Begins : List Laid → Type 0) (begun : (read : List Lai
     All = read ++ x ∷ rest
 
     -- the operator here meets one on the right edge of the operand d, which stands in these frames
-    behind : (o : InfixOperator) (p q : Place) (gs : List Frame) (d : Tree) (ys : List Laid) → x ≡ laid_symbol (infix_symbol o) q → FramesText gs All ys → Text d ys (x ∷ rest) → FramesFit gs → Held gs → units.Opened unit gs false → Fits d → MeetsOn o (right_edge d) p → MeetsBehind Begins read x p q
+    behind : (o : InfixOperator) (p q : Place) (gs : List Frame) (d : Tree) (ys : List Laid) → x ≡ laid_symbol (infix_symbol o) q → FramesText gs All ys → Text d ys (x ∷ rest) → FramesFit gs → Held gs → Outermost unit gs false → Fits d → MeetsOn o (right_edge d) p → MeetsBehind Begins read x p q
     behind o p q gs d ys i F t g h u k m =
         let n : Hungry unit All ys = hungry unit gs All ys u h g F in
         let f : Front (Text d) ys (x ∷ rest) = tree_local d ys (x ∷ rest) t in
@@ -59,7 +60,7 @@ module _ (unit : Bool) (Begins : List Laid → Type 0) (begun : (read : List Lai
           operator = o;
           whole = append_cancel_right read (n.before ++ f.front) (x ∷ rest) (n.here ∙ ap (λ v. n.before ++ v) f.here ∙ sym (append_assoc n.before f.front (x ∷ rest)));
           next = next_begins All ys n;
-          spelled = record { text = subst (λ v. Text d v []) (append_nil f.front) (f.anywhere []); fits = k };
+          spelled = record { text = subst (λ v. Text d v []) (append-nil f.front) (f.anywhere []); fits = k };
           is = i;
           meets = m;
         }
@@ -68,7 +69,7 @@ module _ (unit : Bool) (Begins : List Laid → Type 0) (begun : (read : List Lai
     Met (Clashes p q) = MeetsBehind Begins read x p q
     Met _ = Unit {0}
 
-    infix_meets : (o : InfixOperator) (q : Place) → x ≡ laid_symbol (infix_symbol o) q → (fs : List Frame) (e : Tree) (ys : List Laid) → FramesText fs All ys → Text e ys (x ∷ rest) → FramesFit fs → FramesHeld fs → units.Opened unit fs false → Fits e → Top fs (λ s. LeftAbove s e) → RightAbove (infix_range o) e → Met (infix_step o q fs e)
+    infix_meets : (o : InfixOperator) (q : Place) → x ≡ laid_symbol (infix_symbol o) q → (fs : List Frame) (e : Tree) (ys : List Laid) → FramesText fs All ys → Text e ys (x ∷ rest) → FramesFit fs → FramesStand fs → Outermost unit fs false → Fits e → Top fs (λ s. LeftAbove s e) → RightAbove (infix_range o) e → Met (infix_step o q fs e)
     infix_meets o q i [] e ys F t g h u k l r = tt
     infix_meets o q i (frame.Prefix c p ∷ fs) e ys F t g h u k l r =
         one_of_two Met (above (prefix_range c) (infix_range o)) _ _
@@ -84,8 +85,8 @@ module _ (unit : Bool) (Begins : List Laid → Type 0) (begun : (read : List Lai
     infix_meets o q i (f ∷ fs) e ys F t g h u k l r = tt
 
     -- a late `\in` meets an operator on the left edge of the expression d behind it
-    late : (s : Symbol) (at : Place) (n : List ℕ) (p q m : Place) (gs : List Frame) (d : Tree) (ys zs : List Laid) → ((w : Place) × ((at_place (kinds.Symbol s) at ≡ at_place (kinds.Symbol symbols.OpenBrace) w) ⊎ (at_place (kinds.Symbol s) at ≡ at_place (kinds.Symbol symbols.OpenBracket) w)))
-        → FramesText gs All ys → (sign_at at s ⨟ token p (kinds.Name n) ⨟ sign_at q symbols.Member) ys zs → Text d zs (x ∷ rest) → FramesFit gs → Held gs → units.Opened unit gs false → Fits d → MeetsMember d m → MeetsLate Begins read q m
+    late : (s : Symbol) (at : Place) (n : List ℕ) (p q m : Place) (gs : List Frame) (d : Tree) (ys zs : List Laid) → OnlyOperator (at_place (kinds.Symbol s) at) x
+        → FramesText gs All ys → (sign_at at s ⨟ token p (kinds.Name n) ⨟ sign_at q symbols.Member) ys zs → Text d zs (x ∷ rest) → FramesFit gs → Held gs → Outermost unit gs false → Fits d → MeetsMember d m → MeetsLate Begins read x q m
     late s at n p q m gs d ys zs w F a t g h u k j =
         let c : Hungry unit All ys = hungry unit gs All ys u h g F in
         let f : Front (Text d) zs (x ∷ rest) = tree_local d zs (x ∷ rest) t in
@@ -101,23 +102,46 @@ module _ (unit : Bool) (Begins : List Laid → Type 0) (begun : (read : List Lai
           text = f.front;
           operand = d;
           whole = append_cancel_right read (c.before ++ opening ∷ named ∷ member ∷ f.front) (x ∷ rest) (c.here ∙ ap (λ v. c.before ++ v) b ∙ sym (append_assoc c.before (opening ∷ named ∷ member ∷ f.front) (x ∷ rest)));
-          opens = (next_begins All ys c, w.0, w.1);
-          spelled = record { text = subst (λ v. Text d v []) (append_nil f.front) (f.anywhere []); fits = k };
+          next = next_begins All ys c;
+          only = w;
+          spelled = record { text = subst (λ v. Text d v []) (append-nil f.front) (f.anywhere []); fits = k };
           meets = j;
         }
 
     abbrev Told : Place → Place → Type 0
     Told p q = Meets Begins read x p q
 
-    frames_meet : (fs : List Frame) (d : Tree) → (FramesText fs ⨟ Text d) All (x ∷ rest) → FramesFit fs → FramesHeld fs → units.Opened unit fs false → Fits d → FramesMeet Told fs d
-    frames_meet [] d t g h u k = tt
-    frames_meet (frame.MaybeFilter at n p q ∷ fs) d t g h u k =
-        λ m i. inr (late symbols.OpenBrace at n p q m fs d t.1.0 t.0 (at, inl refl) t.1.1 t.1.2 t.2 g.1 h u.1 k (meets_member (tree.Name p n) q d m i))
-    frames_meet (frame.MaybeFunction at n p q ∷ fs) d t g h u k =
-        λ m i. inr (late symbols.OpenBracket at n p q m fs d t.1.0 t.0 (at, inr refl) t.1.1 t.1.2 t.2 g.1 h u.1 k (meets_member (tree.Name p n) q d m i))
-    frames_meet (f ∷ fs) d t g h u k = tt
+    -- a kind of the token here
+    is_kind : (t : Token) (k : Kind) → x ≡ Plain t → t.kind ≡ k → IsKind k x
+    is_kind t k i e = (t.place, i ∙ ap (λ v. at_place v t.place) e)
 
-    follow : (fs : List Frame) (e : Tree) (ys : List Laid) → FramesText fs All ys → Text e ys (x ∷ rest) → FramesFit fs → Held fs → units.Opened unit fs false → IsOperand e → Fits e → FollowMeets Told x fs e
+    element : (t : Token) → x ≡ Plain t → EndsElement t.kind → IsKind (kinds.Symbol symbols.Comma) x ⊎ IsKind (kinds.Symbol symbols.CloseBrace) x
+    element t i (inl e) = inl (is_kind t (kinds.Symbol symbols.Comma) i e)
+    element t i (inr e) = inr (is_kind t (kinds.Symbol symbols.CloseBrace) i e)
+
+    operand : (t : Token) → x ≡ Plain t → EndsOperand t.kind → IsKind (kinds.Symbol symbols.Arrow) x ⊎ IsKind (kinds.Symbol symbols.CloseBracketSubscript) x ⊎ IsKind (kinds.Word words.Except) x
+    operand t i (inl e) = inl (is_kind t (kinds.Symbol symbols.Arrow) i e)
+    operand t i (inr (inl e)) = inr (inl (is_kind t (kinds.Symbol symbols.CloseBracketSubscript) i e))
+    operand t i (inr (inr e)) = inr (inr (is_kind t (kinds.Word words.Except) i e))
+
+    frame_meets : (t : Token) → x ≡ Plain t → (f : Frame) (fs : List Frame) (d : Tree) → (FramesText (f ∷ fs) ⨟ Text d) All (x ∷ rest) → FramesFit (f ∷ fs) → FramesStand (f ∷ fs) → Outermost unit (f ∷ fs) false → Fits d → FrameMeets Told t.kind f d
+    frame_meets t i (frame.MaybeFilter at n p q) fs d a g h u k =
+        λ m j l. inr (late symbols.OpenBrace at n p q m fs d a.1.0 a.0 (inl ((at, refl), element t i l)) a.1.1 a.1.2 a.2 g.1 h u.1 k (meets_member (tree.Name p n) q d m j))
+    frame_meets t i (frame.MaybeFunction at n p q) fs d a g h u k =
+        λ m j l. inr (late symbols.OpenBracket at n p q m fs d a.1.0 a.0 (inr ((at, refl), operand t i l)) a.1.1 a.1.2 a.2 g.1 h u.1 k (meets_member (tree.Name p n) q d m j))
+    frame_meets t i f fs d a g h u k = tt
+
+    laid_meets : (y : Laid) → x ≡ y → (f : Frame) (fs : List Frame) (d : Tree) → (FramesText (f ∷ fs) ⨟ Text d) All (x ∷ rest) → FramesFit (f ∷ fs) → FramesStand (f ∷ fs) → Outermost unit (f ∷ fs) false → Fits d → LaidMeets Told y f d
+    laid_meets (Plain t) i f fs d a g h u k = frame_meets t i f fs d a g h u k
+    laid_meets (ListOpen b at) i f fs d a g h u k = tt
+    laid_meets (ListItem b at) i f fs d a g h u k = tt
+    laid_meets (ListClose at) i f fs d a g h u k = tt
+
+    frames_meet : (fs : List Frame) (d : Tree) → (FramesText fs ⨟ Text d) All (x ∷ rest) → FramesFit fs → FramesStand fs → Outermost unit fs false → Fits d → FramesMeet Told x fs d
+    frames_meet [] d a g h u k = tt
+    frames_meet (f ∷ fs) d a g h u k = laid_meets x refl f fs d a g h u k
+
+    follow : (fs : List Frame) (e : Tree) (ys : List Laid) → FramesText fs All ys → Text e ys (x ∷ rest) → FramesFit fs → Held fs → Outermost unit fs false → IsOperand e → Fits e → FollowMeets Told x fs e
     follow fs e ys F t g h u o k =
         let left : Top fs (λ s. LeftAbove s e) = top_all fs (λ s. LeftAbove s e) (λ s. operand_left s e o) in
         let case = is_case_mark x in

@@ -1,5 +1,5 @@
 -- Tokens that end what is open behind an expression. The ranges of operators play no part.
-use Rattle.std.proofs.Common.{◌≡◌, ℕ, false, List, [], ◌∷◌, refl, sym, subst, inl, inr}
+use Rattle.std.proofs.Common.{◌≡◌, ℕ, false, List, [], ◌∷◌, refl, sym, subst, inr}
 use Rattle.std.specs.Prelude.{pos}
 use Rattle.trace_base.specs.declared.place.Place.{Place}
 use Rattle.tla_ast.specs.declared.laid.Laid.{Laid}
@@ -10,7 +10,7 @@ use Rattle.tla_ast.specs.declared.token.Word.{Word}
 use Rattle.tla_ast.specs.declared.token.Word.TheVariants as words
 use Rattle.tla_ast.specs.declared.token.Symbol.{Symbol}
 use Rattle.tla_ast.specs.declared.token.Symbol.TheVariants as symbols
-use Rattle.tla_ast.specs.Grammar.{sign, Text, StepText, BoundsText, DefinitionRest, IsPrimary, IsSubscript, IsKey, IsPath, IsNew, AreOnce, begins_member}
+use Rattle.tla_ast.specs.Grammar.{Text, StepText, BoundsText, IsPrimary, IsSubscript, IsKey, IsPath, IsNew, AreOnce, begins_member}
 use Rattle.tla_ast.specs.Trees as tree
 use Rattle.tla_ast.specs.Trees.{Tree, MoreTrees, Step, Steps, NoSteps, MoreSteps, Bounds, MoreBounds, Fields, MoreFields, MoreChanges, MoreArms, MoreDefinitions}
 use Rattle.tla_exprs.specs.declared.frame.Action.TheVariants as actions
@@ -19,14 +19,13 @@ use Rattle.tla_exprs.specs.declared.frame.RecordKind.TheVariants as records
 use Rattle.tla_exprs.specs.declared.frame.Scope.TheVariants as scopes
 use Rattle.tla_exprs.specs.declared.frame.Binder.{Binder}
 use Rattle.tla_exprs.specs.declared.frame.Binder.TheVariants as binders
-use Rattle.tla_exprs.specs.declared.frame.Form.{Form}
-use Rattle.tla_exprs.specs.declared.frame.Form.TheVariants as forms
 use Rattle.tla_exprs.specs.declared.frame.Frame.{Frame}
 use Rattle.tla_exprs.specs.declared.frame.Frame.TheVariants as frame
 use Rattle.tla_exprs.specs.Machine.{with_step, parameters_of, body_of}
-use Rattle.tla_exprs.proofs.Opened.{IsOperand, AreKeys, BinderFits, FramesFit}
-use Rattle.tla_exprs.proofs.Texts.{BinderText, FormText, FrameText, FramesText}
-use Rattle.tla_exprs.proofs.FlatStates.{Open, BinderInLet, FramesKept}
+use Rattle.tla_exprs.specs.OpenFits.{IsOperand, AreKeys, BinderFits, FramesFit, Open}
+use Rattle.tla_exprs.specs.OpenRows.{BinderText, FrameText, FramesText}
+use Rattle.tla_exprs.proofs.Closing.{definition_rest}
+use Rattle.tla_exprs.proofs.FlatStates.{BinderInLet, FramesKept}
 
 -- ---- tokens
 
@@ -148,10 +147,6 @@ step_text (tree.Case at arms) q t xs ys zs i a b = absurd i
 step_text (tree.CaseOther at arms e) q t xs ys zs i a b = absurd i
 step_text (tree.Let at ds e) q t xs ys zs i a b = absurd i
 step_text e q t xs ys zs i a b = stepped e q t xs ys zs tt a b
-
-definition_rest : (form : Form) (e : Tree) (xs ys zs ws : List Laid) → FormText form xs ys → sign symbols.Defined ys zs → Text e zs ws → DefinitionRest (parameters_of form) (body_of form e) xs ws
-definition_rest (forms.Operator ns) e xs ys zs ws a d t = inl (ys, a, (zs, d, t))
-definition_rest (forms.Function at bs) e xs ys zs ws a d t = inr (refl, (a.0, a.1, (a.2.0, a.2.1, (ys, a.2.2, (zs, d, t)))))
 
 -- ---- a tree from the beginning on
 

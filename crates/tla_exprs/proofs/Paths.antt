@@ -1,6 +1,6 @@
 -- The states that the reader goes through.
 use Rattle.std.proofs.Common.{◌≡◌, suc, ◌+◌, ◌≤◌, List, [], ◌∷◌, ◌++◌, length, refl, sym, ap, subst, ◌∙◌, arith}
-use Rattle.std.proofs.lemmas.List.{length-append}
+use Rattle.std.proofs.lemmas.List.{append-nil, length-append}
 use Rattle.trace_base.specs.declared.place.Place.{Place}
 use Rattle.tla_ast.specs.declared.laid.Laid.{Laid}
 use Rattle.tla_ast.specs.Trees.{Tree}
@@ -104,3 +104,36 @@ reach_clashes read fs m x rest r p q h = clashes_of (step x h.frames h.expects) 
 
 pub reach_ends : (read : List Laid) (fs : List Frame) (m : Mode) (x : Laid) (rest r : List Laid) (d : Tree) → (h : Reach read fs m x rest (EndsAt d r)) → step x h.frames h.expects ≡ Ends d
 reach_ends read fs m x rest r d h = ends_of (step x h.frames h.expects) (x ∷ rest) r (run rest) d h.done h.gives
+
+-- ---- all that is read
+
+-- what is read along a path
+pub along : (read r : List Laid) (fs : List Frame) (m : Mode) (gs : List Frame) (n : Mode) → Path read fs m gs n → run (read ++ r) fs m ≡ run r gs n
+along [] r fs m gs n p = ap (λ v. run r v m) p.0 ∙ ap (λ v. run r gs v) p.1
+along (y ∷ read) r fs m gs n p = ap (λ v. after v (y ∷ read ++ r) (run (read ++ r))) p.2 ∙ along read r p.0 p.1 gs n p.3
+
+-- the state behind tokens that are all read
+pub record All (read : List Laid) (fs : List Frame) (m : Mode) : Type 0 where
+  pub frames : List Frame
+  pub expects : Mode
+  pub path : Path read fs m frames expects
+
+no_stop : (x : Laid) (xs : List Laid) → StopsAt (x ∷ xs) ≡ StopsAt [] → ⊥
+no_stop x xs h = cc
+
+all_after : (s : Stepped) (x : Laid) (xs : List Laid) (fs : List Frame) (m : Mode) → step x fs m ≡ s → after s (x ∷ xs) (run xs) ≡ StopsAt [] → ((gs : List Frame) (n : Mode) → run xs gs n ≡ StopsAt [] → All xs gs n) → All (x ∷ xs) fs m
+all_after (Reads gs n) x xs fs m e q f = let a : All xs gs n = f gs n q in record { frames = a.frames; expects = a.expects; path = (gs, n, e, a.path) }
+all_after Stops x xs fs m e q f = absurd (no_stop x xs q)
+all_after (Clashes a b) x xs fs m e q f = cc
+all_after (Ends t) x xs fs m e q f = cc
+all_after (EndsDefinition n p ns t) x xs fs m e q f = cc
+
+pub all_read : (xs : List Laid) (fs : List Frame) (m : Mode) → run xs fs m ≡ StopsAt [] → All xs fs m
+all_read [] fs m q = record { frames = fs; expects = m; path = (refl, refl) }
+all_read (x ∷ xs) fs m q = all_after (step x fs m) x xs fs m refl q (λ gs n h. all_read xs gs n h)
+
+-- what stands before the token at which a run is done is read
+pub read_before : (read rest : List Laid) (x : Laid) (fs : List Frame) (m : Mode) (o : Outcome) → run (read ++ x ∷ rest) fs m ≡ o → rest_of o ≡ x ∷ rest → run read fs m ≡ StopsAt []
+read_before read rest x fs m o q l =
+    let h : Reach read fs m x rest o = reach read x rest fs m o q l in
+    ap (λ v. run v fs m) (sym (append-nil read)) ∙ along read [] fs m h.frames h.expects h.path

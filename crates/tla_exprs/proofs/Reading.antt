@@ -33,4 +33,4 @@ pub read_spells : ReadSpells
 read_spells xs rest e i = subst (λ o. IsRead xs xs o) i (run_good xs xs [] mode.Want ((xs, refl, refl), tt, tt))
 
 pub definition_spells : DefinitionSpells
-definition_spells xs rest n p ns e i = subst (λ o. IsRead xs xs o) i (run_good xs xs [] (mode.DefinitionName scopes.Unit) ((xs, refl, refl), tt, refl))
+definition_spells xs rest n p ns e i = subst (λ o. IsRead xs xs o) i (run_good xs xs [] (mode.DefinitionName scopes.Unit) ((xs, refl, refl), tt, (refl, tt)))

@@ -8,13 +8,14 @@ use Rattle.tla_ast.specs.Fits.{Fits, StepFits}
 use Rattle.tla_ast.specs.Trees.{Tree, Step, NoSteps}
 use Rattle.tla_exprs.specs.declared.frame.Frame.{Frame}
 use Rattle.tla_exprs.specs.Machine.{Stepped, Reads, Stops, want, with_step, deliver, comma_or, only_at}
-use Rattle.tla_exprs.proofs.Opened.{IsOperand, FrameFits, FramesFit, Good, laid_symbol}
-use Rattle.tla_exprs.proofs.Texts.{FrameText, FramesText}
+use Rattle.tla_exprs.proofs.Opened.{Good, laid_symbol}
 use Rattle.tla_ast.specs.declared.token.Symbol.TheVariants as symbols
 use Rattle.tla_ast.specs.Trees as tree
 use Rattle.tla_exprs.specs.declared.frame.Action.TheVariants as actions
 use Rattle.tla_exprs.specs.declared.frame.Frame.TheVariants as frame
 use Rattle.tla_exprs.specs.declared.frame.Mode.TheVariants as mode
+use Rattle.tla_exprs.specs.OpenFits.{IsOperand, FrameFits, FramesFit}
+use Rattle.tla_exprs.specs.OpenRows.{FrameText, FramesText}
 
 -- a symbol is the one that is looked for
 pub sign_is : (r : List Laid) (s t : Symbol) (q : Place) → s ≡ t → sign t (laid_symbol s q ∷ r) r

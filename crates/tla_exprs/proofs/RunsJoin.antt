@@ -12,6 +12,7 @@ use Rattle.tla_ast.specs.Grammar.{Text, Chain, begins_member, first_begins, is_m
 use Rattle.tla_ast.specs.Trees as tree
 use Rattle.tla_ast.specs.Trees.{Tree, Operands, First, Next}
 use Rattle.tla_exprs.specs.Machine.{above, Joins, join, join_first, joins_in, joins_first, joins_next}
+use Rattle.tla_exprs.proofs.Runner.{Runner}
 use Rattle.tla_exprs.proofs.RunsEdges.{first_of, rest_of, is_above, not_above, infix_ordered, Ordered}
 use Rattle.tla_exprs.proofs.RunsParts.{Runs, ChainGood, without, without_first, plain}
 use Rattle.tla_exprs.proofs.RunsPlain.{Meet, ChainRuns, infix_runs}
@@ -24,7 +25,7 @@ first_name (First x) = is_name x
 first_name (Next es p y) = first_name es
 
 -- whether the name and `\in` are the beginning of this very chain
-abbrev direct : InfixOperator → Operands → Bool
+abbrev pub direct : InfixOperator → Operands → Bool
 direct o es = is_member o && first_name es
 
 or_rest : (a b : Bool) → (a || b) ≡ true → a ≡ false → b ≡ true
@@ -73,7 +74,7 @@ pub record Begun (t : Tree) (xs ys : List Laid) : Type 0 where
   pub text : Text (without t) behind ys
   pub joins : join (tree.Name place name) sign (without t) ≡ Joins t
 
-record ChainBegun (o : InfixOperator) (es : Operands) (xs ys : List Laid) : Type 0 where
+pub record ChainBegun (o : InfixOperator) (es : Operands) (xs ys : List Laid) : Type 0 where
   pub name : List ℕ
   pub place : Place
   pub sign : Place
@@ -129,7 +130,7 @@ mutual
   begun (tree.Infix at o es e) f m xs ys h = begun_either at o es e m f xs ys h (λ d. chain_begun o es f.0 m d xs h.0 h.1) (direct o es) refl
   begun _ f m xs ys h = absurd (let q : false ≡ true = m in cc)
 
-  chain_begun : (o : InfixOperator) (es : Operands) → ChainFits o es → first_begins o es ≡ true → direct o es ≡ false → (xs ys : List Laid) → Chain o es xs ys → ChainBegun o es xs ys
+  pub chain_begun : (o : InfixOperator) (es : Operands) → ChainFits o es → first_begins o es ≡ true → direct o es ≡ false → (xs ys : List Laid) → Chain o es xs ys → ChainBegun o es xs ys
   chain_begun o (First x) f m d xs ys h = begun_first o x xs ys (begun x f.0 (or_rest (is_member o && is_name x) (begins_member x) m d) xs ys h)
   chain_begun o (Next es p y) f m d xs ys h = begun_next o es p y xs ys h (chain_begun o es f.0 m d xs h.0 h.1)
 
@@ -144,23 +145,24 @@ right_without r (tree.Infix at o (First x) e) h = right_if r at o (First (withou
 right_without r (tree.Infix at o (Next es p y) e) h = h
 right_without r _ h = h
 
-meets_without : (o : InfixOperator) (es : Operands) → Meet o es → Meet o (without_first es)
+pub meets_without : (o : InfixOperator) (es : Operands) → Meet o es → Meet o (without_first es)
 meets_without o (First x) h = right_without (infix_range o) x h
 meets_without o (Next es p y) h = (meets_without o es h.0, h.1, h.2, h.3)
 
-chain_without : (o : InfixOperator) (es : Operands) → ChainGood es → first_begins o es ≡ true → direct o es ≡ false → ChainRuns (without_first es)
-chain_without o (First x) g m d = g.rest (or_rest (is_member o && is_name x) (begins_member x) m d)
-chain_without o (Next es p y) g m d = (chain_without o es g.0 m d, g.1.runs)
+module _ (reader : Runner) where
+  pub chain_without : (o : InfixOperator) (es : Operands) → ChainGood reader es → first_begins o es ≡ true → direct o es ≡ false → ChainRuns reader (without_first es)
+  chain_without o (First x) g m d = g.rest (or_rest (is_member o && is_name x) (begins_member x) m d)
+  chain_without o (Next es p y) g m d = (chain_without o es g.0 m d, g.1.runs)
 
-rest_direct : (at : Place) (o : InfixOperator) (es : Operands) (e : Tree) → direct o es ≡ true → Meet o es → Runs e → Runs (without (tree.Infix at o es e))
-rest_direct at infixes.Member (First x) e d m r = subst Runs (sym (first_of (is_name x) e (tree.Infix at infixes.Member (First (without x)) e) d)) r
-rest_direct at infixes.Member (Next es p y) e d m r = absurd (let q : false ≡ true = m.3 in cc)
-rest_direct at o es e d m r = absurd (let q : false ≡ true = d in cc)
+  rest_direct : (at : Place) (o : InfixOperator) (es : Operands) (e : Tree) → direct o es ≡ true → Meet o es → Runs reader e → Runs reader (without (tree.Infix at o es e))
+  rest_direct at infixes.Member (First x) e d m r = subst (Runs reader) (sym (first_of (is_name x) e (tree.Infix at infixes.Member (First (without x)) e) d)) r
+  rest_direct at infixes.Member (Next es p y) e d m r = absurd (let q : false ≡ true = m.3 in cc)
+  rest_direct at o es e d m r = absurd (let q : false ≡ true = d in cc)
 
-rest_either : (at : Place) (o : InfixOperator) (es : Operands) (e : Tree) → first_begins o es ≡ true → ChainGood es → Meet o es → Runs e → LeftAbove (infix_range o) e → (d : Bool) → direct o es ≡ d → Runs (without (tree.Infix at o es e))
-rest_either at o es e m g c r l true q = rest_direct at o es e q c r
-rest_either at o es e m g c r l false q =
-    subst Runs (sym (without_chain at o es e q)) (infix_runs at o (without_first es) e (chain_without o es g m q) (meets_without o es c) r l)
+  rest_either : (at : Place) (o : InfixOperator) (es : Operands) (e : Tree) → first_begins o es ≡ true → ChainGood reader es → Meet o es → Runs reader e → LeftAbove (infix_range o) e → (d : Bool) → direct o es ≡ d → Runs reader (without (tree.Infix at o es e))
+  rest_either at o es e m g c r l true q = rest_direct at o es e q c r
+  rest_either at o es e m g c r l false q =
+      subst (Runs reader) (sym (without_chain at o es e q)) (infix_runs reader at o (without_first es) e (chain_without o es g m q) (meets_without o es c) r l)
 
-pub rest_runs : (at : Place) (o : InfixOperator) (es : Operands) (e : Tree) → first_begins o es ≡ true → ChainGood es → Meet o es → Runs e → LeftAbove (infix_range o) e → Runs (without (tree.Infix at o es e))
-rest_runs at o es e m g c r l = rest_either at o es e m g c r l (direct o es) refl
+  pub rest_runs : (at : Place) (o : InfixOperator) (es : Operands) (e : Tree) → first_begins o es ≡ true → ChainGood reader es → Meet o es → Runs reader e → LeftAbove (infix_range o) e → Runs reader (without (tree.Infix at o es e))
+  rest_runs at o es e m g c r l = rest_either at o es e m g c r l (direct o es) refl

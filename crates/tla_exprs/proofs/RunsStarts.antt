@@ -35,7 +35,7 @@ Opened [] = ⊥
 Opened (Plain t ∷ xs) = OpenKind t.kind
 Opened (x ∷ xs) = Unit {0}
 
-prefix_open : (o : PrefixOperator) → OpenKind (prefix_kind o)
+pub prefix_open : (o : PrefixOperator) → OpenKind (prefix_kind o)
 prefix_open prefixes.Not = refl
 prefix_open prefixes.Always = refl
 prefix_open prefixes.Eventually = refl
@@ -81,7 +81,7 @@ mutual
   opened (tree.AngleAction at e v) xs ys h = subst Opened (sym h.1.1) refl
   opened (tree.Fairness at v e) xs ys h = subst Opened (sym h.1.1) tt
 
-  chain_opened : (o : InfixOperator) (es : Operands) (xs ys : List Laid) → Chain o es xs ys → Opened xs
+  pub chain_opened : (o : InfixOperator) (es : Operands) (xs ys : List Laid) → Chain o es xs ys → Opened xs
   chain_opened o (First e) xs ys h = opened e xs ys h
   chain_opened o (Next es at e) xs ys h = chain_opened o es xs h.0 h.1
 
@@ -121,7 +121,7 @@ pub record Special (bad : Symbol → Bool) : Type 0 where
   pub dot : bad symbols.Dot ≡ false
   pub parenthesis : bad symbols.OpenParenthesis ≡ false
 
-prefix_named : (bad : Symbol → Bool) (o : PrefixOperator) (xs : List Laid) → NamedKind bad (prefix_kind o) xs
+pub prefix_named : (bad : Symbol → Bool) (o : PrefixOperator) (xs : List Laid) → NamedKind bad (prefix_kind o) xs
 prefix_named bad prefixes.Not xs = tt
 prefix_named bad _ xs = tt
 
@@ -176,7 +176,7 @@ mutual
   named bad b (tree.Fairness at v e) m xs ys h c = subst (Named bad) (sym h.1.1) tt
   named bad b _ m xs ys h c = subst (Named bad) (sym h.1) tt
 
-  chain_named : (bad : Symbol → Bool) → Special bad → (o : InfixOperator) (es : Operands) → first_begins o es ≡ false → (xs ys : List Laid) → Chain o es xs ys → (at : Place) (zs : List Laid)
+  pub chain_named : (bad : Symbol → Bool) → Special bad → (o : InfixOperator) (es : Operands) → first_begins o es ≡ false → (xs ys : List Laid) → Chain o es xs ys → (at : Place) (zs : List Laid)
       → ys ≡ plain (kinds.Symbol (infix_symbol o)) at ∷ zs → Named bad xs
   chain_named bad b o (First e) m xs ys h at zs q =
       named bad b e (or_right (is_member o && is_name e) (begins_member e) m) xs ys h

@@ -9,8 +9,8 @@ use Rattle.trace_base.specs.declared.place.Place.{Place}
 use Rattle.tla_exprs.specs.declared.frame.Frame.{Frame}
 use Rattle.tla_exprs.specs.declared.frame.Frame.TheVariants as frame
 use Rattle.tla_exprs.specs.Machine.{Settled, settle}
-use Rattle.tla_exprs.proofs.Opened.{Top, FramesFit}
-use Rattle.tla_exprs.proofs.Texts.{FramesText}
+use Rattle.tla_exprs.specs.OpenFits.{Top, FramesFit}
+use Rattle.tla_exprs.specs.OpenRows.{FramesText}
 use Rattle.tla_exprs.proofs.Edges.{top_all}
 
 -- the frames that are left, and the expression in them up to `here`

@@ -18,8 +18,7 @@ use Rattle.tla_exprs.specs.declared.frame.Form.{Form}
 use Rattle.tla_exprs.specs.declared.frame.Frame.{Frame}
 use Rattle.tla_exprs.specs.declared.frame.Mode.{Mode}
 use Rattle.tla_exprs.specs.Machine.{Stops, with_step, same_bullet, has_field, begins, bound_named, bracket_named, brace_started, brace_named, tuple_started, list_started, choose_named, definition_named, parameter_named, defined_as, except_mark, path_ends, except_path, record_named, fair_opened, is_other_word, is_other, case_next, other_arrow, step}
-use Rattle.tla_exprs.proofs.Opened.{AreKeys, ScopeFits, BindingFits, FramesFit, ModeFits, Good, laid_symbol}
-use Rattle.tla_exprs.proofs.Texts.{FrameText, FramesText, ModeText}
+use Rattle.tla_exprs.proofs.Opened.{Good, laid_symbol}
 use Rattle.tla_exprs.proofs.Edges.{one_of_two}
 use Rattle.tla_exprs.proofs.Rows.{step_good, want_good, have_good, stepped_good, deliver_good}
 use Rattle.tla_exprs.proofs.Closing.{laid, follows_good, same_bullets, no_bullet}
@@ -32,6 +31,8 @@ use Rattle.tla_exprs.specs.declared.frame.RecordKind.TheVariants as records
 use Rattle.tla_exprs.specs.declared.frame.Form.TheVariants as forms
 use Rattle.tla_exprs.specs.declared.frame.Frame.TheVariants as frame
 use Rattle.tla_exprs.specs.declared.frame.Mode.TheVariants as mode
+use Rattle.tla_exprs.specs.OpenFits.{AreKeys, ScopeFits, BindingFits, FramesFit, ModeFits}
+use Rattle.tla_exprs.specs.OpenRows.{FrameText, FramesText, ModeText}
 
 -- names behind those that have a comma behind them
 names_end : (ns : List (List ℕ)) (n : List ℕ) (xs ys zs : List Laid) → NamesBefore ns xs ys → name n ys zs → NamesText (ns ++ n ∷ []) xs zs
@@ -199,7 +200,7 @@ reads_good xs r x fs (mode.ChooseNamed at n) ys F a h f =
     (λ s q e. choose_named_good xs r x fs ys F h at n s q e a) tt
 reads_good xs r x fs (mode.DefinitionName c) ys F a h f =
     on_name_good (Good xs (x ∷ r) r) x _ _
-    (λ n p e. ((ys, F, (x ∷ r, a, ap (λ y. y ∷ r) e)), h, f)) tt
+    (λ n p e. ((ys, F, (x ∷ r, a, ap (λ y. y ∷ r) e)), h, f.0)) tt
 reads_good xs r x fs (mode.DefinitionNamed c n p) ys F a h f =
     on_symbol_good (Good xs (x ∷ r) r) x _ _
     (λ s q e. definition_named_good xs r x fs ys F h c n p s q e a f) tt

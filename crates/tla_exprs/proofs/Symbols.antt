@@ -9,8 +9,7 @@ use Rattle.tla_ast.specs.Trees.{Tree, MoreTrees, Fields, MoreFields, MoreChanges
 use Rattle.tla_exprs.specs.declared.frame.RecordKind.{RecordKind}
 use Rattle.tla_exprs.specs.declared.frame.Frame.{Frame}
 use Rattle.tla_exprs.specs.Machine.{Stepped, Reads, with_step, of_records, symbol_closes, is_always_symbol}
-use Rattle.tla_exprs.proofs.Opened.{FrameFits, FramesFit, Good, laid_symbol}
-use Rattle.tla_exprs.proofs.Texts.{FrameText, FramesText}
+use Rattle.tla_exprs.proofs.Opened.{Good, laid_symbol}
 use Rattle.tla_exprs.proofs.Rows.{sign_is, only_parenthesis, only_bracket, only_brace, only_colon, only_arrow, only_always, comma_parenthesis, comma_bracket, step_good, want_good, have_good, stepped_good, deliver_good}
 use Rattle.tla_exprs.proofs.Enclosed.{braces_good, bracket_good, tuple_good, filter_good, function_good, bound_good}
 use Rattle.tla_ast.specs.declared.token.Symbol.TheVariants as symbols
@@ -18,6 +17,8 @@ use Rattle.tla_ast.specs.Trees as tree
 use Rattle.tla_exprs.specs.declared.frame.RecordKind.TheVariants as records
 use Rattle.tla_exprs.specs.declared.frame.Frame.TheVariants as frame
 use Rattle.tla_exprs.specs.declared.frame.Mode.TheVariants as mode
+use Rattle.tla_exprs.specs.OpenFits.{FrameFits, FramesFit}
+use Rattle.tla_exprs.specs.OpenRows.{FrameText, FramesText}
 
 module _ (xs r : List Laid) (s : Symbol) (q : Place) where
   abbrev here : List Laid

@@ -32,7 +32,7 @@ use Rattle.tla_exprs.proofs.ExtentEnds.{Closes, ends_close, local_text, local_de
 use Rattle.tla_exprs.proofs.Flat as flat
 use Rattle.tla_exprs.proofs.FlatGoes.{part}
 use Rattle.tla_exprs.proofs.FlatTrees.{good}
-use Rattle.tla_exprs.proofs.RunsBounds.{names_run}
+use Rattle.tla_exprs.proofs.Modelled.{names_run}
 use Rattle.tla_exprs.proofs.RunsParts.{plain}
 
 -- ---- what is proved

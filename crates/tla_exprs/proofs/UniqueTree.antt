@@ -13,6 +13,7 @@ use Rattle.tla_exprs.specs.declared.frame.Mode.TheVariants as mode
 use Rattle.tla_exprs.specs.declared.frame.Scope.TheVariants as scopes
 use Rattle.tla_exprs.specs.Machine.{EndsDefinition, EndsAt, EndsDefinitionAt, run}
 use Rattle.tla_exprs.specs.LawsOfTrees.{EndsKind, SpelledRead, DefinitionRead}
+use Rattle.tla_exprs.proofs.Runner.{model, model_runs}
 use Rattle.tla_exprs.proofs.RunsParts.{plain, part}
 use Rattle.tla_exprs.proofs.RunsDefinitions.{Ends, definition_reads}
 use Rattle.tla_exprs.proofs.RunsTrees.{good, function_good}
@@ -21,11 +22,11 @@ use Rattle.tla_exprs.proofs.UniqueSpans.{Front, tree_local}
 -- ---- an expression up to a token that ends it
 
 kind_read : (xs rest : List Laid) (k : Kind) (at : Place) (e : Tree) → Fits e → Text e xs (plain k at ∷ rest) → EndsKind k → run xs [] mode.Want ≡ EndsAt e (plain k at ∷ rest)
-kind_read xs rest (kinds.Name n) at e f h q = part xs (plain (kinds.Name n) at ∷ rest) e [] (good e f).runs tt h refl refl (λ fs a. refl)
-kind_read xs rest (kinds.Word w) at e f h q = part xs (plain (kinds.Word w) at ∷ rest) e [] (good e f).runs tt h refl refl (λ fs a. refl)
-kind_read xs rest kinds.Dashes at e f h q = part xs (plain kinds.Dashes at ∷ rest) e [] (good e f).runs tt h refl refl (λ fs a. refl)
-kind_read xs rest kinds.Equals at e f h q = part xs (plain kinds.Equals at ∷ rest) e [] (good e f).runs tt h refl refl (λ fs a. refl)
-kind_read xs rest kinds.End at e f h q = part xs (plain kinds.End at ∷ rest) e [] (good e f).runs tt h refl refl (λ fs a. refl)
+kind_read xs rest (kinds.Name n) at e f h q = model_runs xs [] mode.Want ∙ part model xs (plain (kinds.Name n) at ∷ rest) e [] (good model e f).runs tt h refl refl (λ fs a. refl)
+kind_read xs rest (kinds.Word w) at e f h q = model_runs xs [] mode.Want ∙ part model xs (plain (kinds.Word w) at ∷ rest) e [] (good model e f).runs tt h refl refl (λ fs a. refl)
+kind_read xs rest kinds.Dashes at e f h q = model_runs xs [] mode.Want ∙ part model xs (plain kinds.Dashes at ∷ rest) e [] (good model e f).runs tt h refl refl (λ fs a. refl)
+kind_read xs rest kinds.Equals at e f h q = model_runs xs [] mode.Want ∙ part model xs (plain kinds.Equals at ∷ rest) e [] (good model e f).runs tt h refl refl (λ fs a. refl)
+kind_read xs rest kinds.End at e f h q = model_runs xs [] mode.Want ∙ part model xs (plain kinds.End at ∷ rest) e [] (good model e f).runs tt h refl refl (λ fs a. refl)
 kind_read xs rest _ at e f h q = absurd q
 
 pub spelled_read : SpelledRead
@@ -48,7 +49,8 @@ kind_defined : (xs rest : List Laid) (k : Kind) (at : Place) (n : List ℕ) (p :
     → run xs [] (mode.DefinitionName scopes.Unit) ≡ EndsDefinitionAt n p ns e (plain k at ∷ rest)
 kind_defined xs rest k at n p ns e h f q =
     ap (λ v. run v [] (mode.DefinitionName scopes.Unit)) h.1
-    ∙ definition_reads (kind_ends k at n p q) ns e (good e f).runs (function_good e f) h.0 (plain k at ∷ rest) rest h.2 refl
+    ∙ model_runs h.0 [] (mode.DefinitionNamed scopes.Unit n p)
+    ∙ definition_reads model (kind_ends k at n p q) ns e (good model e f).runs (function_good model e f) h.0 (plain k at ∷ rest) rest h.2 refl
 
 pub definition_read : DefinitionRead
 definition_read xs rest (Plain t) n p ns e h f q = kind_defined xs rest t.kind t.place n p ns e h f q

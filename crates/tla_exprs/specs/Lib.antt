@@ -11,6 +11,8 @@ pub mod LawsOfTrees
 pub mod Machine
 pub mod Meeting
 pub mod Nesting
+pub mod OpenFits
+pub mod OpenRows
 pub mod Passes
 pub mod Refusals
 pub mod Refused

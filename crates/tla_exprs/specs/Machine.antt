@@ -185,10 +185,6 @@ abbrev pub of_records : RecordKind → Place → Fields → Tree
 of_records records.Record at hs = tree.Record at hs
 of_records records.Set at hs = tree.RecordSet at hs
 
-abbrev pub field_mark : RecordKind → Symbol
-field_mark records.Record = symbols.MapsTo
-field_mark records.Set = symbols.Colon
-
 abbrev pub parameters_of : Form → List (List ℕ)
 parameters_of (forms.Operator ns) = ns
 parameters_of (forms.Function at bs) = []

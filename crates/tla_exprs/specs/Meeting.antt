@@ -6,6 +6,7 @@ use Rattle.tla_ast.specs.declared.laid.Laid.TheVariants.{Plain}
 use Rattle.tla_ast.specs.declared.token.Kind.{Kind}
 use Rattle.tla_ast.specs.declared.token.Kind.TheVariants as kinds
 use Rattle.tla_ast.specs.declared.token.Symbol.TheVariants as symbols
+use Rattle.tla_ast.specs.declared.token.Word.TheVariants as words
 use Rattle.tla_ast.specs.declared.operators.PrefixOperator.{PrefixOperator}
 use Rattle.tla_ast.specs.declared.operators.InfixOperator.{InfixOperator}
 use Rattle.tla_ast.specs.declared.operators.InfixOperator.TheVariants as infixes
@@ -87,14 +88,21 @@ pub record MeetsBehind (Begins : List Laid → Type 0) (read : List Laid) (here 
   pub is : here ≡ at_place (kinds.Symbol (infix_symbol operator)) q
   pub meets : MeetsOn operator (right_edge operand) p
 
--- a `{`, or a `[` where an expression begins
-abbrev pub OpensBinder : (List Laid → Type 0) → List Laid → Laid → Type 0
-OpensBinder Begins before x = ExpressionNext Begins before × (at : Place) × ((x ≡ at_place (kinds.Symbol symbols.OpenBrace) at) ⊎ (x ≡ at_place (kinds.Symbol symbols.OpenBracket) at))
+-- a token of this kind
+abbrev pub IsKind : Kind → Laid → Type 0
+IsKind kind x = (at : Place) × (x ≡ at_place kind at)
+
+-- Behind a `{` or a `[`, a name, a `\in` and an expression, a token at which the name and the `\in` can only be an operand and its operator:
+-- behind a `{` a comma or the `}`; behind a `[` an arrow, EXCEPT or `]_`.
+abbrev pub OnlyOperator : Laid → Laid → Type 0
+OnlyOperator opening here =
+    (IsKind (kinds.Symbol symbols.OpenBrace) opening × (IsKind (kinds.Symbol symbols.Comma) here ⊎ IsKind (kinds.Symbol symbols.CloseBrace) here))
+    ⊎ (IsKind (kinds.Symbol symbols.OpenBracket) opening × (IsKind (kinds.Symbol symbols.Arrow) here ⊎ IsKind (kinds.Symbol symbols.CloseBracketSubscript) here ⊎ IsKind (kinds.Word words.Except) here))
 
 -- Directly behind a `{`, or behind a `[` that begins an expression, a name and a `\in` at p are read as those of a binder for as long as
--- they can be. At a token that only the reading as an operator allows, the `\in` meets an operator at q on the left edge of the operand
--- behind it.
-pub record MeetsLate (Begins : List Laid → Type 0) (read : List Laid) (p q : Place) : Type 0 where
+-- they can be. The token here is one that only the reading as an operator allows, and the `\in` meets an operator at q on the left edge of
+-- the operand behind it.
+pub record MeetsLate (Begins : List Laid → Type 0) (read : List Laid) (here : Laid) (p q : Place) : Type 0 where
   pub before : List Laid
   pub opening : Laid
   pub name : List ℕ
@@ -102,10 +110,11 @@ pub record MeetsLate (Begins : List Laid → Type 0) (read : List Laid) (p q : P
   pub text : List Laid
   pub operand : Tree
   pub whole : read ≡ before ++ opening ∷ at_place (kinds.Name name) at ∷ at_place (kinds.Symbol symbols.Member) p ∷ text
-  pub opens : OpensBinder Begins before opening
+  pub next : ExpressionNext Begins before
+  pub only : OnlyOperator opening here
   pub spelled : Spells operand text []
   pub meets : MeetsMember operand q
 
 -- the operators at p and q meet at the token here, behind the tokens that were read
 abbrev pub Meets : (List Laid → Type 0) → List Laid → Laid → Place → Place → Type 0
-Meets Begins read here p q = MeetsBehind Begins read here p q ⊎ MeetsLate Begins read p q
+Meets Begins read here p q = MeetsBehind Begins read here p q ⊎ MeetsLate Begins read here p q

@@ -1,11 +1,14 @@
 -- How many constructs are unfinished before a token.
 --
 -- Unfinished are an open bracket, an open junction list, a CASE, an IF before its ELSE, a LET before its IN, a binder before its `:` or
--- the like, and an operator whose last operand has not ended. A chain counts once. A `\in` that follows a name directly behind a `{`, or
--- directly behind a `[` that begins an expression, is never counted. (This project's profile.)
-use Rattle.std.specs.Prelude.{ℕ, ◌+◌, ◌≤◌, List, [], ◌∷◌}
+-- the like, and an operator whose last operand has not ended. A chain counts once. (This project's profile.)
+--
+-- The tokens before a token are read as rows of the grammar that are open. Directly behind a `{`, or behind a `[` that begins an expression, a
+-- name and `\in` are read so in two ways: as those of a binder, or as an operand and its operator, which is one unfinished construct more. Such
+-- a `\in` is never counted, so the reading with the fewest tells.
+use Rattle.std.specs.Prelude.{◌≡◌, ℕ, Bool, true, false, ◌+◌, ◌≤◌, List, [], ◌∷◌, ◌++◌}
 use Rattle.tla_ast.specs.declared.laid.Laid.{Laid}
-use Rattle.tla_exprs.specs.Machine.{Stepped, Reads, Stops, Clashes, Ends, EndsDefinition, step}
+use Rattle.tla_ast.specs.Grammar.{◌⨟◌}
 use Rattle.tla_exprs.specs.declared.frame.Binder.{Binder}
 use Rattle.tla_exprs.specs.declared.frame.Binder.TheVariants as binders
 use Rattle.tla_exprs.specs.declared.frame.Frame.{Frame}
@@ -14,6 +17,8 @@ use Rattle.tla_exprs.specs.declared.frame.Mode.{Mode}
 use Rattle.tla_exprs.specs.declared.frame.Mode.TheVariants as mode
 use Rattle.tla_exprs.specs.declared.frame.Scope.{Scope}
 use Rattle.tla_exprs.specs.declared.frame.Scope.TheVariants as scopes
+use Rattle.tla_exprs.specs.OpenFits.{FramesFit, FramesStand, ModeFits, ModeStands, Outermost, in_mode}
+use Rattle.tla_exprs.specs.OpenRows.{FramesText, ModeText}
 
 -- the LET around a definition
 abbrev pub of_scope : Scope → ℕ
@@ -69,23 +74,25 @@ unfinished fs m = of_frames fs + of_mode m
 abbrev pub deepest : ℕ
 deepest = 100
 
--- what holds of the rows behind a token that is read
-abbrev pub ShallowBehind : Stepped → (List Frame → Mode → Type 0) → Type 0
-ShallowBehind (Reads fs m) next = next fs m
-ShallowBehind Stops next = Unit {0}
-ShallowBehind (Clashes p q) next = Unit {0}
-ShallowBehind (Ends e) next = Unit {0}
-ShallowBehind (EndsDefinition n p ns e) next = Unit {0}
+-- the tokens are the beginning of a text, of a unit's definition or of an expression, in which these rows are open
+pub record AreOpen (unit : Bool) (read : List Laid) (rows : List Frame) (expected : Mode) : Type 0 where
+  pub text : (FramesText rows ⨟ ModeText expected) read []
+  pub fit : FramesFit rows × ModeFits expected rows
+  pub stand : FramesStand rows × ModeStands expected rows
+  pub outermost : Outermost unit rows (in_mode expected)
 
--- each of these tokens, in these rows and behind what was read in the last of them, stands inside at most so many
-abbrev pub ShallowIn : List Frame → Mode → List Laid → Type 0
-ShallowIn fs m [] = Unit {0}
-ShallowIn fs m (x ∷ xs) = (unfinished fs m ≤ deepest) × ShallowBehind (step x fs m) (λ gs n. ShallowIn gs n xs)
+-- a token behind these stands inside at most so many
+abbrev pub IsShallow : Bool → List Laid → Type 0
+IsShallow unit read = (rows : List Frame) × (expected : Mode) × AreOpen unit read rows expected × (unfinished rows expected ≤ deepest)
 
--- each token of the beginning of an expression stands inside at most so many
+-- each token of the beginning of a text stands inside at most so many
+abbrev pub AreShallow : Bool → List Laid → Type 0
+AreShallow unit read = (before after : List Laid) (x : Laid) → read ≡ before ++ x ∷ after → IsShallow unit before
+
+-- of an expression
 abbrev pub Shallow : List Laid → Type 0
-Shallow read = ShallowIn [] mode.Want read
+Shallow read = AreShallow false read
 
--- the same of the beginning of a unit's definition
+-- of a unit's definition
 abbrev pub ShallowDefinition : List Laid → Type 0
-ShallowDefinition read = ShallowIn [] (mode.DefinitionName scopes.Unit) read
+ShallowDefinition read = AreShallow true read

@@ -9,24 +9,26 @@ use Rattle.tla_exprs.specs.Refused.{place_of, refusal_of}
 use Rattle.tla_exprs.specs.declared.fault.ParseFault.{ParseFault}
 use Rattle.tla_exprs.specs.declared.fault.ParseFault.TheVariants.{Expected, Conflict, TooNested, OutOfProfile, NoMemory}
 
--- A text is begun up to one of the tokens, and none goes on through that one. Ranges play no part.
-pub record UpTo (Begins Shallow : List Laid → Type 0) (laid rest : List Laid) (x : Laid) : Type 0 where
+-- A text with its ranges is begun up to one of the tokens, and none goes on through that one, even where ranges play no part.
+pub record UpTo (Begins Fitting Shallow : List Laid → Type 0) (laid rest : List Laid) (x : Laid) : Type 0 where
   pub read : List Laid
   pub whole : laid ≡ read ++ x ∷ rest
   pub begun : Begins read
+  pub fits : Fitting read
   pub there : ¬ (Begins (read ++ x ∷ []))
   pub shallow : Shallow read
 
 -- the first token that can not follow those before it is refused so
-abbrev pub CanNotFollow : (Begins Shallow : List Laid → Type 0) → List Laid → ParseFault → Type 0
-CanNotFollow Begins Shallow laid fault = (x : Laid) × (rest : List Laid) × UpTo Begins Shallow laid rest x × (refusal_of x ≡ fault)
+abbrev pub CanNotFollow : (Begins Fitting Shallow : List Laid → Type 0) → List Laid → ParseFault → Type 0
+CanNotFollow Begins Fitting Shallow laid fault = (x : Laid) × (rest : List Laid) × UpTo Begins Fitting Shallow laid rest x × (refusal_of x ≡ fault)
 
--- all the tokens are the beginning of a text, and this is the place of the last
-pub record EndsTooEarly (Begins Shallow : List Laid → Type 0) (laid : List Laid) (p : Place) : Type 0 where
+-- all the tokens are the beginning of a text with its ranges, and this is the place of the last
+pub record EndsTooEarly (Begins Fitting Shallow : List Laid → Type 0) (laid : List Laid) (p : Place) : Type 0 where
   pub before : List Laid
   pub last : Laid
   pub whole : laid ≡ before ++ last ∷ []
   pub begun : Begins laid
+  pub fits : Fitting laid
   pub shallow : Shallow laid
   pub place : place_of last ≡ p
 
@@ -56,12 +58,12 @@ pub record IsTooNested (Fitting Shallow : List Laid → Type 0) (laid : List Lai
 
 -- why the tokens are refused as a text of one kind
 abbrev pub IsRefused : (Begins Fitting Shallow : List Laid → Type 0) → List Laid → ParseFault → Type 0
-IsRefused Begins Fitting Shallow laid (Expected p) = CanNotFollow Begins Shallow laid (Expected p) ⊎ EndsTooEarly Begins Shallow laid p
+IsRefused Begins Fitting Shallow laid (Expected p) = CanNotFollow Begins Fitting Shallow laid (Expected p) ⊎ EndsTooEarly Begins Fitting Shallow laid p
 IsRefused Begins Fitting Shallow laid (Conflict p q) = Conflicts Begins Fitting Shallow laid p q
 IsRefused Begins Fitting Shallow laid (TooNested p) = IsTooNested Fitting Shallow laid p
-IsRefused Begins Fitting Shallow laid (OutOfProfile f p) = CanNotFollow Begins Shallow laid (OutOfProfile f p)
+IsRefused Begins Fitting Shallow laid (OutOfProfile f p) = CanNotFollow Begins Fitting Shallow laid (OutOfProfile f p)
 IsRefused Begins Fitting Shallow laid NoMemory = Unit {0}
 
 -- a text from the one index to the other goes as far as a text goes on
-abbrev pub GoesAsFar : (Begins Shallow : List Laid → Type 0) → List Laid → ℕ → ℕ → Type 0
-GoesAsFar Begins Shallow laid from behind = (x : Laid) × (rest : List Laid) × (drop behind laid ≡ x ∷ rest) × UpTo Begins Shallow (drop from laid) rest x
+abbrev pub GoesAsFar : (Begins Fitting Shallow : List Laid → Type 0) → List Laid → ℕ → ℕ → Type 0
+GoesAsFar Begins Fitting Shallow laid from behind = (x : Laid) × (rest : List Laid) × (drop behind laid ≡ x ∷ rest) × UpTo Begins Fitting Shallow (drop from laid) rest x

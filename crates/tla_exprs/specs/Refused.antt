@@ -1,15 +1,16 @@
 -- Why laid tokens are refused from an index on, by the reader from a start.
-use Rattle.std.specs.Prelude.{◌≡◌, ◌⊎◌, ℕ, List, [], ◌∷◌, ◌++◌, drop}
+use Rattle.std.specs.Prelude.{◌≡◌, ◌⊎◌, ℕ, ◌≤◌, List, [], ◌∷◌, ◌++◌, drop}
 use Rattle.trace_base.specs.declared.place.Place.{Place}
 use Rattle.tla_ast.specs.declared.laid.Laid.{Laid}
 use Rattle.tla_ast.specs.declared.laid.Laid.TheVariants.{Plain, ListOpen, ListItem, ListClose}
 use Rattle.tla_ast.specs.declared.token.Kind.{Kind}
 use Rattle.tla_ast.specs.declared.token.Kind.TheVariants as kinds
-use Rattle.tla_exprs.specs.Machine.{StopsAt, ClashesAt, run}
-use Rattle.tla_exprs.specs.Nesting.{ShallowIn}
+use Rattle.tla_exprs.specs.Machine.{Stepped, Reads, Stops, Clashes, Ends, EndsDefinition, StopsAt, ClashesAt, run, step}
+use Rattle.tla_exprs.specs.Nesting.{deepest, unfinished}
 use Rattle.tla_exprs.specs.Kept.{kept_run}
 use Rattle.tla_exprs.specs.declared.fault.ParseFault.{ParseFault}
 use Rattle.tla_exprs.specs.declared.fault.ParseFault.TheVariants.{Expected, Conflict, TooNested, OutOfProfile, NoMemory}
+use Rattle.tla_exprs.specs.declared.frame.Frame.{Frame}
 use Rattle.tla_exprs.specs.declared.frame.Mode.{Mode}
 
 -- the place of a laid token
@@ -29,6 +30,19 @@ refusal_of (Plain t) = refusal_of_kind t.kind t.place
 refusal_of (ListOpen b at) = Expected at
 refusal_of (ListItem b at) = Expected at
 refusal_of (ListClose at) = Expected at
+
+-- what holds of the state behind a token that is read
+abbrev pub ShallowBehind : Stepped → (List Frame → Mode → Type 0) → Type 0
+ShallowBehind (Reads fs m) next = next fs m
+ShallowBehind Stops next = Unit {0}
+ShallowBehind (Clashes p q) next = Unit {0}
+ShallowBehind (Ends e) next = Unit {0}
+ShallowBehind (EndsDefinition n p ns e) next = Unit {0}
+
+-- the reader, which is in this state before these tokens, comes to each of them in a state with at most 100 unfinished constructs
+abbrev pub ShallowIn : List Frame → Mode → List Laid → Type 0
+ShallowIn fs m [] = Unit {0}
+ShallowIn fs m (x ∷ xs) = (unfinished fs m ≤ deepest) × ShallowBehind (step x fs m) (λ gs n. ShallowIn gs n xs)
 
 -- the tokens from an index on up to these are read by the reader from a start, and each stands inside at most 100 unfinished constructs
 pub record ShallowUpTo (laid : List Laid) (from : ℕ) (start : Mode) (behind : List Laid) : Type 0 where

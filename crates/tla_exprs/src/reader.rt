@@ -102,7 +102,7 @@ pub fn expression(alloc: Global, laid: &[Laid], from: usize) -> Result<(Expr, us
     ensures spelled { IfOk result (λ r. Spells r.0 (drop from laid.now) (drop r.1 laid.now)) }
     ensures ahead { IfOk result (λ r. from < r.1) }
     ensures within { IfOk result (λ r. r.1 < length laid.now) }
-    ensures far { IfOk result (λ r. GoesAsFar Begun Shallow laid.now from r.1) }
+    ensures far { IfOk result (λ r. GoesAsFar Begun FittingBegun Shallow laid.now from r.1) }
     ensures refused { IfErr result (λ e. IsRefused Begun FittingBegun Shallow (drop from laid.now) e) }
     ensures unended { IfErr result (λ e. IsUnended EndedText (drop from laid.now) e) }
 {
@@ -123,7 +123,7 @@ pub fn definition(
     ensures fits { IfOk result (λ r. Fits r.0.body) }
     ensures ahead { IfOk result (λ r. from < r.1) }
     ensures within { IfOk result (λ r. r.1 < length laid.now) }
-    ensures far { IfOk result (λ r. GoesAsFar BegunDefinition ShallowDefinition laid.now from r.1) }
+    ensures far { IfOk result (λ r. GoesAsFar BegunDefinition FittingBegunDefinition ShallowDefinition laid.now from r.1) }
     ensures refused { IfErr result (λ e. IsRefused BegunDefinition FittingBegunDefinition ShallowDefinition (drop from laid.now) e) }
     ensures unended { IfErr result (λ e. IsUnended EndedDefinition (drop from laid.now) e) }
 {

@@ -112,7 +112,7 @@ comes_so S B F k T ending text rest x b none fit (z ∷ zs) s t =
     let r = same_extent S B F k text zs p.text t.0 z b (subst (λ v. B (text ++ v ∷ []) → ⊥) s none) other (ending fit t.0 t.2) (parted text (z ∷ zs) p.text t.0 p.whole) in
     subst (T fit) (sym r.1) t.2
 
-passed_so : (S : Bool → Span) (B F : List Laid → Type 0) → TextKind S B F → (T : Rest) → Ending T → (xs rest : List Laid) (x : Laid) (H : List Laid → Type 0) → S true xs (x ∷ rest) → UpTo B H xs rest x → Passed S T xs (x ∷ rest)
+passed_so : (S : Bool → Span) (B F : List Laid → Type 0) → TextKind S B F → (T : Rest) → Ending T → (xs rest : List Laid) (x : Laid) (H : List Laid → Type 0) → S true xs (x ∷ rest) → UpTo B F H xs rest x → Passed S T xs (x ∷ rest)
 passed_so S B F k T ending xs rest x H s u =
     let p = k.local true xs (x ∷ rest) s in
     let same : u.read ≡ p.text = append_cancel_right u.read p.text (x ∷ rest) (sym u.whole ∙ p.whole) in
@@ -126,7 +126,7 @@ passed_so S B F k T ending xs rest x H s u =
     } in
     (h, λ e. k.some (k.loose true [] [] (subst (λ v. S true v []) e (alone (S true) xs (x ∷ rest) p))))
 
-pub passed : (S : Bool → Span) (B F : List Laid → Type 0) → TextKind S B F → (T : Rest) → Ending T → (xs ys rest : List Laid) (x : Laid) (H : List Laid → Type 0) → S true xs ys → ys ≡ x ∷ rest → UpTo B H xs rest x → Passed S T xs ys
+pub passed : (S : Bool → Span) (B F : List Laid → Type 0) → TextKind S B F → (T : Rest) → Ending T → (xs ys rest : List Laid) (x : Laid) (H : List Laid → Type 0) → S true xs ys → ys ≡ x ∷ rest → UpTo B F H xs rest x → Passed S T xs ys
 passed S B F k T ending xs ys rest x H s e u = subst (Passed S T xs) (sym e) (passed_so S B F k T ending xs rest x H (subst (S true xs) e s) u)
 
 -- ---- a text that is refused
@@ -146,16 +146,18 @@ not_there S B F k T ending xs read rest x whole b none never more t =
     let r = same_extent S B F k read more p.text t.0 x b none other ends (parted read (x ∷ more) p.text t.0 p.whole) in
     never read rest x whole (subst (λ v. S false v []) (sym r.0) other) (ends_first x more t.0 (sym r.1) ends)
 
-stopped : (S : Bool → Span) (B F : List Laid → Type 0) → TextKind S B F → (T : Rest) → Ending T → (ws : List Laid) → T false ws → (H : List Laid → Type 0) (xs : List Laid) (e : ParseFault) → NoneEnds S xs → CanNotFollow B H xs e → IsStopped (Then S T) xs e
-stopped S B F k T ending ws t H xs e never c =
-    let u : UpTo B H xs c.1 c.0 = c.2 in (
+stopped : (S : Bool → Span) (B F : List Laid → Type 0) → TextKind S B F → (T : Rest) → Ending T → (ws : List Laid) → T false ws → T true ws → (H : List Laid → Type 0) (xs : List Laid) (e : ParseFault) → NoneEnds S xs → CanNotFollow B F H xs e → IsStopped (Then S T) H xs e
+stopped S B F k T ending ws t s H xs e never c =
+    let u : UpTo B F H xs c.1 c.0 = c.2 in (
       c.0,
       c.1,
       record {
         read = u.read;
         whole = u.whole;
         begun = begun_by S B F k T false ws t u.read (k.begun u.read u.begun);
+        fits = begun_by S B F k T true ws s u.read (k.fitting u.read u.fits);
         there = not_there S B F k T ending xs u.read c.1 c.0 u.whole u.begun u.there never;
+        held = u.shallow;
       },
       c.3,
     )
@@ -167,7 +169,7 @@ pub record LastIsEnd (xs : List Laid) : Type 0 where
   pub whole : xs ≡ before ++ Plain last ∷ []
   pub is_last : last.kind ≡ kinds.End
 
-not_early : (S : Bool → Span) (B F : List Laid → Type 0) → TextKind S B F → (H : List Laid → Type 0) (xs : List Laid) (p : Place) → LastIsEnd xs → EndsTooEarly B H xs p → ⊥
+not_early : (S : Bool → Span) (B F : List Laid → Type 0) → TextKind S B F → (H : List Laid → Type 0) (xs : List Laid) (p : Place) → LastIsEnd xs → EndsTooEarly B F H xs p → ⊥
 not_early S B F k H xs p last e = k.no_end last.before [] last.last (subst B last.whole e.begun) last.is_last
 
 none_fits : (S : Bool → Span) (B F : List Laid → Type 0) → TextKind S B F → (read more other us : List Laid) (here : Laid) → B (read ++ here ∷ []) → (F (read ++ here ∷ []) → ⊥) → S true other [] → TextEnds us → Parted read (here ∷ more) other us → ⊥
@@ -185,7 +187,7 @@ not_fitting S B F k T ending read here b none more t =
     let p = k.local true (read ++ here ∷ more) t.0 t.1 in
     none_fits S B F k read more p.text t.0 here b none (alone (S true) (read ++ here ∷ more) t.0 p) (ending true t.0 t.2) (parted read (here ∷ more) p.text t.0 p.whole)
 
-meeting : (S : Bool → Span) (B F : List Laid → Type 0) → TextKind S B F → (T : Rest) → Ending T → (ws : List Laid) → T false ws → T true ws → (H : List Laid → Type 0) (xs : List Laid) (p q : Place) → Conflicts B F H xs p q → Meeting (Then S T) xs p q
+meeting : (S : Bool → Span) (B F : List Laid → Type 0) → TextKind S B F → (T : Rest) → Ending T → (ws : List Laid) → T false ws → T true ws → (H : List Laid → Type 0) (xs : List Laid) (p q : Place) → Conflicts B F H xs p q → Meeting (Then S T) H xs p q
 meeting S B F k T ending ws t s H xs p q c = record {
   read = c.read;
   rest = c.rest;
@@ -194,6 +196,7 @@ meeting S B F k T ending ws t s H xs p q c = record {
   begun = begun_by S B F k T false ws t (c.read ++ c.here ∷ []) (k.begun (c.read ++ c.here ∷ []) c.begun);
   fits = begun_by S B F k T true ws s c.read (k.fitting c.read c.fits);
   none = not_fitting S B F k T ending c.read c.here c.begun c.none;
+  held = c.shallow;
   places = meets_on B (BegunBy (Then S T) false) [] c.read c.here p q (λ l b. begun_by S B F k T false ws t l (k.begun l b)) c.places;
 }
 
@@ -203,10 +206,10 @@ StaysOpen S xs (Expected p) = NoneEnds S xs
 StaysOpen S xs (OutOfProfile f p) = NoneEnds S xs
 StaysOpen S xs _ = Unit {0}
 
-pub part_refused : (S : Bool → Span) (B F : List Laid → Type 0) → TextKind S B F → (T : Rest) → Ending T → (ws : List Laid) → T false ws → T true ws → (H : List Laid → Type 0) (xs : List Laid) (e : ParseFault) → LastIsEnd xs → StaysOpen S xs e → IsRefused B F H xs e → RefusedIn (Then S T) (IsTooNested F H xs) xs e
-part_refused S B F k T ending ws t s H xs (Expected p) last never (inl c) = stopped S B F k T ending ws t H xs (Expected p) never c
+pub part_refused : (S : Bool → Span) (B F : List Laid → Type 0) → TextKind S B F → (T : Rest) → Ending T → (ws : List Laid) → T false ws → T true ws → (H : List Laid → Type 0) (xs : List Laid) (e : ParseFault) → LastIsEnd xs → StaysOpen S xs e → IsRefused B F H xs e → RefusedIn (Then S T) (IsTooNested F H xs) H xs e
+part_refused S B F k T ending ws t s H xs (Expected p) last never (inl c) = stopped S B F k T ending ws t s H xs (Expected p) never c
 part_refused S B F k T ending ws t s H xs (Expected p) last never (inr c) = absurd (not_early S B F k H xs p last c)
-part_refused S B F k T ending ws t s H xs (OutOfProfile f p) last never c = stopped S B F k T ending ws t H xs (OutOfProfile f p) never c
+part_refused S B F k T ending ws t s H xs (OutOfProfile f p) last never c = stopped S B F k T ending ws t s H xs (OutOfProfile f p) never c
 part_refused S B F k T ending ws t s H xs (Conflict p q) last never c = meeting S B F k T ending ws t s H xs p q c
 part_refused S B F k T ending ws t s H xs (TooNested p) last never c = c
 part_refused S B F k T ending ws t s H xs NoMemory last never c = tt

@@ -1,5 +1,6 @@
 -- One part read behind another, and refusals behind what was read.
-use Rattle.std.proofs.Common.{Bool, true, false, List, [], ◌∷◌, ◌++◌, append_assoc, inl, inr, refl, sym, ap, subst, ◌∙◌}
+use Rattle.std.proofs.Common.{◌≡◌, Bool, true, false, List, [], ◌∷◌, ◌++◌, append_assoc, inl, inr, refl, sym, ap, subst, ◌∙◌}
+use Rattle.std.proofs.lemmas.List.{append_cancel_right}
 use Rattle.trace_base.specs.declared.place.Place.{Place}
 use Rattle.tla_ast.specs.declared.laid.Laid.{Laid}
 use Rattle.tla_exprs.specs.Meeting.{Meets, MeetsBehind, MeetsLate}
@@ -31,14 +32,25 @@ leads_on T U V xs ys zs h g = record {
   comes = λ fit ws s t. g.comes fit ws s (h.comes fit (g.text ++ ws) (subst (λ v. SameHead v (g.text ++ ws)) (sym g.whole) (same_head_append g.text zs ws s)) (subst (T fit) (append_assoc h.text g.text ws) t));
 }
 
+-- what is held of some tokens is held of them behind a part that has none
+pub stay : (H : List Laid → Type 0) (xs text : List Laid) → xs ≡ text ++ xs → (l : List Laid) → H l → H (text ++ l)
+stay H xs text e l h =
+    let none : text ≡ [] = append_cancel_right text [] xs (sym e) in
+    subst (λ v. H (v ++ l)) (sym none) h
+
 -- ---- refusals
 
-stops_on : (T U : Rest) (xs ys rest : List Laid) (x : Laid) → Leads T U xs ys → Stops U ys rest x → Stops T xs rest x
-stops_on T U xs ys rest x h s = record {
+begun_on : (T U : Rest) (fit : Bool) (xs ys : List Laid) → (h : Leads T U xs ys) → (l : List Laid) → BegunBy U fit l → BegunBy T fit (h.text ++ l)
+begun_on T U fit xs ys h l b = (b.0, subst (T fit) (sym (append_assoc h.text l b.0)) (h.goes fit (l ++ b.0) b.1))
+
+stops_on : (T U : Rest) (H J : List Laid → Type 0) (xs ys rest : List Laid) (x : Laid) → (h : Leads T U xs ys) → ((l : List Laid) → J l → H (h.text ++ l)) → Stops U J ys rest x → Stops T H xs rest x
+stops_on T U H J xs ys rest x h held s = record {
   read = h.text ++ s.read;
   whole = h.whole ∙ ap (λ v. h.text ++ v) s.whole ∙ sym (append_assoc h.text s.read (x ∷ rest));
-  begun = (s.begun.0, subst (T false) (sym (append_assoc h.text s.read s.begun.0)) (h.goes false (s.read ++ s.begun.0) s.begun.1));
+  begun = begun_on T U false xs ys h s.read s.begun;
+  fits = begun_on T U true xs ys h s.read s.fits;
   there = λ more t. s.there more (h.comes false (s.read ++ x ∷ more) (subst (λ v. SameHead v (s.read ++ x ∷ more)) (sym s.whole) (head_same s.read rest more x)) (subst (T false) (append_assoc h.text s.read (x ∷ more)) t));
+  held = held s.read s.held;
 }
 
 next_on : (P Q : List Laid → Type 0) (text before : List Laid) (x : Laid) → ((l : List Laid) → P l → Q (text ++ l)) → P (before ++ x ∷ []) → Q ((text ++ before) ++ x ∷ [])
@@ -57,8 +69,8 @@ behind_on P Q text read here p q go m = record {
   meets = m.meets;
 }
 
-late_on : (P Q : List Laid → Type 0) (text read : List Laid) (p q : Place) → ((l : List Laid) → P l → Q (text ++ l)) → MeetsLate P read p q → MeetsLate Q (text ++ read) p q
-late_on P Q text read p q go m = record {
+late_on : (P Q : List Laid → Type 0) (text read : List Laid) (here : Laid) (p q : Place) → ((l : List Laid) → P l → Q (text ++ l)) → MeetsLate P read here p q → MeetsLate Q (text ++ read) here p q
+late_on P Q text read here p q go m = record {
   before = text ++ m.before;
   opening = m.opening;
   name = m.name;
@@ -66,20 +78,18 @@ late_on P Q text read p q go m = record {
   text = m.text;
   operand = m.operand;
   whole = ap (λ v. text ++ v) m.whole ∙ sym (append_assoc text m.before _);
-  opens = ((m.opens.0.0, m.opens.0.1, next_on P Q text m.before _ go m.opens.0.2), m.opens.1, m.opens.2);
+  next = (m.next.0, m.next.1, next_on P Q text m.before _ go m.next.2);
+  only = m.only;
   spelled = m.spelled;
   meets = m.meets;
 }
 
 pub meets_on : (P Q : List Laid → Type 0) (text read : List Laid) (here : Laid) (p q : Place) → ((l : List Laid) → P l → Q (text ++ l)) → Meets P read here p q → Meets Q (text ++ read) here p q
 meets_on P Q text read here p q go (inl m) = inl (behind_on P Q text read here p q go m)
-meets_on P Q text read here p q go (inr m) = inr (late_on P Q text read p q go m)
+meets_on P Q text read here p q go (inr m) = inr (late_on P Q text read here p q go m)
 
-begun_on : (T U : Rest) (fit : Bool) (xs ys : List Laid) → (h : Leads T U xs ys) → (l : List Laid) → BegunBy U fit l → BegunBy T fit (h.text ++ l)
-begun_on T U fit xs ys h l b = (b.0, subst (T fit) (sym (append_assoc h.text l b.0)) (h.goes fit (l ++ b.0) b.1))
-
-meeting_on : (T U : Rest) (xs ys : List Laid) (p q : Place) → Leads T U xs ys → Meeting U ys p q → Meeting T xs p q
-meeting_on T U xs ys p q h m = record {
+meeting_on : (T U : Rest) (H J : List Laid → Type 0) (xs ys : List Laid) (p q : Place) → (h : Leads T U xs ys) → ((l : List Laid) → J l → H (h.text ++ l)) → Meeting U J ys p q → Meeting T H xs p q
+meeting_on T U H J xs ys p q h held m = record {
   read = h.text ++ m.read;
   rest = m.rest;
   here = m.here;
@@ -87,13 +97,14 @@ meeting_on T U xs ys p q h m = record {
   begun = subst (BegunBy T false) (sym (append_assoc h.text m.read (m.here ∷ []))) (begun_on T U false xs ys h (m.read ++ m.here ∷ []) m.begun);
   fits = begun_on T U true xs ys h m.read m.fits;
   none = λ more t. m.none more (h.comes true (m.read ++ m.here ∷ more) (subst (λ v. SameHead v (m.read ++ m.here ∷ more)) (sym m.whole) (head_same m.read m.rest more m.here)) (subst (T true) (append_assoc h.text m.read (m.here ∷ more)) t));
+  held = held m.read m.held;
   places = meets_on (BegunBy U false) (BegunBy T false) h.text m.read m.here p q (begun_on T U false xs ys h) m.places;
 }
 
--- a refusal of what stands behind a part
-pub refused_on : (T U : Rest) (D E : Place → Type 0) (xs ys : List Laid) (e : ParseFault) → Leads T U xs ys → ((h : Leads T U xs ys) (p : Place) → E p → D p) → RefusedIn U E ys e → RefusedIn T D xs e
-refused_on T U D E xs ys (Expected p) h deep r = (r.0, r.1, stops_on T U xs ys r.1 r.0 h r.2, r.3)
-refused_on T U D E xs ys (OutOfProfile f p) h deep r = (r.0, r.1, stops_on T U xs ys r.1 r.0 h r.2, r.3)
-refused_on T U D E xs ys (Conflict p q) h deep r = meeting_on T U xs ys p q h r
-refused_on T U D E xs ys (TooNested p) h deep r = deep h p r
-refused_on T U D E xs ys NoMemory h deep r = tt
+-- a refusal of what stands behind a part, with what is held of the tokens before the refused one
+pub refused_on : (T U : Rest) (D E : Place → Type 0) (H J : List Laid → Type 0) (xs ys : List Laid) (e : ParseFault) → (h : Leads T U xs ys) → ((p : Place) → E p → D p) → ((l : List Laid) → J l → H (h.text ++ l)) → RefusedIn U E J ys e → RefusedIn T D H xs e
+refused_on T U D E H J xs ys (Expected p) h deep held r = (r.0, r.1, stops_on T U H J xs ys r.1 r.0 h held r.2, r.3)
+refused_on T U D E H J xs ys (OutOfProfile f p) h deep held r = (r.0, r.1, stops_on T U H J xs ys r.1 r.0 h held r.2, r.3)
+refused_on T U D E H J xs ys (Conflict p q) h deep held r = meeting_on T U H J xs ys p q h held r
+refused_on T U D E H J xs ys (TooNested p) h deep held r = deep p r
+refused_on T U D E H J xs ys NoMemory h deep held r = tt

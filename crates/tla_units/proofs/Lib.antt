@@ -2,6 +2,7 @@ pub mod Ends
 pub mod Extents
 pub mod LaidEnds
 pub mod Leading
+pub mod Locals
 pub mod MarksTold
 pub mod NamesRead
 pub mod NoEnd
@@ -14,6 +15,7 @@ pub mod OfficialBack
 pub mod Parts
 pub mod RefusedModule
 pub mod RestSteps
+pub mod ShallowRead
 pub mod Stages
 pub mod TailSteps
 pub mod TextKinds

@@ -58,7 +58,7 @@ names_of (suc n) xs ws ys h o =
     let r = names_of n o.0 o.2.0 ys o.2.1 o.2.2 in
     (t.0, r.0 ∷ r.1, (ws, t.1, (o.0, marked_text marks.Comma ws o.0 o.1, r.2)))
 
-extends_of : (xs ys : List Laid) → Extended xs ys → (ns : List (List ℕ)) × ExtendsText ns xs ys
+pub extends_of : (xs ys : List Laid) → Extended xs ys → (ns : List (List ℕ)) × ExtendsText ns xs ys
 extends_of xs ys (inl q) = ([], q)
 extends_of xs ys (inr h) =
     let r = names_of h.2.2.0 h.0 h.2.0 ys h.2.1 h.2.2.1 in
@@ -74,7 +74,7 @@ declared_names_of (suc n) xs ws ys h o =
     let r = declared_names_of n o.0 o.2.0 ys o.2.1 o.2.2 in
     (t.0, r.0 ∷ r.1, (ws, t.1, (o.0, marked_text marks.Comma ws o.0 o.1, r.2)))
 
-listed_of : (xs ys : List Laid) → Listed xs ys → (ds : List Declared) × DeclaredNamesText ds xs ys
+pub listed_of : (xs ys : List Laid) → Listed xs ys → (ds : List Declared) × DeclaredNamesText ds xs ys
 listed_of xs ys h = let r = declared_names_of h.2.0 xs h.0 ys h.1 h.2.1 in (r.0 ∷ r.1, r.2)
 
 -- ---- units

@@ -48,14 +48,14 @@ of_mark marks.Theorem xs ys (inr (inr h)) = set marks.Theorem _ xs ys h.1 refl
 more_listed : (k : ℕ) (xs ws vs us ys : List Laid) → Marked marks.Name xs ws → Marked marks.Comma ws vs → Marked marks.Name vs us → Others k us ys → Listed xs ys
 more_listed k xs ws vs us ys a c b o = (ws, a, (suc k, (vs, c, (us, b, o))))
 
-listed_from : (ns : List (List ℕ)) (xs ys : List Laid) → NamesText ns xs ys → Listed xs ys
+pub listed_from : (ns : List (List ℕ)) (xs ys : List Laid) → NamesText ns xs ys → Listed xs ys
 listed_from [] xs ys h = absurd h
 listed_from (n ∷ []) xs ys h = (ys, of_mark marks.Name xs ys (n, h), (zero, refl))
 listed_from (n ∷ m ∷ ns) xs ys h =
     let r = listed_from (m ∷ ns) h.2.0 ys h.2.2 in
     more_listed r.2.0 xs h.0 h.2.0 r.0 ys (of_mark marks.Name xs h.0 (n, h.1)) (of_mark marks.Comma h.0 h.2.0 h.2.1) r.1 r.2.1
 
-declared_from : (ds : List Declared) (xs ys : List Laid) → DeclaredNamesText ds xs ys → Listed xs ys
+pub declared_from : (ds : List Declared) (xs ys : List Laid) → DeclaredNamesText ds xs ys → Listed xs ys
 declared_from [] xs ys h = absurd h
 declared_from (d ∷ []) xs ys h = (ys, of_mark marks.Name xs ys (d.name, (d.at, h)), (zero, refl))
 declared_from (d ∷ e ∷ ds) xs ys h =

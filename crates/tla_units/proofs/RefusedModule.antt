@@ -11,7 +11,7 @@ use Rattle.tla_exprs.specs.Refusals.{IsTooNested}
 use Rattle.tla_units.specs.Marks.{mark_of}
 use Rattle.tla_exprs.specs.declared.fault.ParseFault.{ParseFault}
 use Rattle.tla_exprs.specs.declared.fault.ParseFault.TheVariants.{Expected, Conflict, TooNested, OutOfProfile, NoMemory}
-use Rattle.tla_units.specs.Refusals.{CanNotFollow, WholeUnits, TooNestedStated, TooNestedUnit, IsRefusedModule}
+use Rattle.tla_units.specs.Refusals.{CanNotFollow, ShallowModule, WholeUnits, TooNestedStated, TooNestedUnit, IsRefusedModule}
 use Rattle.tla_units.specs.Reads.{Stops, IsStopped, RefusedIn, BegunBy, DeepStated, DeepUnit, DeepUnits}
 use Rattle.tla_units.specs.Rests.{Tail, Whole}
 use Rattle.tla_units.specs.declared.marks.Mark.TheVariants as marks
@@ -32,10 +32,10 @@ not_begun read x none b = none b.rest (subst (Whole false) (append_assoc read (x
 not_fitting : (read : List Laid) (x : Laid) → ((more : List Laid) → Whole true (read ++ x ∷ more) → ⊥) → FittingBegunModule (read ++ x ∷ []) → ⊥
 not_fitting read x none b = none b.rest (subst (Whole true) (append_assoc read (x ∷ []) b.rest) (whole_from true b.read_as ((read ++ x ∷ []) ++ b.rest) b.spelled.text b.spelled.fits))
 
-stopped_module : (l : List Laid) (e : ParseFault) → IsStopped Whole l e → CanNotFollow l e
+stopped_module : (l : List Laid) (e : ParseFault) → IsStopped Whole ShallowModule l e → CanNotFollow l e
 stopped_module l e s =
-    let t : Stops Whole l s.1 s.0 = s.2 in
-    record { read = t.read; here = s.0; rest = s.1; whole = t.whole; begun = begun_module t.read t.begun; there = not_begun t.read s.0 t.there; refusal = s.3 }
+    let t : Stops Whole ShallowModule l s.1 s.0 = s.2 in
+    record { read = t.read; here = s.0; rest = s.1; whole = t.whole; begun = begun_module t.read t.begun; fits = fitting_module t.read t.fits; there = not_begun t.read s.0 t.there; shallow = t.held; refusal = s.3 }
 
 stated_by : (word : Laid) (title : List Laid) → (mark_of word ≡ Some marks.Assume) ⊎ (mark_of word ≡ Some marks.Theorem) → either assume_word theorem_word (word ∷ title) title
 stated_by word title (inl e) = inl (marked_text marks.Assume (word ∷ title) title (e, refl))
@@ -59,16 +59,17 @@ deep_in : (xs : List Laid) (p : Place) → DeepUnit xs p → IsTooNested Fitting
 deep_in xs p (inl d) = inl d
 deep_in xs p (inr d) = inr (deep_stated xs p d)
 
-deep_unit : (xs : List Laid) (p : Place) → DeepUnits Whole xs p → TooNestedUnit xs p
+deep_unit : (xs : List Laid) (p : Place) → DeepUnits Whole ShallowModule xs p → TooNestedUnit xs p
 deep_unit xs p d = record {
   before = d.before;
   body = d.body;
   whole = d.whole;
   units = whole_units d.before d.units;
+  shallow = d.shallow;
   deep = deep_in d.body p d.deep;
 }
 
-pub refused_module : (l : List Laid) (e : ParseFault) → RefusedIn Whole (DeepUnits Whole l) l e → IsRefusedModule l e
+pub refused_module : (l : List Laid) (e : ParseFault) → RefusedIn Whole (DeepUnits Whole ShallowModule l) ShallowModule l e → IsRefusedModule l e
 refused_module l (Expected p) r = stopped_module l (Expected p) r
 refused_module l (OutOfProfile f p) r = stopped_module l (OutOfProfile f p) r
 refused_module l (Conflict p q) r = record {
@@ -79,6 +80,7 @@ refused_module l (Conflict p q) r = record {
   begun = begun_module (r.read ++ r.here ∷ []) r.begun;
   fits = fitting_module r.read r.fits;
   none = not_fitting r.read r.here r.none;
+  shallow = r.held;
   places = meets_on (BegunBy Whole false) BegunModule [] r.read r.here p q begun_module r.places;
 }
 refused_module l (TooNested p) r = deep_unit l p r

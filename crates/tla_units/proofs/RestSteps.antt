@@ -1,5 +1,5 @@
 -- One token of the rest of a module, and names.
-use Rattle.std.proofs.Common.{◌≡◌, ℕ, zero, suc, Bool, false, List, [], ◌∷◌, Option, Some, Result, Ok, Err, refl, sym, ap, subst, ◌∙◌}
+use Rattle.std.proofs.Common.{◌≡◌, ℕ, zero, suc, Bool, false, List, [], ◌∷◌, Option, Some, Result, Ok, Err, refl, sym, ap, subst, ◌∙◌, true}
 use Rattle.std.specs.Option.{IfSome}
 use Rattle.std.specs.Result.{IfErr}
 use Rattle.trace_base.specs.declared.place.Place.{Place}
@@ -44,17 +44,17 @@ of_token (ListOpen b at) = tt
 of_token (ListItem b at) = tt
 of_token (ListClose at) = tt
 
-pub refused_stopped : (T : Rest) (D : Place → Type 0) (xs : List Laid) (e : ParseFault) → IsStopped T xs e → RefusedIn T D xs e
-refused_stopped T D xs (Expected p) s = s
-refused_stopped T D xs (OutOfProfile f p) s = s
-refused_stopped T D xs (Conflict p q) s = absurd (subst IsOfToken s.3 (of_token s.0))
-refused_stopped T D xs (TooNested p) s = absurd (subst IsOfToken s.3 (of_token s.0))
-refused_stopped T D xs NoMemory s = tt
+pub refused_stopped : (T : Rest) (D : Place → Type 0) (H : List Laid → Type 0) (xs : List Laid) (e : ParseFault) → IsStopped T H xs e → RefusedIn T D H xs e
+refused_stopped T D H xs (Expected p) s = s
+refused_stopped T D H xs (OutOfProfile f p) s = s
+refused_stopped T D H xs (Conflict p q) s = absurd (subst IsOfToken s.3 (of_token s.0))
+refused_stopped T D H xs (TooNested p) s = absurd (subst IsOfToken s.3 (of_token s.0))
+refused_stopped T D H xs NoMemory s = tt
 
 -- the first token is refused
-pub refused_first : (T : Rest) (D : Place → Type 0) (xs : List Laid) (e : ParseFault) → BegunBy T false [] → ((zs : List Laid) → SameHead xs zs → T false zs → ⊥) → IsRefusedAt xs e → RefusedIn T D xs e
-refused_first T D [] e b none h = absurd h
-refused_first T D (x ∷ xs) e b none h = refused_stopped T D (x ∷ xs) e (x, xs, record { read = []; whole = refl; begun = b; there = λ more t. none (x ∷ more) refl t }, h)
+pub refused_first : (T : Rest) (D : Place → Type 0) (H : List Laid → Type 0) (xs : List Laid) (e : ParseFault) → H [] → ((fit : Bool) → BegunBy T fit []) → ((zs : List Laid) → SameHead xs zs → T false zs → ⊥) → IsRefusedAt xs e → RefusedIn T D H xs e
+refused_first T D H [] e held b none h = absurd h
+refused_first T D H (x ∷ xs) e held b none h = refused_stopped T D H (x ∷ xs) e (x, xs, record { read = []; whole = refl; begun = b false; fits = b true; there = λ more t. none (x ∷ more) refl t; held = held }, h)
 
 pub same_first : (xs zs : List Laid) → SameHead xs zs → first_mark xs ≡ first_mark zs
 same_first [] zs h = absurd h
@@ -69,15 +69,15 @@ pub no_token : (m : Mark) (xs zs ys : List Laid) → Lacks m xs → SameHead xs 
 no_token m xs zs ys l s t = l (same_first xs zs s ∙ token_first m zs ys t)
 
 -- another token stands where one of a mark is expected
-pub token_refused : (m : Mark) (T : Rest) (D : Place → Type 0) (xs : List Laid) (e : ParseFault) → BegunBy (Marked m ▹ T) false [] → Lacks m xs → IsRefusedAt xs e → RefusedIn (Marked m ▹ T) D xs e
-token_refused m T D xs e b l h = refused_first (Marked m ▹ T) D xs e b (λ zs s t. no_token m xs zs t.0 l s t.1) h
+pub token_refused : (m : Mark) (T : Rest) (D : Place → Type 0) (H : List Laid → Type 0) (xs : List Laid) (e : ParseFault) → H [] → ((fit : Bool) → BegunBy (Marked m ▹ T) fit []) → Lacks m xs → IsRefusedAt xs e → RefusedIn (Marked m ▹ T) D H xs e
+token_refused m T D H xs e held b l h = refused_first (Marked m ▹ T) D H xs e held b (λ zs s t. no_token m xs zs t.0 l s t.1) h
 
-pub misses_refused : (m : Mark) (T : Rest) (D : Place → Type 0) (xs : List Laid) (e : ParseFault) → BegunBy (Marked m ▹ T) false [] → Misses m xs e → RefusedIn (Marked m ▹ T) D xs e
-misses_refused m T D xs (Expected p) b h = token_refused m T D xs (Expected p) b h.0 h.1
-misses_refused m T D xs (OutOfProfile f p) b h = token_refused m T D xs (OutOfProfile f p) b h.0 h.1
-misses_refused m T D xs (Conflict p q) b h = token_refused m T D xs (Conflict p q) b h.0 h.1
-misses_refused m T D xs (TooNested p) b h = token_refused m T D xs (TooNested p) b h.0 h.1
-misses_refused m T D xs NoMemory b h = tt
+pub misses_refused : (m : Mark) (T : Rest) (D : Place → Type 0) (H : List Laid → Type 0) (xs : List Laid) (e : ParseFault) → H [] → ((fit : Bool) → BegunBy (Marked m ▹ T) fit []) → Misses m xs e → RefusedIn (Marked m ▹ T) D H xs e
+misses_refused m T D H xs (Expected p) held b h = token_refused m T D H xs (Expected p) held b h.0 h.1
+misses_refused m T D H xs (OutOfProfile f p) held b h = token_refused m T D H xs (OutOfProfile f p) held b h.0 h.1
+misses_refused m T D H xs (Conflict p q) held b h = token_refused m T D H xs (Conflict p q) held b h.0 h.1
+misses_refused m T D H xs (TooNested p) held b h = token_refused m T D H xs (TooNested p) held b h.0 h.1
+misses_refused m T D H xs NoMemory held b h = tt
 
 pub misses : (m : Mark) (xs : List Laid) (e : ParseFault) → Lacks m xs → IsRefusedAt xs e → Misses m xs e
 misses m xs NoMemory l h = tt
@@ -89,8 +89,8 @@ misses m xs (TooNested p) l h = (l, h)
 pub misses_memory : (m : Mark) (xs : List Laid) (e : ParseFault) → e ≡ NoMemory → Misses m xs e
 misses_memory m xs e q = subst (Misses m xs) (sym q) tt
 
-pub refused_memory : (T : Rest) (D : Place → Type 0) (xs : List Laid) (e : ParseFault) → e ≡ NoMemory → RefusedIn T D xs e
-refused_memory T D xs e q = subst (RefusedIn T D xs) (sym q) tt
+pub refused_memory : (T : Rest) (D : Place → Type 0) (H : List Laid → Type 0) (xs : List Laid) (e : ParseFault) → e ≡ NoMemory → RefusedIn T D H xs e
+refused_memory T D H xs e q = subst (RefusedIn T D H xs) (sym q) tt
 
 -- ---- parts of parts
 

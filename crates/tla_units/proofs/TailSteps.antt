@@ -176,5 +176,5 @@ pub tail_begun : (fit : Bool) → BegunBy Tail fit []
 tail_begun fit = (last_tokens, some_tail fit)
 
 -- a token begins no unit, and is no equals signs
-pub unit_refused : (D : Place → Type 0) (xs : List Laid) (e : ParseFault) → NoUnit (first_mark xs) → IsRefusedAt xs e → RefusedIn Tail D xs e
-unit_refused D xs e h r = refused_first Tail D xs e (tail_begun false) (λ zs s t. let b = tail_begins false zs t in no_unit (first_mark xs) b.mark h (same_first xs zs s ∙ ap first_mark b.whole ∙ b.is) b.of_unit) r
+pub unit_refused : (D : Place → Type 0) (H : List Laid → Type 0) (xs : List Laid) (e : ParseFault) → H [] → NoUnit (first_mark xs) → IsRefusedAt xs e → RefusedIn Tail D H xs e
+unit_refused D H xs e held h r = refused_first Tail D H xs e held tail_begun (λ zs s t. let b = tail_begins false zs t in no_unit (first_mark xs) b.mark h (same_first xs zs s ∙ ap first_mark b.whole ∙ b.is) b.of_unit) r

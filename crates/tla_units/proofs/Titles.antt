@@ -6,18 +6,20 @@ use Rattle.tla_ast.specs.declared.laid.Laid.TheVariants.{Plain}
 use Rattle.tla_ast.specs.declared.token.Kind.TheVariants as kinds
 use Rattle.tla_ast.specs.Trees as tree
 use Rattle.tla_ast.specs.Grammar.{nothing, either}
+use Rattle.tla_exprs.specs.Nesting.{Shallow}
 use Rattle.tla_exprs.specs.declared.fault.ParseFault.{ParseFault}
 use Rattle.tla_exprs.specs.declared.fault.ParseFault.TheVariants.{Expected, Conflict, TooNested, OutOfProfile, NoMemory}
 use Rattle.tla_units.specs.Marks.{mark_of, first_mark}
 use Rattle.tla_units.specs.Rests.{Rest, ◌▹◌, Then, Marked, Title, Titled, FitsIf, Expression, Tail}
-use Rattle.tla_units.specs.Reads.{SameHead, Leads, Stops, IsStopped, RefusedIn, BegunBy, ReadsTitle, second_mark_is, DeepExpression, DeepTitled}
+use Rattle.tla_units.specs.Reads.{SameHead, Leads, Stops, IsStopped, RefusedIn, BegunBy, ReadsTitle, second_mark_is, DeepExpression, DeepTitled, ShallowTitled}
 use Rattle.tla_units.specs.declared.marks.Mark.{Mark}
 use Rattle.tla_units.specs.declared.marks.Mark.TheVariants as marks
 use Rattle.tla_units.proofs.Extents.{Passed}
-use Rattle.tla_units.proofs.Leading.{leads_on, meets_on, refused_on, same_head_append}
+use Rattle.tla_units.proofs.Leading.{leads_on, meets_on, refused_on, same_head_append, stay}
 use Rattle.tla_units.proofs.MarksTold.{told}
 use Rattle.tla_units.proofs.OneModuleTokens.{TextEnds}
 use Rattle.tla_units.proofs.RestSteps.{same_first, token_first}
+use Rattle.tla_units.proofs.ShallowRead.{shallow_titled}
 use Rattle.tla_units.proofs.TailSteps.{tail_ending, some_tail, last_tokens}
 
 -- an expression does not begin with a name and `==`
@@ -107,21 +109,26 @@ untitled_there (r ∷ read) rest xs x fit not whole none more vs (inr h) t = no_
 untitled_begun : (fit : Bool) (l : List Laid) → BegunBy (Then Expression Tail) fit l → BegunBy TitledTail fit l
 untitled_begun fit l b = (b.0, (l ++ b.0, inl refl, b.1))
 
-untitled_stopped : (xs : List Laid) (e : ParseFault) → NotTitled xs → IsStopped (Then Expression Tail) xs e → IsStopped TitledTail xs e
+untitled_shallow : (l : List Laid) → Shallow l → ShallowTitled l
+untitled_shallow l s = record { title = []; body = l; whole = refl; titled = inl refl; shallow = s }
+
+untitled_stopped : (xs : List Laid) (e : ParseFault) → NotTitled xs → IsStopped (Then Expression Tail) Shallow xs e → IsStopped TitledTail ShallowTitled xs e
 untitled_stopped xs e not s =
-    let t : Stops (Then Expression Tail) xs s.1 s.0 = s.2 in (
+    let t : Stops (Then Expression Tail) Shallow xs s.1 s.0 = s.2 in (
       s.0,
       s.1,
       record {
         read = t.read;
         whole = t.whole;
         begun = untitled_begun false t.read t.begun;
+        fits = untitled_begun true t.read t.fits;
         there = λ more u. untitled_there t.read s.1 xs s.0 false not t.whole t.there more u.0 u.1 u.2;
+        held = untitled_shallow t.read t.held;
       },
       s.3,
     )
 
-untitled_refused : (xs : List Laid) (e : ParseFault) → NotTitled xs → RefusedIn (Then Expression Tail) (DeepExpression xs) xs e → RefusedIn TitledTail (DeepTitled xs) xs e
+untitled_refused : (xs : List Laid) (e : ParseFault) → NotTitled xs → RefusedIn (Then Expression Tail) (DeepExpression xs) Shallow xs e → RefusedIn TitledTail (DeepTitled xs) ShallowTitled xs e
 untitled_refused xs (Expected p) not r = untitled_stopped xs (Expected p) not r
 untitled_refused xs (OutOfProfile f p) not r = untitled_stopped xs (OutOfProfile f p) not r
 untitled_refused xs (Conflict p q) not r = record {
@@ -132,6 +139,7 @@ untitled_refused xs (Conflict p q) not r = record {
   begun = untitled_begun false (r.read ++ r.here ∷ []) r.begun;
   fits = untitled_begun true r.read r.fits;
   none = λ more u. untitled_there r.read r.rest xs r.here true not r.whole r.none more u.0 u.1 u.2;
+  held = untitled_shallow r.read r.held;
   places = meets_on (BegunBy (Then Expression Tail) false) (BegunBy TitledTail false) [] r.read r.here p q (untitled_begun false) r.places;
 }
 untitled_refused xs (TooNested p) not r = record { title = []; body = xs; whole = refl; titled = inl refl; deep = r }
@@ -151,9 +159,16 @@ pub titled_passed : NoTitle → (xs ys zs : List Laid) → ReadsTitle xs ys → 
 titled_passed none xs ys zs (inl h) p = leads_on (Then Titled Tail) TitledTail Tail xs xs zs (titled_leads xs) (leads_on TitledTail (Then Expression Tail) Tail xs ys zs (title_leads none xs ys h) p.0)
 titled_passed none xs ys zs (inr h) p = leads_on (Then Titled Tail) TitledTail Tail xs xs zs (titled_leads xs) (untitled_leads xs zs h.1 (subst (λ v. Passed Expression Tail v zs) (sym h.0) p))
 
-same_refused : (xs ys : List Laid) (e : ParseFault) → xs ≡ ys → RefusedIn (Then Expression Tail) (DeepExpression ys) ys e → RefusedIn (Then Expression Tail) (DeepExpression xs) xs e
-same_refused xs ys e q r = subst (λ v. RefusedIn (Then Expression Tail) (DeepExpression v) v e) (sym q) r
+same_refused : (xs ys : List Laid) (e : ParseFault) → xs ≡ ys → RefusedIn (Then Expression Tail) (DeepExpression ys) Shallow ys e → RefusedIn (Then Expression Tail) (DeepExpression xs) Shallow xs e
+same_refused xs ys e q r = subst (λ v. RefusedIn (Then Expression Tail) (DeepExpression v) Shallow v e) (sym q) r
 
-pub titled_refused : NoTitle → (xs ys : List Laid) (e : ParseFault) → ReadsTitle xs ys → RefusedIn (Then Expression Tail) (DeepExpression ys) ys e → RefusedIn (Then Titled Tail) (DeepTitled xs) xs e
-titled_refused none xs ys e (inl h) r = refused_on (Then Titled Tail) TitledTail (DeepTitled xs) (DeepTitled xs) xs xs e (titled_leads xs) (λ l p d. d) (refused_on TitledTail (Then Expression Tail) (DeepTitled xs) (DeepExpression ys) xs ys e (title_leads none xs ys h) (λ l p d. title_deep xs ys p h d) r)
-titled_refused none xs ys e (inr h) r = refused_on (Then Titled Tail) TitledTail (DeepTitled xs) (DeepTitled xs) xs xs e (titled_leads xs) (λ l p d. d) (untitled_refused xs e h.1 (same_refused xs ys e h.0 r))
+maybe_titled_refused : NoTitle → (xs ys : List Laid) (e : ParseFault) → ReadsTitle xs ys → RefusedIn (Then Expression Tail) (DeepExpression ys) Shallow ys e → RefusedIn TitledTail (DeepTitled xs) ShallowTitled xs e
+maybe_titled_refused none xs ys e (inl h) r =
+    let there : Leads TitledTail (Then Expression Tail) xs ys = title_leads none xs ys h in
+    refused_on TitledTail (Then Expression Tail) (DeepTitled xs) (DeepExpression ys) ShallowTitled Shallow xs ys e there (λ p d. title_deep xs ys p h d) (shallow_titled xs ys there.text h there.whole) r
+maybe_titled_refused none xs ys e (inr h) r = untitled_refused xs e h.1 (same_refused xs ys e h.0 r)
+
+pub titled_refused : NoTitle → (xs ys : List Laid) (e : ParseFault) → ReadsTitle xs ys → RefusedIn (Then Expression Tail) (DeepExpression ys) Shallow ys e → RefusedIn (Then Titled Tail) (DeepTitled xs) ShallowTitled xs e
+titled_refused none xs ys e t r =
+    let there : Leads (Then Titled Tail) TitledTail xs xs = titled_leads xs in
+    refused_on (Then Titled Tail) TitledTail (DeepTitled xs) (DeepTitled xs) ShallowTitled ShallowTitled xs xs e there (λ p d. d) (stay ShallowTitled xs there.text there.whole) (maybe_titled_refused none xs ys e t r)

@@ -53,18 +53,21 @@ ReadsTitle xs ys = Title xs ys ⊎ ((xs ≡ ys) × (first_mark xs ≡ Some marks
 abbrev pub BegunBy : Rest → Bool → List Laid → Type 0
 BegunBy T fit read = (more : List Laid) × T fit (read ++ more)
 
--- a rest is begun up to one of the tokens, and none goes on through that one; ranges play no part
-pub record Stops (T : Rest) (xs rest : List Laid) (x : Laid) : Type 0 where
+-- A rest with its ranges is begun up to one of the tokens, and none goes on through that one, even where ranges play no part. Held tells how
+-- deep the tokens before that one stand.
+pub record Stops (T : Rest) (Held : List Laid → Type 0) (xs rest : List Laid) (x : Laid) : Type 0 where
   pub read : List Laid
   pub whole : xs ≡ read ++ x ∷ rest
   pub begun : BegunBy T false read
+  pub fits : BegunBy T true read
   pub there : (more : List Laid) → T false (read ++ x ∷ more) → ⊥
+  pub held : Held read
 
-abbrev pub IsStopped : Rest → List Laid → ParseFault → Type 0
-IsStopped T xs fault = (x : Laid) × (rest : List Laid) × Stops T xs rest x × (refusal_of x ≡ fault)
+abbrev pub IsStopped : Rest → (List Laid → Type 0) → List Laid → ParseFault → Type 0
+IsStopped T Held xs fault = (x : Laid) × (rest : List Laid) × Stops T Held xs rest x × (refusal_of x ≡ fault)
 
 -- up to one of the tokens a rest with its ranges is begun; through that one a rest goes on where ranges play no part, and none with them
-pub record Meeting (T : Rest) (xs : List Laid) (p q : Place) : Type 0 where
+pub record Meeting (T : Rest) (Held : List Laid → Type 0) (xs : List Laid) (p q : Place) : Type 0 where
   pub read : List Laid
   pub rest : List Laid
   pub here : Laid
@@ -72,20 +75,21 @@ pub record Meeting (T : Rest) (xs : List Laid) (p q : Place) : Type 0 where
   pub begun : BegunBy T false (read ++ here ∷ [])
   pub fits : BegunBy T true read
   pub none : (more : List Laid) → T true (read ++ here ∷ more) → ⊥
+  pub held : Held read
   pub places : Meets (BegunBy T false) read here p q
 
 -- why it is refused; of a token that stands too deep the second tells
-abbrev pub RefusedIn : Rest → (Place → Type 0) → List Laid → ParseFault → Type 0
-RefusedIn T Deep xs (Expected p) = IsStopped T xs (Expected p)
-RefusedIn T Deep xs (OutOfProfile f p) = IsStopped T xs (OutOfProfile f p)
-RefusedIn T Deep xs (Conflict p q) = Meeting T xs p q
-RefusedIn T Deep xs (TooNested p) = Deep p
-RefusedIn T Deep xs NoMemory = Unit {0}
+abbrev pub RefusedIn : Rest → (Place → Type 0) → (List Laid → Type 0) → List Laid → ParseFault → Type 0
+RefusedIn T Deep Held xs (Expected p) = IsStopped T Held xs (Expected p)
+RefusedIn T Deep Held xs (OutOfProfile f p) = IsStopped T Held xs (OutOfProfile f p)
+RefusedIn T Deep Held xs (Conflict p q) = Meeting T Held xs p q
+RefusedIn T Deep Held xs (TooNested p) = Deep p
+RefusedIn T Deep Held xs NoMemory = Unit {0}
 
 abbrev pub NeverDeep : Place → Type 0
 NeverDeep p = ⊥
 
--- ---- tokens that stand too deep
+-- ---- tokens that stand too deep, and those that do not
 
 -- an expression begins with these tokens, and the token there is too deep in it
 abbrev pub DeepExpression : List Laid → Place → Type 0
@@ -103,7 +107,15 @@ pub record DeepTitled (xs : List Laid) (p : Place) : Type 0 where
   pub titled : either nothing Title title []
   pub deep : DeepExpression body p
 
--- the same behind ASSUME or THEOREM, and a title or none
+-- each token of an expression behind a title or none stands inside few enough
+pub record ShallowTitled (read : List Laid) : Type 0 where
+  pub title : List Laid
+  pub body : List Laid
+  pub whole : read ≡ title ++ body
+  pub titled : either nothing Title title []
+  pub shallow : Shallow body
+
+-- the token there is too deep in an expression behind ASSUME or THEOREM, and a title or none
 pub record DeepStated (xs : List Laid) (p : Place) : Type 0 where
   pub word : Laid
   pub behind : List Laid
@@ -114,10 +126,11 @@ pub record DeepStated (xs : List Laid) (p : Place) : Type 0 where
 abbrev pub DeepUnit : List Laid → Place → Type 0
 DeepUnit xs p = DeepDefinition xs p ⊎ DeepStated xs p
 
--- the same behind units that fit
-pub record DeepUnits (T : Rest) (xs : List Laid) (p : Place) : Type 0 where
+-- the same behind units that fit; Held tells that no token of those is too deep
+pub record DeepUnits (T : Rest) (Held : List Laid → Type 0) (xs : List Laid) (p : Place) : Type 0 where
   pub before : List Laid
   pub body : List Laid
   pub whole : xs ≡ before ++ body
   pub units : (zs : List Laid) → Tail true zs → T true (before ++ zs)
+  pub shallow : Held before
   pub deep : DeepUnit body p

@@ -1,12 +1,15 @@
 -- Why a list of laid tokens is refused as a module.
-use Rattle.std.specs.Prelude.{◌≡◌, ◌⊎◌, List, [], ◌∷◌, ◌++◌}
+use Rattle.std.specs.Prelude.{◌≡◌, ◌⊎◌, ℕ, zero, suc, List, [], ◌∷◌, ◌++◌}
 use Rattle.trace_base.specs.declared.place.Place.{Place}
 use Rattle.tla_ast.specs.declared.laid.Laid.{Laid}
+use Rattle.tla_ast.specs.declared.module.Declared.{Declared}
 use Rattle.tla_ast.specs.declared.module.Module.{Module}
+use Rattle.tla_ast.specs.declared.module.Unit.{Unit as ModuleUnit}
 use Rattle.tla_ast.specs.declared.token.Kind.TheVariants as kinds
+use Rattle.tla_ast.specs.declared.token.Word.TheVariants as words
 use Rattle.tla_ast.specs.Begun.{BegunModule, FittingBegunModule}
-use Rattle.tla_ast.specs.Grammar.{◌⨟◌, either}
-use Rattle.tla_ast.specs.Modules.{MaybeTitle, SpellsModule, assume_word, theorem_word}
+use Rattle.tla_ast.specs.Grammar.{Span, ◌⨟◌, nothing, either, some_token, word, name}
+use Rattle.tla_ast.specs.Modules.{DeclaredNamesText, ExtendsText, MaybeTitle, SpellsModule, UnitText, variable_word, constant_word, assume_word, theorem_word}
 use Rattle.tla_exprs.specs.Beginnings.{FittingBegun, FittingBegunDefinition}
 use Rattle.tla_exprs.specs.Meeting.{Meets, at_place}
 use Rattle.tla_exprs.specs.Nesting.{Shallow, ShallowDefinition}
@@ -15,14 +18,82 @@ use Rattle.tla_exprs.specs.Refused.{refusal_of}
 use Rattle.tla_exprs.specs.declared.fault.ParseFault.{ParseFault}
 use Rattle.tla_exprs.specs.declared.fault.ParseFault.TheVariants.{Expected, Conflict, TooNested, OutOfProfile, NoMemory}
 
--- A module is begun up to one of the tokens, and none goes on through that one, of which this is the refusal. Ranges play no part.
+-- ---- where no token stands too deep
+
+-- these tokens are the beginning of such a part, or all of it
+abbrev pub Begins : Span → List Laid → Type 0
+Begins R read = (more : List Laid) × R (read ++ more) []
+
+-- VARIABLE, CONSTANT or the like, and names with commas between them
+abbrev pub DeclarationText : Span
+DeclarationText = either variable_word constant_word ⨟ (λ xs ys. (names : List Declared) × DeclaredNamesText names xs ys)
+
+-- a declaration, dashes, or the equals signs behind all units: no expression stands in one, and nothing in it is ever unfinished
+abbrev pub BareUnit : Span
+BareUnit = either DeclarationText (either (some_token kinds.Dashes) (some_token kinds.Equals))
+
+-- the word of an assumption or of a theorem, and a name and `==` or not
+abbrev pub StatedText : List Laid → Type 0
+StatedText before = (either assume_word theorem_word ⨟ MaybeTitle) before []
+
+-- behind such a word, and a title or none, each token of an expression stands inside at most 100 unfinished constructs
+pub record ShallowStated (read : List Laid) : Type 0 where
+  pub before : List Laid
+  pub body : List Laid
+  pub whole : read ≡ before ++ body
+  pub stated : StatedText before
+  pub shallow : Shallow body
+
+-- These tokens are a unit or the beginning of one, perhaps with no token, and each of them stands inside at most 100 unfinished constructs:
+-- no expression is there, or it is so of a definition, or of what is assumed or stated.
+abbrev pub ShallowUnit : List Laid → Type 0
+ShallowUnit read = Begins BareUnit read ⊎ (ShallowDefinition read ⊎ ShallowStated read)
+
+-- a whole unit, each of its tokens inside at most 100
+pub record ShallowWholeUnit (xs ys : List Laid) : Type 0 where
+  pub text : List Laid
+  pub whole : xs ≡ text ++ ys
+  pub unit : ModuleUnit
+  pub spelled : UnitText unit text []
+  pub shallow : ShallowUnit text
+
+-- so many of them
+abbrev pub SoManyUnits : ℕ → Span
+SoManyUnits zero = nothing
+SoManyUnits (suc n) = ShallowWholeUnit ⨟ SoManyUnits n
+
+abbrev pub ShallowWholeUnits : Span
+ShallowWholeUnits xs ys = (n : ℕ) × SoManyUnits n xs ys
+
+-- whole units one behind another, and then the beginning of one more or nothing
+abbrev pub ShallowUnits : List Laid → Type 0
+ShallowUnits read = (last : List Laid) × ShallowWholeUnits read last × ShallowUnit last
+
+abbrev pub SomeExtends : Span
+SomeExtends xs ys = (names : List (List ℕ)) × ExtendsText names xs ys
+
+-- the heading of a module, and what it extends
+abbrev pub HeadingText : Span
+HeadingText = some_token kinds.Dashes ⨟ word words.Module ⨟ (λ xs ys. (n : List ℕ) × name n xs ys) ⨟ some_token kinds.Dashes ⨟ SomeExtends
+
+-- Each token stands inside at most 100 unfinished constructs of its unit: these are the beginning of a heading with what it extends, where
+-- nothing is unfinished, or all of that and then units of which it is so.
+abbrev pub ShallowModule : List Laid → Type 0
+ShallowModule read = Begins HeadingText read ⊎ ((behind : List Laid) × HeadingText read behind × ShallowUnits behind)
+
+-- ---- refusals
+
+-- A module with its ranges is begun up to one of the tokens, and none goes on through that one, even where ranges play no part. This is the
+-- refusal of that token.
 pub record CanNotFollow (laid : List Laid) (fault : ParseFault) : Type 0 where
   pub read : List Laid
   pub here : Laid
   pub rest : List Laid
   pub whole : laid ≡ read ++ here ∷ rest
   pub begun : BegunModule read
+  pub fits : FittingBegunModule read
   pub there : ¬ (BegunModule (read ++ here ∷ []))
+  pub shallow : ShallowModule read
   pub refusal : refusal_of here ≡ fault
 
 -- Up to one of the tokens a module with its ranges is begun; through that one a module goes on where ranges play no part, and none with
@@ -35,6 +106,7 @@ pub record Conflicts (laid : List Laid) (p q : Place) : Type 0 where
   pub begun : BegunModule (read ++ here ∷ [])
   pub fits : FittingBegunModule read
   pub none : ¬ (FittingBegunModule (read ++ here ∷ []))
+  pub shallow : ShallowModule read
   pub places : Meets BegunModule read here p q
 
 -- with equals signs and the End behind them these are a module: its heading, what it extends and whole units
@@ -43,10 +115,6 @@ pub record WholeUnits (before : List Laid) : Type 0 where
   pub equals : Place
   pub ends : Place
   pub spelled : SpellsModule read_as (before ++ at_place kinds.Equals equals ∷ at_place kinds.End ends ∷ [])
-
--- the word of an assumption or of a theorem, and a name and `==` or not
-abbrev pub StatedText : List Laid → Type 0
-StatedText before = (either assume_word theorem_word ⨟ MaybeTitle) before []
 
 -- an expression begins behind such a word, and the token here is the first of it that stands inside too many unfinished constructs
 pub record TooNestedStated (laid : List Laid) (p : Place) : Type 0 where
@@ -62,6 +130,7 @@ pub record TooNestedUnit (laid : List Laid) (p : Place) : Type 0 where
   pub body : List Laid
   pub whole : laid ≡ before ++ body
   pub units : WholeUnits before
+  pub shallow : ShallowModule before
   pub deep : IsTooNested FittingBegunDefinition ShallowDefinition body p ⊎ TooNestedStated body p
 
 -- why the laid tokens are refused as a module

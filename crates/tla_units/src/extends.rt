@@ -3,6 +3,7 @@
 ghost use Rattle.std.specs.Prelude.{◌≡◌, ◌<◌, ◌≤◌, length, drop, IfOk, IfErr};
 ghost use Rattle.tla_ast.specs.Modules.{LaidEndsOnce, ExtendsText};
 ghost use Rattle.tla_units.specs.Reads.{Leads, RefusedIn, NeverDeep};
+ghost use Rattle.tla_units.specs.Refusals.{Begins};
 ghost use Rattle.tla_units.specs.Rests.{◌▹◌, Extended, Tail};
 
 use crate::marks::{Mark, mark_at};
@@ -20,7 +21,7 @@ pub fn extends(alloc: Global, laid: &[Laid], from: usize) -> Result<(Names, usiz
     ensures ahead { IfOk result (λ r. from ≤ r.1) }
     ensures within { IfOk result (λ r. r.1 < length laid.now) }
     ensures far { IfOk result (λ r. Leads (Extended ▹ Tail) Tail (drop from laid.now) (drop r.1 laid.now)) }
-    ensures refused { IfErr result (λ e. RefusedIn (Extended ▹ Tail) NeverDeep (drop from laid.now) e) }
+    ensures refused { IfErr result (λ e. RefusedIn (Extended ▹ Tail) NeverDeep (Begins Extended) (drop from laid.now) e) }
 {
     if mark_at(laid, from) == Some(Mark::Extends) {
         let (names, next) = names(alloc, laid, from + 1)?;

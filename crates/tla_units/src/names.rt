@@ -5,6 +5,7 @@ ghost use Rattle.tla_ast.specs.Grammar.{NamesText};
 ghost use Rattle.tla_ast.specs.Modules.{LaidEndsOnce, DeclaredText, DeclaredNamesText};
 ghost use Rattle.tla_units.specs.Parts.{Part};
 ghost use Rattle.tla_units.specs.Reads.{Leads, Misses, RefusedIn, NeverDeep};
+ghost use Rattle.tla_units.specs.Refusals.{Begins};
 ghost use Rattle.tla_units.specs.Rests.{◌▹◌, Marked, Listed, Tail};
 ghost use Rattle.tla_units.specs.declared.marks.Mark.TheVariants as marks;
 
@@ -51,7 +52,7 @@ pub fn declared_names(
     requires inside { from < length laid.now }
     ensures part { IfOk result (λ r. Part (DeclaredNamesText r.0) laid.now from r.1) }
     ensures far { IfOk result (λ r. Leads (Listed ▹ Tail) Tail (drop from laid.now) (drop r.1 laid.now)) }
-    ensures refused { IfErr result (λ e. RefusedIn (Listed ▹ Tail) NeverDeep (drop from laid.now) e) }
+    ensures refused { IfErr result (λ e. RefusedIn (Listed ▹ Tail) NeverDeep (Begins Listed) (drop from laid.now) e) }
 {
     let mut names = DeclaredNames::new(alloc);
     let (first, mut next) = declared(laid, from)?;
@@ -70,7 +71,7 @@ pub fn names(alloc: Global, laid: &[Laid], from: usize) -> Result<(Names, usize)
     requires inside { from < length laid.now }
     ensures part { IfOk result (λ r. Part (NamesText r.0) laid.now from r.1) }
     ensures far { IfOk result (λ r. Leads (Listed ▹ Tail) Tail (drop from laid.now) (drop r.1 laid.now)) }
-    ensures refused { IfErr result (λ e. RefusedIn (Listed ▹ Tail) NeverDeep (drop from laid.now) e) }
+    ensures refused { IfErr result (λ e. RefusedIn (Listed ▹ Tail) NeverDeep (Begins Listed) (drop from laid.now) e) }
 {
     let mut names = Names::new(alloc);
     let (first, mut next) = declared(laid, from)?;

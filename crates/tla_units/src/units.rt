@@ -5,6 +5,7 @@ ghost use Rattle.tla_ast.specs.Modules.{LaidEndsOnce, MaybeTitle, variable_word,
 ghost use Rattle.tla_units.specs.Marks.{first_mark};
 ghost use Rattle.tla_units.specs.Parts.{Part};
 ghost use Rattle.tla_units.specs.Reads.{Leads, Lacks, ReadsTitle, RefusedIn, DeepUnit, DeepUnits};
+ghost use Rattle.tla_units.specs.Refusals.{ShallowUnit, ShallowUnits, ShallowWholeUnit, ShallowWholeUnits};
 ghost use Rattle.tla_units.specs.Rests.{Marked, Last, Tail};
 ghost use Rattle.tla_units.specs.declared.marks.Mark.TheVariants as marks;
 
@@ -41,7 +42,8 @@ fn variables(alloc: Global, laid: &[Laid], from: usize) -> Result<(Unit, usize),
     ensures part { IfOk result (λ r. Part (UnitText r.0) laid.now from r.1) }
     ensures fits { IfOk result (λ r. UnitFits r.0) }
     ensures far { IfOk result (λ r. Leads Tail Tail (drop from laid.now) (drop r.1 laid.now)) }
-    ensures refused { IfErr result (λ e. RefusedIn Tail (DeepUnit (drop from laid.now)) (drop from laid.now) e) }
+    ensures shallow { IfOk result (λ r. ShallowWholeUnit (drop from laid.now) (drop r.1 laid.now)) }
+    ensures refused { IfErr result (λ e. RefusedIn Tail (DeepUnit (drop from laid.now)) ShallowUnit (drop from laid.now) e) }
 {
     let (names, next) = declared_names(alloc, laid, from + 1)?;
     Ok((Unit::Variables(names), next))
@@ -55,7 +57,8 @@ fn constants(alloc: Global, laid: &[Laid], from: usize) -> Result<(Unit, usize),
     ensures part { IfOk result (λ r. Part (UnitText r.0) laid.now from r.1) }
     ensures fits { IfOk result (λ r. UnitFits r.0) }
     ensures far { IfOk result (λ r. Leads Tail Tail (drop from laid.now) (drop r.1 laid.now)) }
-    ensures refused { IfErr result (λ e. RefusedIn Tail (DeepUnit (drop from laid.now)) (drop from laid.now) e) }
+    ensures shallow { IfOk result (λ r. ShallowWholeUnit (drop from laid.now) (drop r.1 laid.now)) }
+    ensures refused { IfErr result (λ e. RefusedIn Tail (DeepUnit (drop from laid.now)) ShallowUnit (drop from laid.now) e) }
 {
     let (names, next) = declared_names(alloc, laid, from + 1)?;
     Ok((Unit::Constants(names), next))
@@ -69,7 +72,8 @@ fn defined(alloc: Global, laid: &[Laid], from: usize) -> Result<(Unit, usize), P
     ensures part { IfOk result (λ r. Part (UnitText r.0) laid.now from r.1) }
     ensures fits { IfOk result (λ r. UnitFits r.0) }
     ensures far { IfOk result (λ r. Leads Tail Tail (drop from laid.now) (drop r.1 laid.now)) }
-    ensures refused { IfErr result (λ e. RefusedIn Tail (DeepUnit (drop from laid.now)) (drop from laid.now) e) }
+    ensures shallow { IfOk result (λ r. ShallowWholeUnit (drop from laid.now) (drop r.1 laid.now)) }
+    ensures refused { IfErr result (λ e. RefusedIn Tail (DeepUnit (drop from laid.now)) ShallowUnit (drop from laid.now) e) }
 {
     laws_of_extents();
     let (definition, next) = definition(alloc, laid, from)?;
@@ -84,7 +88,8 @@ fn assumption(alloc: Global, laid: &[Laid], from: usize) -> Result<(Unit, usize)
     ensures part { IfOk result (λ r. Part (UnitText r.0) laid.now from r.1) }
     ensures fits { IfOk result (λ r. UnitFits r.0) }
     ensures far { IfOk result (λ r. Leads Tail Tail (drop from laid.now) (drop r.1 laid.now)) }
-    ensures refused { IfErr result (λ e. RefusedIn Tail (DeepUnit (drop from laid.now)) (drop from laid.now) e) }
+    ensures shallow { IfOk result (λ r. ShallowWholeUnit (drop from laid.now) (drop r.1 laid.now)) }
+    ensures refused { IfErr result (λ e. RefusedIn Tail (DeepUnit (drop from laid.now)) ShallowUnit (drop from laid.now) e) }
 {
     laws_of_extents();
     laws_of_refusals();
@@ -101,7 +106,8 @@ fn theorem(alloc: Global, laid: &[Laid], from: usize) -> Result<(Unit, usize), P
     ensures part { IfOk result (λ r. Part (UnitText r.0) laid.now from r.1) }
     ensures fits { IfOk result (λ r. UnitFits r.0) }
     ensures far { IfOk result (λ r. Leads Tail Tail (drop from laid.now) (drop r.1 laid.now)) }
-    ensures refused { IfErr result (λ e. RefusedIn Tail (DeepUnit (drop from laid.now)) (drop from laid.now) e) }
+    ensures shallow { IfOk result (λ r. ShallowWholeUnit (drop from laid.now) (drop r.1 laid.now)) }
+    ensures refused { IfErr result (λ e. RefusedIn Tail (DeepUnit (drop from laid.now)) ShallowUnit (drop from laid.now) e) }
 {
     laws_of_extents();
     laws_of_refusals();
@@ -119,7 +125,8 @@ fn unit(alloc: Global, laid: &[Laid], from: usize) -> Result<(Unit, usize), Pars
     ensures part { IfOk result (λ r. Part (UnitText r.0) laid.now from r.1) }
     ensures fits { IfOk result (λ r. UnitFits r.0) }
     ensures far { IfOk result (λ r. Leads Tail Tail (drop from laid.now) (drop r.1 laid.now)) }
-    ensures refused { IfErr result (λ e. RefusedIn Tail (DeepUnit (drop from laid.now)) (drop from laid.now) e) }
+    ensures shallow { IfOk result (λ r. ShallowWholeUnit (drop from laid.now) (drop r.1 laid.now)) }
+    ensures refused { IfErr result (λ e. RefusedIn Tail (DeepUnit (drop from laid.now)) ShallowUnit (drop from laid.now) e) }
 {
     match mark_at(laid, from) {
         Some(Mark::Variables) => variables(alloc, laid, from),
@@ -145,7 +152,8 @@ pub fn units(alloc: Global, laid: &[Laid], from: usize) -> Result<(Units, usize)
     ensures fits { IfOk result (λ r. UnitsFit r.0) }
     ensures within { IfOk result (λ r. r.1 < length laid.now) }
     ensures far { IfOk result (λ r. Leads Tail Last (drop from laid.now) (drop r.1 laid.now)) }
-    ensures refused { IfErr result (λ e. RefusedIn Tail (DeepUnits Tail (drop from laid.now)) (drop from laid.now) e) }
+    ensures shallow { IfOk result (λ r. ShallowWholeUnits (drop from laid.now) (drop r.1 laid.now)) }
+    ensures refused { IfErr result (λ e. RefusedIn Tail (DeepUnits Tail ShallowUnits (drop from laid.now)) ShallowUnits (drop from laid.now) e) }
 {
     let mut units = Units::new(alloc);
     let mut next = from;

@@ -1,6 +1,7 @@
 use Rattle.std.specs.Prelude.{IfErr}
 use Rattle.std.proofs.Common.{rules}
 use Rattle.tla_exprs.specs.Beginnings.{BegunDefinition, FittingBegunDefinition}
+use Rattle.tla_exprs.specs.Nesting.{ShallowDefinition}
 use Rattle.tla_exprs.specs.Refused.{Refuses}
 use Rattle.tla_exprs.specs.declared.frame.Mode.TheVariants as mode
 use Rattle.tla_exprs.specs.declared.frame.Scope.TheVariants as scopes
@@ -11,7 +12,7 @@ use Rattle.tla_exprs.proofs.RefusedSo.{TextsFrom, texts_of_definitions, definiti
 use Rattle.tla_exprs.proofs.UnendedTexts.{unended_definition}
 use Rattle.tla_exprs.proofs.reader.definition.Goals as goal
 
-texts : TextsFrom (mode.DefinitionName scopes.Unit) BegunDefinition FittingBegunDefinition
+texts : TextsFrom (mode.DefinitionName scopes.Unit) BegunDefinition FittingBegunDefinition ShallowDefinition
 texts = texts_of_definitions definition_ran_fits definition_clash_meets
 
 pub returns-in-Definition-clause-spelled : goal.returns-in-Definition-clause-spelled
@@ -28,13 +29,13 @@ returns-in-Definition-clause-ahead c =
 
 pub returns-in-Definition-clause-far : goal.returns-in-Definition-clause-far
 returns-in-Definition-clause-far c =
-    definition_goes (mode.DefinitionName scopes.Unit) BegunDefinition FittingBegunDefinition texts
+    definition_goes (mode.DefinitionName scopes.Unit) BegunDefinition FittingBegunDefinition ShallowDefinition texts
     c.args.laid.now c.args.from c.in-Definition.behind c.in-Definition.definition c.in_ok-definition.field-0 c.in_ok-definition.ensures.read c.in-Definition.is
 
 pub returns-in_err-definition-clause-refused : goal.returns-in_err-definition-clause-refused
 returns-in_err-definition-clause-refused c =
     let q : IfErr c.from_residual.result (λ e. Refuses c.args.laid.now c.args.from (mode.DefinitionName scopes.Unit) e) = search rules in
-    refused_result (mode.DefinitionName scopes.Unit) BegunDefinition FittingBegunDefinition texts c.args.laid.now c.args.from c.from_residual.result c.requires q
+    refused_result (mode.DefinitionName scopes.Unit) BegunDefinition FittingBegunDefinition ShallowDefinition texts c.args.laid.now c.args.from c.from_residual.result c.requires q
 
 pub returns-clause-refused : goal.returns-clause-refused
 returns-clause-refused c = absurd (definition_only _ _ _ _ _ c.in_ok-definition.ensures.read c.in-Expression.is)

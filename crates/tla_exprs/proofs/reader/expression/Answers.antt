@@ -2,6 +2,7 @@ use Rattle.std.specs.Prelude.{IfErr}
 use Rattle.std.proofs.Common.{rules}
 use Rattle.tla_ast.specs.Begun.{Begun}
 use Rattle.tla_exprs.specs.Beginnings.{FittingBegun}
+use Rattle.tla_exprs.specs.Nesting.{Shallow}
 use Rattle.tla_exprs.specs.Refused.{Refuses}
 use Rattle.tla_exprs.specs.declared.frame.Mode.TheVariants as mode
 use Rattle.tla_exprs.proofs.FittingEnds.{ran_fits}
@@ -11,7 +12,7 @@ use Rattle.tla_exprs.proofs.RefusedSo.{TextsFrom, texts_of_expressions, expressi
 use Rattle.tla_exprs.proofs.UnendedTexts.{unended_result}
 use Rattle.tla_exprs.proofs.reader.expression.Goals as goal
 
-texts : TextsFrom mode.Want Begun FittingBegun
+texts : TextsFrom mode.Want Begun FittingBegun Shallow
 texts = texts_of_expressions ran_fits clashed_meets
 
 pub returns-in-Expression-clause-spelled : goal.returns-in-Expression-clause-spelled
@@ -27,12 +28,12 @@ returns-clause-refused c = absurd (expression_only _ _ _ _ _ c.in_ok-e.ensures.r
 
 pub returns-in-Expression-clause-far : goal.returns-in-Expression-clause-far
 returns-in-Expression-clause-far c =
-    expression_goes mode.Want Begun FittingBegun texts c.args.laid.now c.args.from c.in-Expression.behind c.in-Expression.e c.in_ok-e.field-0 c.in_ok-e.ensures.read c.in-Expression.is
+    expression_goes mode.Want Begun FittingBegun Shallow texts c.args.laid.now c.args.from c.in-Expression.behind c.in-Expression.e c.in_ok-e.field-0 c.in_ok-e.ensures.read c.in-Expression.is
 
 pub returns-in_err-e-clause-refused : goal.returns-in_err-e-clause-refused
 returns-in_err-e-clause-refused c =
     let q : IfErr c.from_residual.result (λ e. Refuses c.args.laid.now c.args.from mode.Want e) = search rules in
-    refused_result mode.Want Begun FittingBegun texts c.args.laid.now c.args.from c.from_residual.result c.requires q
+    refused_result mode.Want Begun FittingBegun Shallow texts c.args.laid.now c.args.from c.from_residual.result c.requires q
 
 pub returns-in_err-e-clause-unended : goal.returns-in_err-e-clause-unended
 returns-in_err-e-clause-unended c =

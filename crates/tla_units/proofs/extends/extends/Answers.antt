@@ -1,6 +1,7 @@
 use Rattle.std.proofs.Common.{◌≡◌, ◌+◌, Some, drop, rules, ◌∙◌}
 use Rattle.std.specs.Result.{IfErr}
 use Rattle.tla_units.specs.Reads.{RefusedIn, NeverDeep}
+use Rattle.tla_units.specs.Refusals.{Begins}
 use Rattle.tla_units.specs.Rests.{◌▹◌, Marked, Listed, Extended, Tail}
 use Rattle.tla_units.specs.declared.marks.Mark.TheVariants as marks
 use Rattle.tla_units.proofs.NamesRead.{some_extended_far, some_extended_refused, none_extended_far}
@@ -11,8 +12,8 @@ pub returns-in_err-names-clause-refused : goal.returns-in_err-names-clause-refus
 returns-in_err-names-clause-refused c =
     let m : c.mark_at.result ≡ Some marks.Extends = search rules in
     let word : Marked marks.Extends (drop c.args.from c.args.laid.now) (drop (c.args.from + 1) c.args.laid.now) = at_some (λ m. Marked m (drop c.args.from c.args.laid.now) (drop (c.args.from + 1) c.args.laid.now)) c.mark_at.result marks.Extends m c.mark_at.ensures.token in
-    let q : IfErr c.from_residual.result (λ e. RefusedIn (Listed ▹ Tail) NeverDeep (drop (c.args.from + 1) c.args.laid.now) e) = search rules in
-    err_mapped c.from_residual.result (λ e. RefusedIn (Listed ▹ Tail) NeverDeep (drop (c.args.from + 1) c.args.laid.now) e) (λ e. RefusedIn (Extended ▹ Tail) NeverDeep (drop c.args.from c.args.laid.now) e) q (λ e h. some_extended_refused (drop c.args.from c.args.laid.now) (drop (c.args.from + 1) c.args.laid.now) e word h)
+    let q : IfErr c.from_residual.result (λ e. RefusedIn (Listed ▹ Tail) NeverDeep (Begins Listed) (drop (c.args.from + 1) c.args.laid.now) e) = search rules in
+    err_mapped c.from_residual.result (λ e. RefusedIn (Listed ▹ Tail) NeverDeep (Begins Listed) (drop (c.args.from + 1) c.args.laid.now) e) (λ e. RefusedIn (Extended ▹ Tail) NeverDeep (Begins Extended) (drop c.args.from c.args.laid.now) e) q (λ e h. some_extended_refused (drop c.args.from c.args.laid.now) (drop (c.args.from + 1) c.args.laid.now) e word h)
 
 pub returns-then-eq-clause-far : goal.returns-then-eq-clause-far
 returns-then-eq-clause-far c =

@@ -2,9 +2,11 @@ use Rattle.std.proofs.Common.{◌≡◌, ◌+◌, Some, drop, rules, ◌∙◌}
 use Rattle.std.specs.Result.{IfErr}
 use Rattle.tla_units.specs.Parts.{Part, MarkText}
 use Rattle.tla_units.specs.Reads.{Misses, RefusedIn, NeverDeep}
+use Rattle.tla_units.specs.Refusals.{Begins}
 use Rattle.tla_units.specs.Rests.{◌▹◌, Marked, Listed, Tail}
 use Rattle.tla_units.specs.declared.marks.Mark.TheVariants as marks
 use Rattle.tla_units.proofs.NamesRead.{list_first, list_first_refused, list_more, list_more_refused, list_end}
+use Rattle.tla_units.proofs.OfficialBack.{listed_from}
 use Rattle.tla_units.proofs.Parts.{one_name, one_more_name}
 use Rattle.tla_units.proofs.RestSteps.{at_some, err_mapped}
 use Rattle.tla_units.proofs.names.names.Goals as goal
@@ -12,7 +14,7 @@ use Rattle.tla_units.proofs.names.names.Goals as goal
 pub returns-in_err-first-clause-refused : goal.returns-in_err-first-clause-refused
 returns-in_err-first-clause-refused c =
     let q : IfErr c.from_residual.result (λ e. Misses marks.Name (drop c.args.from c.args.laid.now) e) = search rules in
-    err_mapped c.from_residual.result (λ e. Misses marks.Name (drop c.args.from c.args.laid.now) e) (λ e. RefusedIn (Listed ▹ Tail) NeverDeep (drop c.args.from c.args.laid.now) e) q (list_first_refused (drop c.args.from c.args.laid.now))
+    err_mapped c.from_residual.result (λ e. Misses marks.Name (drop c.args.from c.args.laid.now) e) (λ e. RefusedIn (Listed ▹ Tail) NeverDeep (Begins Listed) (drop c.args.from c.args.laid.now) e) q (list_first_refused (drop c.args.from c.args.laid.now))
 
 pub loop-names-init : goal.loop-names-init
 loop-names-init c = record {
@@ -25,7 +27,7 @@ returns-in_err-name-clause-refused c =
     let m : c.mark_at.result ≡ Some marks.Comma = search rules in
     let comma : Marked marks.Comma (drop c.loop-names.next c.args.laid.now) (drop (c.loop-names.next + 1) c.args.laid.now) = at_some (λ m. Marked m (drop c.loop-names.next c.args.laid.now) (drop (c.loop-names.next + 1) c.args.laid.now)) c.mark_at.result marks.Comma m c.mark_at.ensures.token in
     let q : IfErr c.from_residual-in_err-name.result (λ e. Misses marks.Name (drop (c.loop-names.next + 1) c.args.laid.now) e) = search rules in
-    err_mapped c.from_residual-in_err-name.result (λ e. Misses marks.Name (drop (c.loop-names.next + 1) c.args.laid.now) e) (λ e. RefusedIn (Listed ▹ Tail) NeverDeep (drop c.args.from c.args.laid.now) e) q (λ e h. list_more_refused (drop c.args.from c.args.laid.now) (drop c.loop-names.next c.args.laid.now) (drop (c.loop-names.next + 1) c.args.laid.now) e c.loop-names.invariant.far comma h)
+    err_mapped c.from_residual-in_err-name.result (λ e. Misses marks.Name (drop (c.loop-names.next + 1) c.args.laid.now) e) (λ e. RefusedIn (Listed ▹ Tail) NeverDeep (Begins Listed) (drop c.args.from c.args.laid.now) e) q (λ e h. list_more_refused (drop c.args.from c.args.laid.now) (drop c.loop-names.next c.args.laid.now) (drop (c.loop-names.next + 1) c.args.laid.now) e (listed_from c.loop-names.names (drop c.args.from c.args.laid.now) (drop c.loop-names.next c.args.laid.now) c.loop-names.invariant.part.text) c.loop-names.invariant.far comma h)
 
 pub loop-names-preserved : goal.loop-names-preserved
 loop-names-preserved c =

@@ -3,12 +3,17 @@ use Rattle.tla_units.specs.Marks.{first_mark}
 use Rattle.tla_units.specs.Reads.{DeepUnit}
 use Rattle.tla_units.specs.Rests.{Marked}
 use Rattle.tla_units.specs.declared.marks.Mark.TheVariants as marks
+use Rattle.tla_units.proofs.Official.{marked_text}
+use Rattle.tla_units.proofs.ShallowRead.{dashes_shallow}
 use Rattle.tla_units.proofs.TailSteps.{tail_dashes}
 use Rattle.tla_units.proofs.UnitsRead.{other_refused}
 use Rattle.tla_units.proofs.units.unit.Goals as goal
 
 pub returns-in-Some-Dashes-clause-far : goal.returns-in-Some-Dashes-clause-far
 returns-in-Some-Dashes-clause-far c = tail_dashes (drop c.args.from c.args.laid.now) (drop (c.args.from + 1) c.args.laid.now) (subst (λ m. Marked m (drop c.args.from c.args.laid.now) (drop (c.args.from + 1) c.args.laid.now)) c.in-Some-Dashes.field-0-is c.in-Some-Dashes.ensures.token)
+
+pub returns-in-Some-Dashes-clause-shallow : goal.returns-in-Some-Dashes-clause-shallow
+returns-in-Some-Dashes-clause-shallow c = dashes_shallow (drop c.args.from c.args.laid.now) (drop (c.args.from + 1) c.args.laid.now) (marked_text marks.Dashes (drop c.args.from c.args.laid.now) (drop (c.args.from + 1) c.args.laid.now) (subst (λ m. Marked m (drop c.args.from c.args.laid.now) (drop (c.args.from + 1) c.args.laid.now)) c.in-Some-Dashes.field-0-is c.in-Some-Dashes.ensures.token))
 
 pub returns-in-Some-Comma-clause-refused : goal.returns-in-Some-Comma-clause-refused
 returns-in-Some-Comma-clause-refused c =

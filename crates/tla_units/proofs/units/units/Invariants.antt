@@ -1,6 +1,7 @@
 use Rattle.std.proofs.Common.{◌-◌, ◌<◌, length, drop}
 use Rattle.tla_ast.specs.Modules.{UnitsText, UnitsFit}
 use Rattle.tla_units.specs.Reads.{Leads}
+use Rattle.tla_units.specs.Refusals.{ShallowWholeUnits}
 use Rattle.tla_units.specs.Rests.{Tail}
 use Rattle.tla_units.proofs.units.units.Given as goal
 
@@ -10,6 +11,7 @@ invariant-loop-alloc l = record {
   fits : UnitsFit l.units;
   within : l.next < length l.laid;
   far : Leads Tail Tail (drop l.from l.laid) (drop l.next l.laid);
+  shallow : ShallowWholeUnits (drop l.from l.laid) (drop l.next l.laid);
 }
 
 abbrev pub decreases-loop-alloc : goal.decreases-loop-alloc

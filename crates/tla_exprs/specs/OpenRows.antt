@@ -1,8 +1,11 @@
--- The text of what is read so far: of each frame, and of the mode.
-use Rattle.std.proofs.Common.{List, [], ◌∷◌}
+-- The texts of open rows: rows of the grammar of which only some first parts stand, one inside another. A frame is such a row, with those of its
+-- parts that stand whole, up to where an expression stands or is to stand; a mode is what stands of the innermost row, up to where something
+-- else is expected. The text of a list of frames, innermost first, is that of the rows around it and then its own.
+use Rattle.std.specs.Prelude.{List, [], ◌∷◌}
 use Rattle.trace_base.specs.declared.place.Place.{Place}
 use Rattle.tla_ast.specs.declared.token.Kind.TheVariants as kinds
 use Rattle.tla_ast.specs.declared.token.Word.TheVariants as words
+use Rattle.tla_ast.specs.declared.token.Symbol.{Symbol}
 use Rattle.tla_ast.specs.declared.token.Symbol.TheVariants as symbols
 use Rattle.tla_ast.specs.Precedence.{prefix_kind, infix_symbol, quantifier_symbol}
 use Rattle.tla_ast.specs.Grammar.{Span, ◌⨟◌, nothing, token, word, sign, sign_at, name, list_open, list_item, NamesBefore, NamesText, ParametersText, Text, CommasBefore, ItemsBefore, Chain, StepsText, BoundsBefore, BoundsText, FieldsBefore, ChangesBefore, ArmsBefore, SomeArmsBefore, DefinitionsText, SomeDefinitions}
@@ -10,6 +13,8 @@ use Rattle.tla_ast.specs.Trees as tree
 use Rattle.tla_ast.specs.Trees.{Tree, Steps}
 use Rattle.tla_exprs.specs.declared.frame.Action.{Action}
 use Rattle.tla_exprs.specs.declared.frame.Action.TheVariants as actions
+use Rattle.tla_exprs.specs.declared.frame.RecordKind.{RecordKind}
+use Rattle.tla_exprs.specs.declared.frame.RecordKind.TheVariants as records
 use Rattle.tla_exprs.specs.declared.frame.Scope.{Scope}
 use Rattle.tla_exprs.specs.declared.frame.Scope.TheVariants as scopes
 use Rattle.tla_exprs.specs.declared.frame.Binder.{Binder}
@@ -21,7 +26,11 @@ use Rattle.tla_exprs.specs.declared.frame.Frame.{Frame}
 use Rattle.tla_exprs.specs.declared.frame.Frame.TheVariants as frame
 use Rattle.tla_exprs.specs.declared.frame.Mode.{Mode}
 use Rattle.tla_exprs.specs.declared.frame.Mode.TheVariants as mode
-use Rattle.tla_exprs.specs.Machine.{field_mark}
+
+-- behind the name of a field
+abbrev pub field_mark : RecordKind → Symbol
+field_mark records.Record = symbols.MapsTo
+field_mark records.Set = symbols.Colon
 
 abbrev pub ScopeText : Scope → Span
 ScopeText (scopes.Let at ds) = token at (kinds.Word words.Let) ⨟ DefinitionsText ds
