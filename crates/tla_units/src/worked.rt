@@ -79,7 +79,7 @@ fn shown(alloc: Global, text: &str) -> Result<String, AllocError> {
     }
 }
 
-const EXPRESSIONS: [(&str, &str); 50] = [
+const EXPRESSIONS: [(&str, &str); 52] = [
     ("a + b - c", "Plus 2 name chain"),
     ("a - b - c", "Minus 3 name name"),
     ("~ p => q", "Implies 2 prefix name"),
@@ -88,6 +88,8 @@ const EXPRESSIONS: [(&str, &str); 50] = [
     ("a = b = c", "conflict 1:3 and 1:7"),
     ("a \\cup b \\cap c", "conflict 1:3 and 1:10"),
     ("a % b + c", "conflict 1:3 and 1:7"),
+    ("a = b < c )", "conflict 1:3 and 1:7"),
+    ("{x \\in a = b + )", "expected 1:16"),
     ("SUBSET a \\cup b", "conflict 1:1 and 1:10"),
     ("[a |-> 1, a |-> 2]", "expected 1:11"),
     ("x' = 1 /\\ x = 0 \\/ x = 2", "conflict 1:8 and 1:17"),
@@ -164,12 +166,18 @@ fn around(
     Ok(text)
 }
 
-const NESTED: [(usize, &str, &str, &str, &str); 7] = [
+const NESTED: [(usize, &str, &str, &str, &str); 13] = [
     (100, "(", "1", ")", "parentheses"),
     (101, "(", "1", ")", "nested 1:102"),
     (100, "~", "a", "", "prefix"),
     (101, "~", "a", "", "nested 1:102"),
     (101, "{", "", "}", "nested 1:102"),
+    (100, "{x \\in ", "S", " : p}", "filter"),
+    (100, "{x \\in ", "S", "}", "set"),
+    (101, "{x \\in ", "S", " : p}", "nested 1:702"),
+    (100, "[x \\in ", "S", " |-> x]", "function"),
+    (50, "LET a == (", "1", ") IN a", "let"),
+    (51, "LET a == (", "1", ") IN a", "nested 1:505"),
     (150, "\\A x \\in S : ", "p", "", "quantified quantified"),
     (150, "IF a THEN b ELSE ", "c", "", "if"),
 ];
