@@ -1,0 +1,84 @@
+ghost use Rattle.std.specs.Prelude.{◌≡◌, ◌↔◌, ◌<◌, [], ◌∷◌, ◌++◌, length, OnOk, OnErr, IsSome, option_copied, slice_get};
+
+use crate::ids::DefId;
+use crate::operator::Operator;
+use crate::term::{Term, Terms};
+use std::alloc::Global;
+use std::marker::Model;
+use trace_base::{Names, NoMemory};
+
+/// The definitions of a specification by their numbers, seen as the list of them.
+#[derive(Drop)]
+pub struct Operators {
+    items: Vec<Operator>,
+}
+
+impl Model for Operators {
+    ghost use Rattle.std.specs.Prelude.{List};
+    ghost use Rattle.tla_terms.specs.declared.operator.Operator.{Operator};
+    ghost use Rattle.tla_terms.specs.OperatorsCode.{operators_code};
+
+    ghost Value = { List Operator };
+
+    ghost coded = { operators_code };
+
+    ghost view = { λ o. o.items.items };
+}
+
+impl Operators {
+    /// No definitions.
+    pub fn new(alloc: Global) -> Operators
+        ensures { result ≡ [] }
+    {
+        Operators {
+            items: Vec::new(alloc),
+        }
+    }
+
+    /// Adds a definition at the end. On a refusal the list is as it was.
+    pub fn push(&mut self, item: Operator) -> Result<(), NoMemory>
+        ensures pushed { OnOk result (self.new ≡ self.old ++ item ∷ []) }
+        ensures kept { OnErr result (self.new ≡ self.old) }
+    {
+        self.items.push(item)?;
+        Ok(())
+    }
+
+    /// How many definitions there are.
+    pub fn len(&self) -> usize
+        ensures { result ≡ length self.now }
+    {
+        self.items.len()
+    }
+
+    /// The definition of that number.
+    pub fn get(&self, i: usize) -> Option<&Operator>
+        ensures item { option_copied result ≡ slice_get self.now i }
+        ensures within { IsSome result ↔ (i < length self.now) }
+    {
+        self.items.get(i)
+    }
+
+    /// The definitions as a slice.
+    pub fn items(&self) -> &[Operator]
+        ensures { result.now ≡ self.now }
+    {
+        &self.items
+    }
+}
+
+/// A specification with every name resolved.
+///
+/// `files` are the names of the files that places speak of; `unchecked` has, for each thing that the configuration asks for and that
+/// is not checked, the words that the report names it by.
+#[derive(Drop)]
+pub struct Spec {
+    pub files: Names,
+    pub variables: Names,
+    pub operators: Operators,
+    pub init: Term,
+    pub next: Term,
+    pub silent: Option<DefId>,
+    pub assumes: Terms,
+    pub unchecked: Names,
+}
