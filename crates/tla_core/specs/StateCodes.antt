@@ -1,6 +1,6 @@
 -- How states are told apart by a proof: as lists of values.
-use Rattle.std.specs.Prelude.{List}
-use Rattle.std.specs.Coded.{Coded, coded_list}
+use Rattle.std.specs.Prelude.{List, Option}
+use Rattle.std.specs.Coded.{Coded, coded_list, coded_option}
 use Rattle.tla_values.specs.Data.{Val}
 use Rattle.tla_values.specs.Tree.{val_code}
 
@@ -9,3 +9,6 @@ values_code = coded_list val_code
 
 abbrev pub states_code : Coded (List (List Val))
 states_code = coded_list values_code
+
+abbrev pub places_code : Coded (List (Option Val))
+places_code = coded_list (coded_option val_code)
