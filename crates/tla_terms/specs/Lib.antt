@@ -1,4 +1,5 @@
 pub mod Levels
+pub mod Lists
 pub mod OperatorsCode
 pub mod PartCodes
 pub mod TermCodes

@@ -1,5 +1,6 @@
 -- For the prover: the term that the fields of a value of Rust stand for, and the lists of terms of their items.
-use Rattle.std.specs.Prelude.{Bool, true, false, List, [], ◌∷◌, Some, None}
+use Rattle.std.specs.Prelude.{ℕ, Bool, true, false, List, [], ◌∷◌, Some, None}
+use Rattle.trace_base.specs.declared.place.Place.{Place}
 use Rattle.tla_terms.specs.Terms as term
 use Rattle.tla_terms.specs.Terms.{Term, Terms, Operands, Steps, Bounds, Fields, Changes, Arms, Meaning}
 use Rattle.tla_terms.specs.declared.term.TermNode.{TermNode}
@@ -108,3 +109,19 @@ node_view (node.Case arms (Some e)) = term.CaseOther arms e.value
 node_view (node.BoxAction e v) = term.BoxAction e.value v.value
 node_view (node.AngleAction e v) = term.AngleAction e.value v.value
 node_view (node.Fairness v e) = term.Fairness v.value e.value
+
+-- what stands in a list for its item
+abbrev pub step_item : StepAt → Place × term.Step
+step_item x = (x.at, step_view x.step)
+
+abbrev pub bound_item : Bound → ℕ × Term
+bound_item x = (x.names, x.set)
+
+abbrev pub field_item : Field → List ℕ × Term
+field_item x = (x.name, x.value)
+
+abbrev pub change_item : Change → Steps × Term
+change_item x = (x.path, x.value)
+
+abbrev pub arm_item : Arm → Term × Term
+arm_item x = (x.test, x.value)

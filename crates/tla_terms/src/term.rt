@@ -1,8 +1,9 @@
 //! Terms: expressions with every name resolved.
 
-ghost use Rattle.std.specs.Prelude.{◌≡◌, IfOk, OnErr, OnOk};
+ghost use Rattle.std.specs.Prelude.{◌≡◌, IfOk, OnErr, OnOk, length, option_copied, option_map, slice_get};
+ghost use Rattle.tla_terms.specs.Lists.{terms_list, steps_list, bounds_list, fields_list, changes_list, arms_list};
 ghost use Rattle.tla_terms.specs.Terms.{First, MoreArms, MoreBounds, MoreChanges, MoreFields, MoreSteps, MoreTerms, Next, NoArms, NoBounds, NoChanges, NoFields, NoSteps, NoTerms, meaning_of};
-ghost use Rattle.tla_terms.specs.TermViews.{are_none, steps_are_none, node_view, step_view, terms_of, steps_of, bounds_of, fields_of, changes_of, arms_of, operands_of};
+ghost use Rattle.tla_terms.specs.TermViews.{step_item, bound_item, field_item, change_item, arm_item, are_none, steps_are_none, node_view, step_view, terms_of, steps_of, bounds_of, fields_of, changes_of, arms_of, operands_of};
 
 use crate::ids::{DefId, DefIds};
 use crate::level::Level;
@@ -407,6 +408,20 @@ impl Terms {
         items.is_empty()
     }
 
+    /// How many terms there are.
+    pub fn len(&self) -> usize
+        ensures { result ≡ length (terms_list self.now) }
+    {
+        self.items.len()
+    }
+
+    /// The term of that index, from 0.
+    pub fn get(&self, i: usize) -> Option<&Term>
+        ensures { option_copied result ≡ slice_get (terms_list self.now) i }
+    {
+        self.items.get(i)
+    }
+
     /// The items in their order.
     pub fn items(&self) -> &[Term]
         ensures { terms_of result.now ≡ self.now }
@@ -442,6 +457,20 @@ impl Steps {
         items.is_empty()
     }
 
+    /// How many steps there are.
+    pub fn len(&self) -> usize
+        ensures { result ≡ length (steps_list self.now) }
+    {
+        self.items.len()
+    }
+
+    /// The step of that index, from 0.
+    pub fn get(&self, i: usize) -> Option<&StepAt>
+        ensures { option_map step_item (option_copied result) ≡ slice_get (steps_list self.now) i }
+    {
+        self.items.get(i)
+    }
+
     /// The items in their order.
     pub fn items(&self) -> &[StepAt]
         ensures { steps_of result.now ≡ self.now }
@@ -467,6 +496,20 @@ impl Bounds {
     {
         self.items.push(item)?;
         Ok(())
+    }
+
+    /// How many bounds there are.
+    pub fn len(&self) -> usize
+        ensures { result ≡ length (bounds_list self.now) }
+    {
+        self.items.len()
+    }
+
+    /// The bound of that index, from 0.
+    pub fn get(&self, i: usize) -> Option<&Bound>
+        ensures { option_map bound_item (option_copied result) ≡ slice_get (bounds_list self.now) i }
+    {
+        self.items.get(i)
     }
 
     /// The items in their order.
@@ -496,6 +539,20 @@ impl Fields {
         Ok(())
     }
 
+    /// How many fields there are.
+    pub fn len(&self) -> usize
+        ensures { result ≡ length (fields_list self.now) }
+    {
+        self.items.len()
+    }
+
+    /// The field of that index, from 0.
+    pub fn get(&self, i: usize) -> Option<&Field>
+        ensures { option_map field_item (option_copied result) ≡ slice_get (fields_list self.now) i }
+    {
+        self.items.get(i)
+    }
+
     /// The items in their order.
     pub fn items(&self) -> &[Field]
         ensures { fields_of result.now ≡ self.now }
@@ -523,6 +580,20 @@ impl Changes {
         Ok(())
     }
 
+    /// How many changes there are.
+    pub fn len(&self) -> usize
+        ensures { result ≡ length (changes_list self.now) }
+    {
+        self.items.len()
+    }
+
+    /// The change of that index, from 0.
+    pub fn get(&self, i: usize) -> Option<&Change>
+        ensures { option_map change_item (option_copied result) ≡ slice_get (changes_list self.now) i }
+    {
+        self.items.get(i)
+    }
+
     /// The items in their order.
     pub fn items(&self) -> &[Change]
         ensures { changes_of result.now ≡ self.now }
@@ -548,6 +619,20 @@ impl Arms {
     {
         self.items.push(item)?;
         Ok(())
+    }
+
+    /// How many arms there are.
+    pub fn len(&self) -> usize
+        ensures { result ≡ length (arms_list self.now) }
+    {
+        self.items.len()
+    }
+
+    /// The arm of that index, from 0.
+    pub fn get(&self, i: usize) -> Option<&Arm>
+        ensures { option_map arm_item (option_copied result) ≡ slice_get (arms_list self.now) i }
+    {
+        self.items.get(i)
     }
 
     /// The items in their order.
