@@ -1,5 +1,6 @@
 pub mod Levels
 pub mod Lists
+pub mod Named
 pub mod OperatorsCode
 pub mod PartCodes
 pub mod TermCodes

@@ -1,10 +1,12 @@
-ghost use Rattle.std.specs.Prelude.{◌≡◌, ◌↔◌, ◌<◌, [], ◌∷◌, ◌++◌, length, OnOk, OnErr, IsSome, option_copied, slice_get};
+ghost use Rattle.std.specs.Prelude.{◌≡◌, ◌↔◌, ◌<◌, ◌≤◌, ℕ, [], ◌∷◌, ◌++◌, length, MatchOption, OnOk, OnErr, IsSome, option_copied, slice_get};
+ghost use Rattle.tla_terms.specs.Named.{IsNamed, IsVariable};
 
 use crate::ids::DefId;
 use crate::operator::Operator;
 use crate::term::{Term, Terms};
 use std::alloc::Global;
 use std::marker::Model;
+use tla_core::VarId;
 use trace_base::{Names, NoMemory};
 
 /// The definitions of a specification by their numbers, seen as the list of them.
@@ -81,4 +83,36 @@ pub struct Spec {
     pub silent: Option<DefId>,
     pub assumes: Terms,
     pub unchecked: Names,
+}
+
+impl Spec {
+    /// The definition of that name, which is not one of a LET. The first, though a specification has no two of one name.
+    pub fn operator(&self, name: &str) -> Option<DefId>
+        ensures { MatchOption result ((k : ℕ) → ¬ IsNamed self.now.operators name.now k) (λ d. IsNamed self.now.operators name.now d.0) }
+    {
+        if name.is_empty() {
+            return None;
+        }
+        let operators = self.operators.items();
+        for index in 0..operators.len() {
+            if operators[index].name.as_str() == name {
+                return Some(DefId(index));
+            }
+        }
+        None
+    }
+
+    /// The variable of that name.
+    pub fn variable(&self, name: &str) -> Option<VarId>
+        requires few { length self.now.variables ≤ 64 }
+        ensures { MatchOption result ((k : ℕ) → ¬ IsVariable self.now.variables name.now k) (λ v. IsVariable self.now.variables name.now v.0) }
+    {
+        let variables = self.variables.items();
+        for index in 0..variables.len() {
+            if variables[index].as_str() == name {
+                return Some(VarId(index as u16));
+            }
+        }
+        None
+    }
 }
