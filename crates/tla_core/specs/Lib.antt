@@ -4,4 +4,3 @@ pub mod Codes
 pub mod System
 pub mod Sets
 pub mod Runs
-pub mod Terms
