@@ -6,4 +6,3 @@ pub mod VarSets
 pub mod System
 pub mod Sets
 pub mod Runs
-pub mod Terms
