@@ -1,5 +1,6 @@
 pub mod States
 pub mod StateCodes
+pub mod StateOrder
 pub mod Codes
 pub mod Partials
 pub mod VarSets

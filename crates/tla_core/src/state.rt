@@ -5,6 +5,8 @@ use std::marker::Model;
 use tla_values::Value;
 use trace_base::LineAt;
 
+mod order;
+
 /// One value for each variable, in the order in which the variables are declared, seen as the list of them.
 #[derive(Drop)]
 pub struct State {
