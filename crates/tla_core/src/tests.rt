@@ -1,4 +1,4 @@
-use crate::{Behaviour, Mark, Shown, State, StateList};
+use crate::{Behaviour, Env, Mark, Partial, Shown, State, StateList, VarId, VarSet};
 use std::alloc::{AllocError, Global};
 use std::rt::HostRuntime;
 use tla_values::Value;
@@ -104,4 +104,67 @@ fn states(rt: HostRuntime) {
     );
     let listed = tell_list(alloc);
     assert!(rt; listed.is_ok_and(|text| text.as_str() == "2 6 5 6 5 6"));
+}
+
+// which of the variables 0 to 3 and 63 are in the set
+fn tell_set(set: VarSet) -> [bool; 5] {
+    [
+        set.has(VarId(0)),
+        set.has(VarId(1)),
+        set.has(VarId(2)),
+        set.has(VarId(3)),
+        set.has(VarId(63)),
+    ]
+}
+
+fn number_in(value: Option<&Value>) -> i64 {
+    match value {
+        Some(value) => value.as_int().unwrap_or(-1),
+        None => -2,
+    }
+}
+
+// a partial state that is filled, with what it was and is
+fn tell_partial(alloc: Global) -> Result<bool, AllocError> {
+    let mut partial = Partial::empty(alloc, 2)?;
+    let none = number_in(partial.get(VarId(0))) == -2 && number_in(partial.get(VarId(2))) == -2;
+    partial.put(VarId(1), Value::int(7));
+    let half = partial.copy(alloc)?;
+    let open = half.whole(alloc)?.is_none() && number_in(half.get(VarId(1))) == 7;
+    partial.put(VarId(0), Value::int(6));
+    let full = match partial.whole(alloc)? {
+        Some(state) => {
+            let again = Partial::of(alloc, &state)?;
+            number_in(state.get(0)) == 6 && number_in(again.get(VarId(1))) == 7
+        }
+        None => false,
+    };
+    Ok(none && open && full)
+}
+
+fn tell_env(alloc: Global) -> Result<bool, AllocError> {
+    let mut env = Env::empty(alloc);
+    for number in [4, 5, 6] {
+        env.push(Value::int(number))?;
+    }
+    let copy = env.copy(alloc)?;
+    env.cut(1);
+    let cut = env.len() == 1 && number_in(env.get(0)) == 4 && number_in(env.get(1)) == -2;
+    Ok(cut && copy.len() == 3 && number_in(copy.get(2)) == 6)
+}
+
+#[test]
+fn sets_of_variables(rt: HostRuntime) {
+    let empty = VarSet::empty();
+    let some = empty.with(VarId(2)).with(VarId(63)).with(VarId(2));
+    assert!(rt; tell_set(empty) == [false, false, false, false, false]);
+    assert!(rt; tell_set(some) == [false, false, true, false, true]);
+    assert!(rt; some == VarSet::empty().with(VarId(63)).with(VarId(2)));
+}
+
+#[test]
+fn partial_states_and_environments(rt: HostRuntime) {
+    let alloc = rt.alloc();
+    assert!(rt; tell_partial(alloc) == Ok(true));
+    assert!(rt; tell_env(alloc) == Ok(true));
 }

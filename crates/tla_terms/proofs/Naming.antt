@@ -8,7 +8,7 @@ use Rattle.tla_terms.specs.declared.operator.Operator.{Operator}
 
 pub none_before : (P : ℕ → Type 0) (i : ℕ) → ((k : ℕ) → k < i → P k → ⊥) → (P i → ⊥) → (k : ℕ) → k < i + 1 → P k → ⊥
 none_before P i before here k below p = elim (eqb_tells k i) [
-  inl e ↦ here (subst P e.1 p)
+  | inl e ↦ here (subst P e.1 p)
   | inr e ↦ (let less : k < i = omega (arith, e.1, below) in before k less p)
 ]
 

@@ -59,7 +59,13 @@ fn tell_steps(alloc: Global) -> Result<bool, AllocError> {
         Some(step) => matches!(&step.step, Step::Prime),
         None => false,
     };
-    Ok(prime && steps.len() == 1 && steps.get(1).is_none() && !steps.is_empty() && steps.items().len() == 1)
+    Ok(
+        prime
+            && steps.len() == 1
+            && steps.get(1).is_none()
+            && !steps.is_empty()
+            && steps.items().len() == 1,
+    )
 }
 
 fn tell_bounds(alloc: Global) -> Result<bool, AllocError> {
@@ -133,7 +139,11 @@ fn tell_operands(alloc: Global) -> Result<bool, AllocError> {
 fn tell_definitions(alloc: Global) -> Result<bool, AllocError> {
     let mut definitions = DefIds::new(alloc);
     definitions.push(DefId(4))?;
-    Ok(definitions.len() == 1 && definitions.get(0) == Some(DefId(4)) && definitions.get(1).is_none())
+    Ok(
+        definitions.len() == 1
+            && definitions.get(0) == Some(DefId(4))
+            && definitions.get(1).is_none(),
+    )
 }
 
 fn operator(alloc: Global, name: &str) -> Result<Operator, AllocError> {
