@@ -179,7 +179,7 @@ fn read_items(alloc: Global, items: &Vec<Json>) -> Result<Option<Vec<Value>>, Al
 fn read_pairs(alloc: Global, items: &Vec<Json>) -> Result<Option<Vec<(Value, Value)>>, AllocError>
     ensures { IfOk result (λ o. Finds (ReadsPairs (items_view items.now.items)) (option_map (λ ps. ps.items) o)) }
 {
-    let mut pairs = Vec::with_capacity(alloc, items.len())?;
+    let mut pairs: Vec<(Value, Value)> = Vec::with_capacity(alloc, items.len())?;
     for item in items {
         match read_pair(alloc, item)? {
             Some(pair) => pairs.push(pair)?,
