@@ -1,0 +1,7 @@
+pub mod Limits
+pub mod OneValue
+pub mod PrintDepths
+pub mod PrintLemmas
+pub mod ReadBack
+pub mod ReadLemmas
+pub mod ReadSteps
