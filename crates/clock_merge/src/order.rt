@@ -1,4 +1,4 @@
-ghost use Rattle.std.specs.Prelude.{◌≡◌, ◌++◌, IfOk, OnOk, map};
+ghost use Rattle.std.specs.Prelude.{◌≡◌, ◌++◌, ◌≤◌, All, IfOk, OnOk, length, map};
 ghost use Rattle.std.specs.List.Sorted.{IsPermutation, IsSorted};
 ghost use Rattle.clock_merge.specs.Orders.{IsAllowedByClock, IsMerged, IsOnlyOrder, NoneFalls, clocks_of};
 ghost use Rattle.clock_merge.specs.Stamps.{line_of, stamp_cmp, stamps_from, stamps_in};
@@ -14,10 +14,10 @@ pub struct LineRef {
 }
 
 /// The lines of all logs, given the clocks of each log line by line: by clock, then log, then place.
-///
-/// More logs, or lines of a log, than `u32` counts are refused as want of memory.
 pub fn merge(alloc: Global, clocks: &[Vec<i64>]) -> Result<Vec<LineRef>, NoMemory>
-    requires { NoneFalls (clocks_of clocks.now) }
+    requires none_falls { NoneFalls (clocks_of clocks.now) }
+    requires few_logs { length clocks.now ≤ 4294967296 }
+    requires few_lines { All (λ log. length log.items ≤ 4294967296) clocks.now }
     ensures { IfOk result (λ order. IsMerged (clocks_of clocks.now) order.items) }
 {
     let stamps = stamps_of(alloc, clocks)?;
@@ -33,34 +33,26 @@ pub fn order_laws()
 
 /// Each line with its clock, log by log.
 fn stamps_of(alloc: Global, clocks: &[Vec<i64>]) -> Result<Vec<(i64, u32, u32)>, AllocError>
+    requires few_logs { length clocks.now ≤ 4294967296 }
+    requires few_lines { All (λ log. length log.items ≤ 4294967296) clocks.now }
     ensures { IfOk result (λ stamps. stamps.items ≡ stamps_from 0 (clocks_of clocks.now)) }
 {
     let mut stamps = Vec::new(alloc);
     for file in 0..clocks.len() {
-        push_log(&mut stamps, file, clocks[file].as_slice())?;
+        push_log(&mut stamps, file as u32, clocks[file].as_slice())?;
     }
     Ok(stamps)
 }
 
 /// Adds the lines of one log with their clocks.
-fn push_log(stamps: &mut Vec<(i64, u32, u32)>, file: usize, log: &[i64]) -> Result<(), AllocError>
+fn push_log(stamps: &mut Vec<(i64, u32, u32)>, file: u32, log: &[i64]) -> Result<(), AllocError>
+    requires { length log.now ≤ 4294967296 }
     ensures { OnOk result (stamps.new.items ≡ stamps.old.items ++ stamps_in file 0 log.now) }
 {
     for index in 0..log.len() {
-        let line = line_ref(file, index)?;
-        stamps.push((log[index], line.file, line.index))?;
+        stamps.push((log[index], file, index as u32))?;
     }
     Ok(())
-}
-
-fn line_ref(file: usize, index: usize) -> Result<LineRef, AllocError>
-    ensures file { IfOk result (λ line. line.file ≡ file) }
-    ensures index { IfOk result (λ line. line.index ≡ index) }
-{
-    match (u32::try_from(file), u32::try_from(index)) {
-        (Ok(file), Ok(index)) => Ok(LineRef { file, index }),
-        _ => Err(AllocError),
-    }
 }
 
 /// By clock, then log, then place.

@@ -15,5 +15,5 @@ lines_merged clocks stamps (Err e) rising perm up is = tt
 pub returns : goal.returns
 returns c =
     let perm = subst (λ (ss : List Stamp). IsPermutation ss c.sorted-stamps.result.items) c.in_ok-stamps.ensures c.sorted-stamps.ensures.same in
-    lines_merged (clocks_of c.args.clocks.now) c.sorted-stamps.result.items c.lines_of.result c.requires perm c.sorted-stamps.ensures.sorted
+    lines_merged (clocks_of c.args.clocks.now) c.sorted-stamps.result.items c.lines_of.result c.requires.none_falls perm c.sorted-stamps.ensures.sorted
     (subst (λ (ss : List Stamp). IfOk c.lines_of.result (λ lines. lines.items ≡ map line_of ss)) c.as_slice.ensures.value c.lines_of.ensures)
