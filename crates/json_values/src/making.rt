@@ -41,7 +41,7 @@ pub fn make_mapping(alloc: Global, pairs: Vec<(Value, Value)>) -> Result<Option<
     match Value::make_function(alloc, pairs) {
         Ok(value) => Ok(Some(value)),
         Err(ValueFault::NoMemory) => Err(AllocError),
-        Err(ValueFault::KeyTwice) => Ok(None),
+        Err(ValueFault::KeyTwice) => Ok(None), // also where both pairs are equal
         Err(ValueFault::TooLarge) => Ok(None),
         Err(ValueFault::TooDeep) => Ok(None),
     }

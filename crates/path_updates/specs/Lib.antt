@@ -1,0 +1,5 @@
+pub mod Paths
+pub mod PathCodes
+pub mod UpdateCodes
+pub mod LineCodes
+pub mod Changes

@@ -1,0 +1,52 @@
+ghost use Rattle.std.specs.Prelude.{◌≡◌, ◌≤◌, length};
+
+use crate::values::Values;
+use std::marker::Model;
+use tla_core::VarId;
+use tla_values::Value;
+
+/// A variable, and the keys that lead from its value to what stands at the path: at most 32.
+#[derive(Drop)]
+pub struct Path {
+    variable: VarId,
+    keys: Values,
+}
+
+impl Model for Path {
+    ghost use Rattle.std.specs.Prelude.{◌≤◌, length};
+    ghost use Rattle.path_updates.specs.Paths.{KeyPath};
+    ghost use Rattle.path_updates.specs.PathCodes.{path_code};
+
+    ghost Value = { KeyPath };
+
+    ghost coded = { path_code };
+
+    ghost view = { λ p. record { variable = p.variable; keys = p.keys } };
+
+    ghost invariant = { λ p. length p.keys ≤ 32 };
+}
+
+impl Path {
+    /// The path of a variable with these keys, the outermost first.
+    pub fn new(variable: VarId, keys: Values) -> Path
+        requires { length keys ≤ 32 }
+        ensures variable { result.variable ≡ variable }
+        ensures keys { result.keys ≡ keys }
+    {
+        Path { variable, keys }
+    }
+
+    pub fn variable(&self) -> VarId
+        ensures { result ≡ self.now.variable }
+    {
+        self.variable
+    }
+
+    /// The keys, the outermost first.
+    pub fn keys(&self) -> &[Value]
+        ensures keys { result.now ≡ self.now.keys }
+        ensures few { length result.now ≤ 32 }
+    {
+        self.keys.items()
+    }
+}
