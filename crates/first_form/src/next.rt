@@ -117,7 +117,7 @@ fn fill(next: &mut [Option<i64>], variable: VarId, value: i64) -> bool
 fn whole(alloc: Global, next: &[Option<i64>]) -> Result<State, AllocError>
     ensures { IfOk result (λ s. s ≡ map value_of next.now) }
 {
-    let mut values = Vec::new(alloc);
+    let mut values = Vec::with_capacity(alloc, next.len())?;
     for place in next {
         values.push(Value::int(place.unwrap_or(0)))?;
     }

@@ -2,4 +2,5 @@ pub mod FormLemmas
 pub mod JsonLemmas
 pub mod JudgeLemmas
 pub mod LogLemmas
+pub mod Positions
 pub mod WordLemmas

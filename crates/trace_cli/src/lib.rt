@@ -6,6 +6,7 @@ mod call;
 mod fields;
 mod judge;
 mod log;
+mod names;
 mod report;
 mod seen;
 mod steps;
