@@ -1,16 +1,14 @@
-//! Specifications, states and behaviours of a log, and the faults of evaluations.
+//! Variables, states and behaviours of a log, and the faults of evaluations.
 #![tactic(auto)]
 
 mod fault;
-mod spec;
 mod state;
-mod term;
+mod var_id;
 
 pub use fault::Fault;
-pub use spec::Spec;
 pub use state::{Behaviour, Mark, Shown, State, StateList};
-pub use term::{Atom, Conjunct, Conjuncts, Term, VarId};
 pub use tla_values::EvalKind;
+pub use var_id::VarId;
 
 #[cfg(test)]
 mod tests;

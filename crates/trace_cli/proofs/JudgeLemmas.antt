@@ -11,7 +11,7 @@ use Rattle.trace_cli.specs.Report.{answer_text}
 use Rattle.trace_base.specs.Device.{File, Rose, Lacks}
 use Rattle.trace_base.specs.declared.reading.ReadFault.{ReadFault}
 use Rattle.trace_base.specs.declared.reading.ReadFault.TheVariants.{Missing, Failed, TooLong, NoMemory}
-use Rattle.tla_core.specs.declared.spec.Spec.{Spec}
+use Rattle.first_form.specs.declared.spec.Spec.{Spec}
 use Rattle.trace_cli.specs.declared.judge.Judged.{Judged}
 use Rattle.trace_cli.specs.declared.judge.Stop.{Stop}
 use Rattle.trace_cli.specs.declared.call.Status.{Status}

@@ -1,11 +1,5 @@
-pub mod EvalLemmas
 pub mod FormLemmas
-pub mod Fronts
 pub mod JsonLemmas
 pub mod JudgeLemmas
-pub mod Lists
 pub mod LogLemmas
-pub mod ModuleLemmas
-pub mod NameLemmas
-pub mod NextLemmas
-pub mod Pieces
+pub mod WordLemmas

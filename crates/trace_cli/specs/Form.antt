@@ -1,15 +1,26 @@
 -- A specification beside the lines of a log, as relations over states.
-use Rattle.std.specs.Prelude.{◌≡◌, ℕ, ◌<◌, List, length, All, Option, Some, None, slice_get}
+use Rattle.std.specs.Prelude.{◌≡◌, ℕ, ◌<◌, List, length, All, Option, Some, None, Result, Ok, Err, slice_get}
 use Rattle.trace_base.specs.declared.place.LineAt.{LineAt}
 use Rattle.tla_core.specs.States.{Values}
 use Rattle.tla_core.specs.System.{System}
-use Rattle.tla_core.specs.Terms.{VariableIs, InitHolds, NextHolds, NextFaults}
-use Rattle.tla_core.specs.declared.spec.Spec.{Spec}
+use Rattle.first_form.specs.Evaluates.{GivesNext}
+use Rattle.first_form.specs.declared.next.NextFault.TheVariants.{Eval as FaultsSo}
+use Rattle.state_layers.specs.declared.steps.StepFault.{StepFault}
+use Rattle.state_layers.specs.declared.steps.StepFault.TheVariants.{Eval, TooMany, NoMemory}
+use Rattle.first_form.specs.Terms.{VariableIs, InitHolds, NextHolds, NextFaults}
+use Rattle.first_form.specs.declared.spec.Spec.{Spec}
 use Rattle.trace_cli.specs.declared.log.Line.{Line}
 
 -- Each value that the line sees is its variable's in t. A line that sees none binds nothing.
 abbrev pub IsSeen : Line → Values → Type 0
 IsSeen line t = All (λ see. VariableIs t see.variable see.value) line.sees
+
+-- The only next state, or that there is none, where the action faults at no next state; or a fault at some next state.
+abbrev pub GivesStep : Spec → Values → Result (Option Values) StepFault → Type 0
+GivesStep spec s (Ok next) = GivesNext spec s (Ok next)
+GivesStep spec s (Err (Eval f)) = GivesNext spec s (Err (FaultsSo f))
+GivesStep spec s (Err TooMany) = ⊥
+GivesStep spec s (Err NoMemory) = Unit {0}
 
 -- Line n of the log, counted from 0, leads from s to t: the next-state action holds, and t has what the line sees.
 pub record StepOf (spec : Spec) (lines : List Line) (n : ℕ) (s t : Values) : Type 0 where

@@ -1,10 +1,6 @@
-pub mod Names
 pub mod Words
-pub mod Module
-pub mod Lines
 pub mod Log
 pub mod Form
-pub mod Evaluates
 pub mod Fields
 pub mod Report
 pub mod Run

@@ -6,7 +6,7 @@ use Rattle.tla_values.specs.Data.{int_of}
 use Rattle.tla_values.specs.declared.fault.EvalKind.{EvalKind}
 use Rattle.tla_values.specs.declared.fault.EvalKind.TheVariants.{NotBoolean, NotInteger, NotSet, NotFunction, NotSequence, OutsideDomain, Overflow, BadDivisor, BadPower, NoChoice, NoCase, EmptySequence, BadRange, TooLarge, TooDeep, Nested, NotFinite}
 use Rattle.tla_core.specs.States.{Values}
-use Rattle.tla_core.specs.declared.term.VarId.{VarId}
+use Rattle.tla_core.specs.declared.var_id.VarId.{VarId}
 use Rattle.tla_core.specs.declared.state.Mark.{Mark}
 use Rattle.tla_core.specs.declared.state.Mark.TheVariants.{Init, Silent, Line}
 use Rattle.tla_core.specs.declared.state.Shown.{Shown}

@@ -3,7 +3,7 @@ use Rattle.std.specs.Prelude.{◌≡◌, ◌⊎◌, ◌≤◌, ℕ, List, [], �
 use Rattle.trace_base.specs.Device.{File, Lacks, IsWhole, IsLonger, Appended, AppendedPart}
 use Rattle.trace_base.specs.declared.reading.ReadFault.{ReadFault}
 use Rattle.trace_base.specs.declared.reading.ReadFault.TheVariants.{Missing, Failed, TooLong, NoMemory}
-use Rattle.tla_core.specs.declared.spec.Spec.{Spec}
+use Rattle.first_form.specs.declared.spec.Spec.{Spec}
 use Rattle.state_layers.specs.Answers.{IsAnswer}
 use Rattle.state_layers.specs.declared.answer.Answer.{Answer}
 use Rattle.state_layers.specs.declared.answer.Answer.TheVariants.{Explained, NotExplained, NoInitial, InitFault, Fault, AssumeFault, AssumeFalse, LayerLimit, TotalLimit}
@@ -13,7 +13,7 @@ use Rattle.trace_cli.specs.Fields.{AreFields}
 use Rattle.trace_cli.specs.declared.call.Status.{Status}
 use Rattle.trace_cli.specs.declared.call.Status.TheVariants.{Done, Not, Words, Reading, Evaluation, Limit}
 use Rattle.trace_cli.specs.Words.{AreWords}
-use Rattle.trace_cli.specs.Module.{Spells}
+use Rattle.first_form.specs.Module.{Spells}
 use Rattle.trace_cli.specs.Log.{LogSays, LogStops, pieces_of}
 use Rattle.trace_cli.specs.Form.{first_form}
 use Rattle.trace_cli.specs.Report.{answer_text}

@@ -1,7 +1,7 @@
 -- The words of the command line.
 use Rattle.std.specs.Prelude.{◌≡◌, ◌≢◌, ◌⊎◌, ℕ, List, [], ◌∷◌, ◌++◌, IsTrue, Some, slice_get, codes, String, string_bytes, map}
 use Rattle.std.specs.declared.alloc.Global.{Global}
-use Rattle.trace_cli.specs.Names.{is_name}
+use Rattle.first_form.specs.Names.{is_name}
 
 -- a path of a module's file: the module's name and `.tla`, behind a folder that ends with a slash, or behind none
 pub record IsModuleWord (word name : List ℕ) : Type 0 where

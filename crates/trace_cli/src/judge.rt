@@ -2,12 +2,12 @@ ghost use Rattle.std.specs.Prelude.{◌≡◌, ◌≤◌, IfOk, IfErr, IsErrOf, 
 ghost use Rattle.trace_base.specs.Device.{Rose};
 ghost use Rattle.state_layers.specs.Answers.{IsAnswer};
 ghost use Rattle.state_layers.specs.declared.answer.Answer.{Answer};
-ghost use Rattle.tla_core.specs.Terms.{IsSpec};
+ghost use Rattle.first_form.specs.Terms.{IsSpec};
 ghost use Rattle.trace_cli.specs.Fields.{AreFields};
 ghost use Rattle.trace_cli.specs.declared.fields.Field.{Field};
 ghost use Rattle.trace_cli.specs.Form.{first_form};
 ghost use Rattle.trace_cli.specs.Log.{LogSays, StopsBy, pieces_of};
-ghost use Rattle.trace_cli.specs.Module.{Spells};
+ghost use Rattle.first_form.specs.Module.{Spells};
 ghost use Rattle.trace_cli.specs.Report.{answer_text};
 ghost use Rattle.trace_cli.specs.Run.{Calls, Says, RefusesFile, ModuleIs, module_text, line_text, status_of};
 ghost use Rattle.trace_cli.specs.Words.{AreWords, words_of};
@@ -17,12 +17,11 @@ use crate::answer_report::{Labels, report_answer};
 use crate::call::Status;
 use crate::fields::sort_fields;
 use crate::log::{Line, LogFault, read_log};
-use crate::module::read_module;
 use crate::steps::Form;
 use crate::words::{Job, read_words};
+use first_form::{Spec, read_module};
 use state_layers::{Answer, explain};
 use std::alloc::{AllocError, Global};
-use tla_core::Spec;
 use trace_base::{Files, ReadFault, read_file};
 
 const MODULE_LIMIT: usize = 1_048_576;

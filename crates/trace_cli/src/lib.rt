@@ -3,13 +3,9 @@
 
 mod answer_report;
 mod call;
-mod eval;
 mod fields;
 mod judge;
 mod log;
-mod module;
-mod next;
-mod piece;
 mod report;
 mod seen;
 mod steps;

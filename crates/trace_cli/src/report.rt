@@ -1,8 +1,8 @@
 ghost use Rattle.std.specs.Prelude.{◌≡◌, ◌++◌, OnOk, string_bytes};
 ghost use Rattle.trace_cli.specs.Report.{kind_text, place_text, layer_text, field_text, fields_text, more_text, state_text, states_text, before_text, behind_text, faulty_text, value_text};
 
-use crate::eval::read_variable;
 use crate::fields::Field;
+use first_form::read_variable;
 use std::alloc::AllocError;
 use tla_core::{Behaviour, EvalKind, Mark, Shown, State, VarId};
 use trace_base::{LineAt, Place};

@@ -1,9 +1,9 @@
 ghost use Rattle.std.specs.Prelude.{◌↔◌, IsTrue};
-ghost use Rattle.tla_core.specs.Terms.{VariableIs};
+ghost use Rattle.first_form.specs.Terms.{VariableIs};
 ghost use Rattle.trace_cli.specs.Form.{IsSeen};
 
-use crate::eval::read_variable;
 use crate::log::{Line, See};
+use first_form::read_variable;
 use tla_core::State;
 
 /// Whether the state has each value that the line sees.

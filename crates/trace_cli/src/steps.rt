@@ -1,12 +1,13 @@
 ghost use Rattle.std.specs.Prelude.{◌≡◌, ◌≤◌, ◌∷◌, [], length, IfOk};
-ghost use Rattle.trace_cli.specs.Evaluates.{BindsEach};
+ghost use Rattle.first_form.specs.Evaluates.{BindsEach};
+ghost use Rattle.trace_cli.specs.Form.{GivesStep};
 
 use crate::log::Line;
-use crate::next::next_state;
 use crate::seen::is_seen;
+use first_form::{NextFault, Spec, next_state};
 use state_layers::{StepFault, Steps};
 use std::alloc::{AllocError, Global};
-use tla_core::{Spec, State, StateList};
+use tla_core::{State, StateList};
 use trace_base::{LineAt, Place};
 
 /// A specification beside the lines of a log.
@@ -25,6 +26,18 @@ fn only(alloc: Global, state: State) -> Result<StateList, AllocError>
     let mut states = StateList::new(alloc);
     states.push(state)?;
     Ok(states)
+}
+
+/// The next state of the specification, or its fault, as of a step.
+fn step(alloc: Global, spec: &Spec, state: &State) -> Result<Option<State>, StepFault>
+    requires { BindsEach spec.now }
+    ensures { GivesStep spec.now state.now result }
+{
+    match next_state(alloc, spec, state) {
+        Ok(next) => Ok(next),
+        Err(NextFault::Eval(fault)) => Err(StepFault::Eval(fault)),
+        Err(NextFault::NoMemory) => Err(StepFault::NoMemory),
+    }
 }
 
 impl<'a> Steps for Form<'a> {
@@ -72,7 +85,7 @@ impl<'a> Steps for Form<'a> {
         state: &State,
         _bound: u32,
     ) -> Result<StateList, StepFault> {
-        match next_state(alloc, self.spec, state)? {
+        match step(alloc, self.spec, state)? {
             Some(next) => {
                 if !is_seen(&self.lines[line as usize], &next) {
                     return Ok(StateList::new(alloc));
@@ -84,7 +97,7 @@ impl<'a> Steps for Form<'a> {
     }
 
     fn silent(&self, alloc: Global, state: &State, _bound: u32) -> Result<StateList, StepFault> {
-        match next_state(alloc, self.spec, state)? {
+        match step(alloc, self.spec, state)? {
             Some(next) => Ok(only(alloc, next)?),
             None => Ok(StateList::new(alloc)),
         }

@@ -1,6 +1,6 @@
 use Rattle.std.proofs.Common.{sym}
 use Rattle.std.proofs.lemmas.List.{take_rest}
-use Rattle.trace_cli.proofs.NameLemmas.{no_stem, module_word, no_module_word}
+use Rattle.trace_cli.proofs.WordLemmas.{no_stem, module_word, no_module_word}
 use Rattle.trace_cli.proofs.words.module_name.Goals as goal
 
 pub returns-in_err-stem : goal.returns-in_err-stem

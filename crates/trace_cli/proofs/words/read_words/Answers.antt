@@ -1,7 +1,7 @@
 use Rattle.std.proofs.Common.{◌≡◌, subst, List, ℕ, rules}
 use Rattle.std.specs.Prelude.{codes}
 use Rattle.trace_cli.specs.Words.{IsFileWord, IsModuleWord}
-use Rattle.trace_cli.proofs.NameLemmas.{three_words}
+use Rattle.trace_cli.proofs.WordLemmas.{three_words}
 use Rattle.trace_cli.proofs.words.read_words.Goals as goal
 
 pub returns-in_err-name : goal.returns-in_err-name

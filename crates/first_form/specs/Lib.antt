@@ -1,0 +1,5 @@
+pub mod Names
+pub mod Terms
+pub mod Module
+pub mod Lines
+pub mod Evaluates
