@@ -5,3 +5,4 @@ pub mod Moves
 pub mod Says
 pub mod Kept
 pub mod Last
+pub mod Table

@@ -88,7 +88,7 @@ fn entries_of<E: Member>(alloc: Global, nodes: Vec<Node<E>>) -> Result<Vec<E>, A
     Ok(entries)
 }
 
-fn into_entries<E: Member>(alloc: Global, layer: IndexMap<E, u32>) -> Result<Vec<E>, AllocError>
+pub fn into_entries<E: Member>(alloc: Global, layer: IndexMap<E, u32>) -> Result<Vec<E>, AllocError>
     ensures { IfOk result (λ entries. entries.items ≡ members_of layer.entries) }
 {
     let mut entries = Vec::new(alloc);

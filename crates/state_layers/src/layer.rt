@@ -6,7 +6,7 @@ use indexmap::IndexMap;
 use std::alloc::{AllocError, Global};
 
 /// Adds the entry to the layer, with the index of the node that it was reached from, where it is not there.
-fn add<E: Member>(layer: &mut IndexMap<E, u32>, entry: E, from: u32) -> Result<(), AllocError>
+pub fn add<E: Member>(layer: &mut IndexMap<E, u32>, entry: E, from: u32) -> Result<(), AllocError>
     ensures { OnOk result (AddsNew layer.old.entries entry from layer.new.entries) }
 {
     if !layer.contains_key(&entry) {

@@ -18,3 +18,6 @@ pub use last::Searched;
 pub use member::Member;
 pub use search::{search_entries, search_layers};
 pub use steps::{StepFault, Steps};
+
+#[cfg(test)]
+mod tests;

@@ -6,7 +6,7 @@ mod state;
 mod var_id;
 
 pub use fault::Fault;
-pub use state::{Behaviour, Mark, Shown, State, StateList};
+pub use state::{Behaviour, Mark, Shown, State};
 pub use tla_values::EvalKind;
 pub use var_id::VarId;
 
