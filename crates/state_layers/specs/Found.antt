@@ -1,28 +1,26 @@
--- Lists of states that were found, each with the index of the state before it.
+-- Members of a layer as they are found, each with the index of the node that it was reached from.
 use Rattle.std.specs.Prelude.{◌≡◌, ◌≢◌, ◌⊎◌, ℕ, ◌≤◌, List, [], ◌∷◌, ◌++◌, length, map, AllPairs, Contains}
-use Rattle.tla_core.specs.States.{Values}
-use Rattle.state_layers.specs.declared.layer.Found.{Found}
 
--- This state, reached from the node with this index.
-abbrev pub found : Values → ℕ → Found
-found state from = record { state = state; from = from }
+-- A member with that index.
+abbrev pub Found : Type 0 → Type 0
+Found A = A × ℕ
 
--- The states without the indexes.
-abbrev pub states_of : List Found → List Values
-states_of xs = map (λ f. f.state) xs
+-- The members without the indexes.
+abbrev pub members_of : {A : Type 0} → List (Found A) → List A
+members_of xs = map (λ f. f.0) xs
 
 -- No two are the same.
 abbrev pub IsDistinct : {A : Type 0} → List A → Type 0
 IsDistinct xs = AllPairs (λ a b. a ≢ b) xs
 
--- The state is added at the end where it is not there; else nothing changes.
-abbrev pub AddsNew : List Found → Values → ℕ → List Found → Type 0
-AddsNew old s from now = (Contains (states_of old) s × (now ≡ old))
-    ⊎ ((Contains (states_of old) s → ⊥) × (now ≡ old ++ found s from ∷ []))
+-- The member is added at the end where it is not there; else nothing changes.
+abbrev pub AddsNew : {A : Type 0} → List (Found A) → A → ℕ → List (Found A) → Type 0
+AddsNew old s from now = (Contains (members_of old) s × (now ≡ old))
+    ⊎ ((Contains (members_of old) s → ⊥) × (now ≡ old ++ (s, from) ∷ []))
 
--- States of the list that were not there are added, each once; and where there are at most `most` at the end, all of them.
-pub record Merged (old : List Found) (list : List Values) (from most : ℕ) (now : List Found) : Type 0 where
-  pub kept : (s : Values) → Contains (states_of old) s → Contains (states_of now) s
-  pub new : (f : Found) → Contains now f → Contains old f ⊎ ((f.from ≡ from) × Contains list f.state)
-  pub distinct : IsDistinct (states_of old) → IsDistinct (states_of now)
-  pub all : length now ≤ most → (s : Values) → Contains list s → Contains (states_of now) s
+-- What the list has and what was not there is added, each once; and where there are at most `most` at the end, all of it.
+pub record Merged {A : Type 0} (old : List (Found A)) (list : List A) (from most : ℕ) (now : List (Found A)) : Type 0 where
+  pub kept : (s : A) → Contains (members_of old) s → Contains (members_of now) s
+  pub new : (f : Found A) → Contains now f → Contains old f ⊎ ((f.1 ≡ from) × Contains list f.0)
+  pub distinct : IsDistinct (members_of old) → IsDistinct (members_of now)
+  pub all : length now ≤ most → (s : A) → Contains list s → Contains (members_of now) s

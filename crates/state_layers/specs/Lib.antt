@@ -1,8 +1,8 @@
 pub mod Answers
 pub mod Gives
 pub mod Found
-pub mod FoundCode
 pub mod Moves
 pub mod Says
 pub mod Kept
+pub mod Last
 pub mod Table

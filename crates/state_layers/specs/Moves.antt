@@ -1,11 +1,9 @@
--- One way from the states of a layer to those of a later one: a silent step, or the step of a line.
+-- One way from the members of a layer to those of a later one: a silent step, or the step of a line.
 use Rattle.std.specs.Prelude.{◌≡◌, ◌↔◌, ℕ, suc, ◌+◌, ◌-◌, ◌<◌, ◌≤◌, List, length, map, Some, slice_get, Contains}
 use Rattle.tla_core.specs.System.{System}
-use Rattle.tla_core.specs.States.{Values}
 use Rattle.tla_core.specs.Runs.{Layer, Entry}
 use Rattle.tla_core.specs.Sets.{IsList}
-use Rattle.state_layers.specs.Found.{states_of, IsDistinct}
-use Rattle.state_layers.specs.declared.layer.Found.{Found}
+use Rattle.state_layers.specs.Found.{Found, members_of, IsDistinct}
 use Rattle.state_layers.specs.declared.node.Node.{Node}
 use Rattle.state_layers.specs.declared.node.Move.{Move}
 use Rattle.state_layers.specs.declared.node.Move.TheVariants.{Wait, Go}
@@ -22,7 +20,7 @@ line_of (Wait n j) = n
 line_of (Go n) = n
 
 -- Its silent steps: before the step of a line, as many as are allowed.
-abbrev pub silents_of : System Values → Move → ℕ
+abbrev pub silents_of : {A : Type 0} → System A → Move → ℕ
 silents_of y (Wait n j) = j
 silents_of y (Go n) = y.within - 1
 
@@ -37,73 +35,73 @@ silents_after (Wait n j) = suc j
 silents_after (Go n) = 0
 
 -- The move is allowed: there is such a line, and no more silent steps are taken than are allowed.
-abbrev pub IsOpen : System Values → Move → Type 0
+abbrev pub IsOpen : {A : Type 0} → System A → Move → Type 0
 IsOpen y (Wait n j) = (n < y.count) × (suc j < y.within)
 IsOpen y (Go n) = n < y.count
 
--- The move leads from the first state to the second.
-abbrev pub Moves : System Values → Move → Values → Values → Type 0
+-- The move leads from the first to the second.
+abbrev pub Moves : {A : Type 0} → System A → Move → A → A → Type 0
 Moves y (Wait n j) s t = y.Silent s t
 Moves y (Go n) s t = y.Step n s t
 
--- The move from the first state to the second faults so.
-abbrev pub MoveFaults : System Values → Move → Values → Values → Fault → Type 0
+-- The move from the first to the second faults so.
+abbrev pub MoveFaults : {A : Type 0} → System A → Move → A → A → Fault → Type 0
 MoveFaults y (Wait n j) s t f = y.FaultSilent s t f
 MoveFaults y (Go n) s t f = y.FaultStep n s t f
 
--- What the line shows, if it is the step of a line, agrees with the second state.
-abbrev pub MoveSeen : System Values → Move → Values → Values → Type 0
+-- What the line shows, if it is the step of a line, agrees with the second.
+abbrev pub MoveSeen : {A : Type 0} → System A → Move → A → A → Type 0
 MoveSeen y (Wait n j) s t = Unit {0}
 MoveSeen y (Go n) s t = y.Seen n s t
 
--- No state that the move starts from faults, on a second state that agrees with what a line shows.
-abbrev pub IsClear : System Values → Move → Type 0
-IsClear y move = (m k : ℕ) (s t : Values) (f : Fault) → IsSource move m k → Layer y m k s → MoveFaults y move s t f → MoveSeen y move s t → ⊥
+-- Nothing that the move starts from faults, on a second that agrees with what a line shows.
+abbrev pub IsClear : {A : Type 0} → System A → Move → Type 0
+IsClear {A} y move = (m k : ℕ) (s t : A) (f : Fault) → IsSource move m k → Layer y m k s → MoveFaults y move s t f → MoveSeen y move s t → ⊥
 
 -- The entry of a layer that a node is.
-abbrev pub entry_of : Node → Entry Values
-entry_of x = record { line = x.line; silents = x.silents; member = x.state }
+abbrev pub entry_of : {A : Type 0} → Node A → Entry A
+entry_of x = record { line = x.line; silents = x.silents; member = x.entry }
 
 -- The entries that the nodes are.
-abbrev pub entries : List Node → List (Entry Values)
+abbrev pub entries : {A : Type 0} → List (Node A) → List (Entry A)
 entries xs = map entry_of xs
 
--- This state as a member of layer (n, j).
-abbrev pub entry : ℕ → ℕ → Values → Entry Values
+-- This as a member of layer (n, j).
+abbrev pub entry : {A : Type 0} → ℕ → ℕ → A → Entry A
 entry n j s = record { line = n; silents = j; member = s }
 
--- These states as members of layer (n, j).
-abbrev pub at_layer : ℕ → ℕ → List Values → List (Entry Values)
+-- These as members of layer (n, j).
+abbrev pub at_layer : {A : Type 0} → ℕ → ℕ → List A → List (Entry A)
 at_layer n j xs = map (entry n j) xs
 
 -- The nodes from an index on are those that the move starts from.
-abbrev pub IsRange : Move → List Node → ℕ → Type 0
-IsRange move nodes from = (i : ℕ) (x : Node) → slice_get nodes i ≡ Some x → (from ≤ i ↔ IsSource move x.line x.silents)
+abbrev pub IsRange : {A : Type 0} → Move → List (Node A) → ℕ → Type 0
+IsRange {A} move nodes from = (i : ℕ) (x : Node A) → slice_get nodes i ≡ Some x → (from ≤ i ↔ IsSource move x.line x.silents)
 
--- The state that was found is one step from the node that it names.
-pub record Comes (y : System Values) (move : Move) (nodes : List Node) (f : Found) : Type 0 where
-  pub node : Node
-  pub at : slice_get nodes f.from ≡ Some node
+-- What was found is one step from the node that it names.
+pub record Comes {A : Type 0} (y : System A) (move : Move) (nodes : List (Node A)) (f : Found A) : Type 0 where
+  pub node : Node A
+  pub at : slice_get nodes f.1 ≡ Some node
   pub source : IsSource move node.line node.silents
-  pub step : Moves y move node.state f.state
+  pub step : Moves y move node.entry f.0
 
--- States of the layer that the move leads to, each once.
-pub record Part (y : System Values) (move : Move) (nodes : List Node) (layer : List Found) : Type 0 where
-  pub distinct : IsDistinct (states_of layer)
-  pub comes : (f : Found) → Contains layer f → Comes y move nodes f
+-- Members of the layer that the move leads to, each once.
+pub record Part {A : Type 0} (y : System A) (move : Move) (nodes : List (Node A)) (layer : List (Found A)) : Type 0 where
+  pub distinct : IsDistinct (members_of layer)
+  pub comes : (f : Found A) → Contains layer f → Comes y move nodes f
 
 -- The steps of the nodes from one index to another are in the layer, and none of them faults.
-pub record Growing (y : System Values) (move : Move) (nodes : List Node) (from i : ℕ) (layer : List Found) : Type 0 where
+pub record Growing {A : Type 0} (y : System A) (move : Move) (nodes : List (Node A)) (from i : ℕ) (layer : List (Found A)) : Type 0 where
   pub part : Part y move nodes layer
-  pub all : (k : ℕ) (x : Node) (t : Values) → slice_get nodes k ≡ Some x → from ≤ k → k < i → Moves y move x.state t → Contains (states_of layer) t
-  pub clear : (k : ℕ) (x : Node) (t : Values) (f : Fault) → slice_get nodes k ≡ Some x → from ≤ k → k < i → MoveFaults y move x.state t f → MoveSeen y move x.state t → ⊥
+  pub all : (k : ℕ) (x : Node A) (t : A) → slice_get nodes k ≡ Some x → from ≤ k → k < i → Moves y move x.entry t → Contains (members_of layer) t
+  pub clear : (k : ℕ) (x : Node A) (t : A) (f : Fault) → slice_get nodes k ≡ Some x → from ≤ k → k < i → MoveFaults y move x.entry t f → MoveSeen y move x.entry t → ⊥
   pub limit : length layer ≤ y.limit
   pub total : length nodes + length layer ≤ y.total
 
 -- The layer that the move leads to, whole.
-pub record Grown (y : System Values) (move : Move) (nodes : List Node) (layer : List Found) : Type 0 where
-  pub list : IsList (Layer y (line_after move) (silents_after move)) (states_of layer)
-  pub comes : (f : Found) → Contains layer f → Comes y move nodes f
+pub record Grown {A : Type 0} (y : System A) (move : Move) (nodes : List (Node A)) (layer : List (Found A)) : Type 0 where
+  pub list : IsList (Layer y (line_after move) (silents_after move)) (members_of layer)
+  pub comes : (f : Found A) → Contains layer f → Comes y move nodes f
   pub clear : IsClear y move
   pub limit : length layer ≤ y.limit
   pub total : length nodes + length layer ≤ y.total

@@ -1,5 +1,6 @@
 ghost use Rattle.std.specs.Prelude.{IfOk, MatchOption};
-ghost use Rattle.state_layers.specs.Answers.{AllAssumed, IsAnswer};
+ghost use Rattle.state_layers.specs.Answers.{AllAssumed};
+ghost use Rattle.state_layers.specs.Says.{IsUnassumed};
 
 use crate::answer::Answer;
 use crate::steps::{StepFault, Steps};
@@ -7,7 +8,7 @@ use std::alloc::{AllocError, Global};
 
 /// The answer on the first assumption that is not TRUE, or none.
 pub fn judge<S: Steps>(alloc: Global, steps: &S) -> Result<Option<Answer>, AllocError>
-    ensures { IfOk result (λ o. MatchOption o (AllAssumed (S.system steps.now)) (λ answer. IsAnswer (S.system steps.now) answer)) }
+    ensures { IfOk result (λ o. MatchOption o (AllAssumed (S.system steps.now)) (IsUnassumed (S.system steps.now))) }
 {
     for index in 0..steps.assumes() {
         match steps.assumed(alloc, index) {

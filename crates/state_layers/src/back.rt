@@ -1,54 +1,60 @@
-ghost use Rattle.std.specs.Prelude.{◌≡◌, ◌↔◌, ◌≤◌, ◌<◌, IsTrue, IfOk, length};
-ghost use Rattle.state_layers.specs.Kept.{AllLinked, EndsAt, mark_at};
+ghost use Rattle.std.specs.Prelude.{◌≡◌, ◌↔◌, ◌<◌, IsTrue, IfOk, length};
+ghost use Rattle.state_layers.specs.Kept.{AllLinked, AllReached, EndsBehind, IsMark, Linked};
 
+use crate::member::Member;
 use crate::node::Node;
 use crate::steps::Steps;
 use std::alloc::{AllocError, Global};
 use tla_core::{Behaviour, Mark, Shown};
 
-/// The states along the links to a node, first to last.
+/// The states along the links to the last node, first to last. They are moved out of the nodes.
 pub fn read_back<S: Steps>(
     alloc: Global,
     steps: &S,
-    nodes: &[Node],
-    at: usize,
+    nodes: Vec<Node<S::Entry>>,
 ) -> Result<Behaviour, AllocError>
-    requires links { AllLinked (S.system steps.now) nodes.now }
-    requires within { at < length nodes.now }
-    ensures { IfOk result (λ w. EndsAt (S.system steps.now) nodes.now at w) }
+    requires links { AllLinked (S.system steps.now) nodes.items }
+    requires reached { AllReached (S.system steps.now) nodes.items }
+    requires some { 0 < length nodes.items }
+    ensures { IfOk result (λ w. EndsBehind (S.system steps.now) nodes.items w) }
 {
+    let mut nodes = nodes;
     let mut states = Behaviour::new(alloc);
-    let mut index = at;
     loop {
-        let node = &nodes[index];
-        let mark = mark_of(steps, node.line, node.silents);
+        let node = nodes.pop().unwrap();
+        let mark = mark_of(steps, &nodes, &node);
+        let first = is_first(&node);
+        let from = node.from as usize;
         states.push(Shown {
             mark,
-            state: node.state.copy(alloc)?,
+            state: node.entry.into_state(),
         })?;
-        if is_first(node) {
+        if first {
             states.reverse();
             return Ok(states);
         }
-        index = node.from as usize;
+        nodes.truncate(from + 1);
     }
 }
 
-fn is_first(node: &Node) -> bool
+fn is_first<E>(node: &Node<E>) -> bool
     ensures { IsTrue result ↔ ((node.now.line ≡ 0) × (node.now.silents ≡ 0)) }
 {
     node.line == 0 && node.silents == 0
 }
 
-fn mark_of<S: Steps>(steps: &S, line: u32, silents: u32) -> Mark
-    requires { line ≤ (S.system steps.now).count }
-    ensures { result ≡ mark_at (S.system steps.now) line silents }
+/// How a node was reached from those before it.
+fn mark_of<S: Steps>(steps: &S, nodes: &[Node<S::Entry>], node: &Node<S::Entry>) -> Mark
+    requires linked { Linked (S.system steps.now) nodes.now node.now }
+    requires reached { AllReached (S.system steps.now) nodes.now }
+    ensures { IsMark (S.system steps.now) nodes.now node.now result }
 {
-    if silents > 0 {
-        Mark::Silent
-    } else if line > 0 {
-        Mark::Line(steps.at(line - 1))
-    } else {
-        Mark::Init
+    if node.silents > 0 {
+        return Mark::Silent;
     }
+    if node.line == 0 {
+        return Mark::Init;
+    }
+    let from = &nodes[node.from as usize];
+    Mark::Line(steps.at(node.line - 1, &from.entry, &node.entry))
 }

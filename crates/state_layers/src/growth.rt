@@ -2,17 +2,18 @@ ghost use Rattle.std.specs.Prelude.{◌≡◌, ◌⊎◌, ◌≤◌, ◌<◌, �
 ghost use Rattle.tla_core.specs.Sets.{AreOf, IsList};
 ghost use Rattle.tla_core.specs.Runs.{Layer, Upto};
 ghost use Rattle.state_layers.specs.Gives.{Gives, IsSmall};
-ghost use Rattle.state_layers.specs.Found.{states_of};
+ghost use Rattle.state_layers.specs.Found.{members_of};
 ghost use Rattle.state_layers.specs.Moves.{IsSource, line_of, silents_of, line_after, silents_after, IsOpen, Moves, MoveFaults, MoveSeen, entries, at_layer, IsRange, Grown};
 ghost use Rattle.state_layers.specs.Says.{IsStop, Expands};
 ghost use Rattle.state_layers.specs.Kept.{Kept, IsBehind, nodes_of};
 
 use crate::answer::{Answer, Stop};
-use crate::layer::{Frontier, merge};
+use crate::layer::merge;
+use crate::member::Member;
 use crate::node::{Move, Node};
 use crate::steps::{StepFault, Steps};
+use indexmap::IndexMap;
 use std::alloc::{AllocError, Global};
-use tla_core::{State, StateList};
 
 /// How many lines the layer that a move leads to is after.
 fn line_after_move(step: Move) -> u32
@@ -36,41 +37,48 @@ fn silents_after_move(step: Move) -> u32
     }
 }
 
-/// The states to which a move leads from a state.
+/// The entries to which a move leads from a node.
 fn list_steps<S: Steps>(
     alloc: Global,
     steps: &S,
     step: Move,
-    state: &State,
+    node: &Node<S::Entry>,
     bound: u32,
-) -> Result<StateList, StepFault>
-    requires { IsOpen (S.system steps.now) step }
-    ensures { Gives (Moves (S.system steps.now) step state.now) (MoveFaults (S.system steps.now) step state.now) (MoveSeen (S.system steps.now) step state.now) bound result }
+) -> Result<Vec<S::Entry>, StepFault>
+    requires opens { IsOpen (S.system steps.now) step }
+    requires source { IsSource step node.now.line node.now.silents }
+    requires reached { Layer (S.system steps.now) node.now.line node.now.silents node.now.entry }
+    ensures { Gives (Moves (S.system steps.now) step node.now.entry) (MoveFaults (S.system steps.now) step node.now.entry) (MoveSeen (S.system steps.now) step node.now.entry) bound result }
 {
     match step {
-        Move::Wait { .. } => steps.silent(alloc, state, bound),
-        Move::Go { line } => steps.successors(alloc, line, state, bound),
+        Move::Wait { .. } => steps.silent(alloc, &node.entry, bound),
+        Move::Go { line } => steps.successors(alloc, line, &node.entry, bound),
     }
 }
 
-/// The states to which a move leads from a node, or an answer.
-fn expand<S: Steps>(alloc: Global, steps: &S, step: Move, node: &Node) -> Result<StateList, Stop>
+/// The entries to which a move leads from a node, or an answer.
+fn expand<S: Steps>(
+    alloc: Global,
+    steps: &S,
+    step: Move,
+    node: &Node<S::Entry>,
+) -> Result<Vec<S::Entry>, Stop>
     requires small { IsSmall (S.system steps.now) }
     requires opens { IsOpen (S.system steps.now) step }
     requires source { IsSource step node.now.line node.now.silents }
-    requires reached { Layer (S.system steps.now) node.now.line node.now.silents node.now.state }
-    ensures listed { IfOk result (λ list. Expands (S.system steps.now) step node.now.state list) }
+    requires reached { Layer (S.system steps.now) node.now.line node.now.silents node.now.entry }
+    ensures listed { IfOk result (λ list. Expands (S.system steps.now) step node.now.entry list.items) }
     ensures stopped { IfErr result (λ stop. IsStop (S.system steps.now) stop) }
 {
     let line = line_after_move(step);
     let silents = silents_after_move(step);
     let bound = steps.limit();
-    match list_steps(alloc, steps, step, &node.state, bound) {
+    match list_steps(alloc, steps, step, node, bound) {
         Ok(list) => Ok(list),
         Err(StepFault::Eval(fault)) => Err(Stop::Answered(Answer::Fault {
             after: node.line,
             silent: node.silents,
-            state: node.state.copy(alloc)?,
+            state: node.entry.state().copy(alloc)?,
             kind: fault.kind,
             at: fault.at,
         })),
@@ -85,15 +93,15 @@ fn expand<S: Steps>(alloc: Global, steps: &S, step: Move, node: &Node) -> Result
 /// Whether the layer is within the limits, beside the nodes of the layers before it.
 fn check_size<S: Steps>(
     steps: &S,
-    nodes: &[Node],
-    layer: &Frontier,
+    nodes: &[Node<S::Entry>],
+    layer: &IndexMap<S::Entry, u32>,
     line: u32,
     silents: u32,
 ) -> Result<(), Stop>
-    requires part { AreOf (Layer (S.system steps.now) line silents) (states_of layer.now) }
-    requires together { AreOf (Upto (S.system steps.now) line silents) (entries nodes.now ++ at_layer line silents (states_of layer.now)) }
-    ensures limit { OnOk result (length layer.now ≤ (S.system steps.now).limit) }
-    ensures total { OnOk result (length nodes.now + length layer.now ≤ (S.system steps.now).total) }
+    requires part { AreOf (Layer (S.system steps.now) line silents) (members_of layer.now.entries) }
+    requires together { AreOf (Upto (S.system steps.now) line silents) (entries nodes.now ++ at_layer line silents (members_of layer.now.entries)) }
+    ensures limit { OnOk result (length layer.now.entries ≤ (S.system steps.now).limit) }
+    ensures total { OnOk result (length nodes.now + length layer.now.entries ≤ (S.system steps.now).total) }
     ensures stopped { IfErr result (λ stop. IsStop (S.system steps.now) stop) }
 {
     if layer.len() > steps.limit() as usize {
@@ -116,22 +124,22 @@ fn check_size<S: Steps>(
 fn grow<S: Steps>(
     alloc: Global,
     steps: &S,
-    nodes: &[Node],
+    nodes: &[Node<S::Entry>],
     from: usize,
     step: Move,
-) -> Result<Frontier, Stop>
+) -> Result<IndexMap<S::Entry, u32>, Stop>
     requires small { IsSmall (S.system steps.now) }
     requires opens { IsOpen (S.system steps.now) step }
     requires kept { IsList (Upto (S.system steps.now) (line_of step) (silents_of (S.system steps.now) step)) (entries nodes.now) }
     requires range { IsRange step nodes.now from }
     requires room { length nodes.now ≤ (S.system steps.now).total }
-    ensures whole { IfOk result (λ layer. Grown (S.system steps.now) step nodes.now layer) }
+    ensures whole { IfOk result (λ layer. Grown (S.system steps.now) step nodes.now layer.entries) }
     ensures stopped { IfErr result (λ stop. IsStop (S.system steps.now) stop) }
 {
     let line = line_after_move(step);
     let silents = silents_after_move(step);
     let limit = steps.limit() as usize;
-    let mut layer = Frontier::new(alloc);
+    let mut layer = IndexMap::new(alloc);
     let mut index = from;
     while index < nodes.len() {
         let list = expand(alloc, steps, step, &nodes[index])?;
@@ -143,15 +151,20 @@ fn grow<S: Steps>(
 }
 
 /// Puts a layer behind the nodes.
-fn keep(nodes: &mut Vec<Node>, layer: Frontier, line: u32, silents: u32) -> Result<(), AllocError>
-    ensures { OnOk result (nodes.new.items ≡ nodes.old.items ++ nodes_of line silents layer) }
+fn keep<E: Member>(
+    nodes: &mut Vec<Node<E>>,
+    layer: IndexMap<E, u32>,
+    line: u32,
+    silents: u32,
+) -> Result<(), AllocError>
+    ensures { OnOk result (nodes.new.items ≡ nodes.old.items ++ nodes_of line silents layer.entries) }
 {
-    for found in layer.into_items() {
+    for (entry, from) in layer {
         nodes.push(Node {
             line,
             silents,
-            state: found.state,
-            from: found.from,
+            entry,
+            from,
         })?;
     }
     Ok(())
@@ -161,7 +174,7 @@ fn keep(nodes: &mut Vec<Node>, layer: Frontier, line: u32, silents: u32) -> Resu
 pub fn advance<S: Steps>(
     alloc: Global,
     steps: &S,
-    nodes: &mut Vec<Node>,
+    nodes: &mut Vec<Node<S::Entry>>,
     from: usize,
     step: Move,
     widest: usize,

@@ -1,17 +1,22 @@
-//! What a log says of a specification: layers of states, grown one from another.
+//! What a log says of a specification: layers of entries, as states, grown one from another.
 #![tactic(auto)]
 
 mod answer;
 mod assumptions;
 mod back;
 mod growth;
+mod last;
 mod layer;
+mod member;
 mod node;
 mod search;
 mod steps;
 
 pub use answer::Answer;
-pub use search::explain;
+pub use assumptions::judge;
+pub use last::Searched;
+pub use member::Member;
+pub use search::{search_entries, search_layers};
 pub use steps::{StepFault, Steps};
 
 #[cfg(test)]

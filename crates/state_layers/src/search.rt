@@ -1,22 +1,24 @@
-ghost use Rattle.std.specs.Prelude.{◌≡◌, ◌-◌, ◌<◌, IfOk, IfErr, OnOk, length};
+ghost use Rattle.std.specs.Prelude.{◌≡◌, ◌-◌, ◌<◌, ◌≤◌, IfOk, IfErr, OnOk, Contains, length};
 ghost use Rattle.tla_core.specs.System.{Begins};
 ghost use Rattle.tla_core.specs.Sets.{IsList};
-ghost use Rattle.state_layers.specs.Gives.{IsSmall};
+ghost use Rattle.state_layers.specs.Gives.{IsReached, IsSmall};
 ghost use Rattle.state_layers.specs.Answers.{IsAnswer};
+ghost use Rattle.state_layers.specs.Last.{AreLast};
 ghost use Rattle.state_layers.specs.Says.{Says, IsStop};
-ghost use Rattle.state_layers.specs.Kept.{IsInitClear, Kept, Starts, Continues, first_of};
+ghost use Rattle.state_layers.specs.Kept.{AllLinked, AllReached, IsInitClear, Kept, Starts, Continues, first_of};
 
 use crate::answer::{Answer, Stop};
 use crate::assumptions::judge;
 use crate::back::read_back;
 use crate::growth::advance;
+use crate::last::{Searched, unexplained};
+use crate::member::Member;
 use crate::node::{Move, Node};
 use crate::steps::{StepFault, Steps};
 use std::alloc::{AllocError, Global};
-use tla_core::StateList;
 
 /// The nodes of the first layer.
-fn begin<S: Steps>(alloc: Global, steps: &S) -> Result<Vec<Node>, Stop>
+fn begin<S: Steps>(alloc: Global, steps: &S) -> Result<Vec<Node<S::Entry>>, Stop>
     requires small { IsSmall (S.system steps.now) }
     ensures first { IfOk result (λ nodes. Kept (S.system steps.now) 0 0 nodes.items (length nodes.items)) }
     ensures some { IfOk result (λ nodes. Starts 0 nodes.items 0) }
@@ -37,8 +39,12 @@ fn begin<S: Steps>(alloc: Global, steps: &S) -> Result<Vec<Node>, Stop>
     }
 }
 
-fn first_nodes<S: Steps>(alloc: Global, steps: &S, list: StateList) -> Result<Vec<Node>, Stop>
-    requires listed { IsList (Begins (S.system steps.now)) list }
+fn first_nodes<S: Steps>(
+    alloc: Global,
+    steps: &S,
+    list: Vec<S::Entry>,
+) -> Result<Vec<Node<S::Entry>>, Stop>
+    requires listed { IsList (Begins (S.system steps.now)) list.items }
     requires clear { IsInitClear (S.system steps.now) }
     requires small { IsSmall (S.system steps.now) }
     ensures first { IfOk result (λ nodes. Kept (S.system steps.now) 0 0 nodes.items (length nodes.items)) }
@@ -63,15 +69,15 @@ fn first_nodes<S: Steps>(alloc: Global, steps: &S, list: StateList) -> Result<Ve
     Ok(first_items(alloc, list)?)
 }
 
-fn first_items(alloc: Global, list: StateList) -> Result<Vec<Node>, AllocError>
-    ensures { IfOk result (λ nodes. nodes.items ≡ first_of list) }
+fn first_items<E: Member>(alloc: Global, list: Vec<E>) -> Result<Vec<Node<E>>, AllocError>
+    ensures { IfOk result (λ nodes. nodes.items ≡ first_of list.items) }
 {
     let mut nodes = Vec::new(alloc);
-    for state in list.into_items() {
+    for entry in list {
         nodes.push(Node {
             line: 0,
             silents: 0,
-            state,
+            entry,
             from: 0,
         })?;
     }
@@ -82,7 +88,7 @@ fn first_items(alloc: Global, list: StateList) -> Result<Vec<Node>, AllocError>
 fn wait<S: Steps>(
     alloc: Global,
     steps: &S,
-    nodes: &mut Vec<Node>,
+    nodes: &mut Vec<Node<S::Entry>>,
     start: usize,
     line: u32,
     widest: usize,
@@ -115,9 +121,10 @@ fn wait<S: Steps>(
     Ok(widest)
 }
 
-fn search<S: Steps>(alloc: Global, steps: &S) -> Result<Answer, Stop>
+fn search<S: Steps>(alloc: Global, steps: &S) -> Result<Searched<S::Entry>, Stop>
     requires { IsSmall (S.system steps.now) }
-    ensures answered { IfOk result (λ answer. Says (S.system steps.now) answer) }
+    ensures answered { IfOk result (λ searched. Says (S.system steps.now) searched.answer) }
+    ensures last { IfOk result (λ searched. AreLast (S.system steps.now) searched.answer searched.last.items) }
     ensures stopped { IfErr result (λ stop. IsStop (S.system steps.now) stop) }
 {
     let count = steps.count();
@@ -130,33 +137,49 @@ fn search<S: Steps>(alloc: Global, steps: &S) -> Result<Answer, Stop>
         let end = nodes.len();
         widest = advance(alloc, steps, &mut nodes, start, Move::Go { line }, widest)?;
         if nodes.len() == end {
-            return Ok(Answer::NotExplained {
-                prefix: line,
-                of: count,
-                after: steps.at(line),
-                behaviour: read_back(alloc, steps, &nodes, start)?,
-            });
+            return Ok(unexplained(alloc, steps, nodes, start, line)?);
         }
         start = end;
         line += 1;
     }
-    Ok(Answer::Explained {
-        behaviour: read_back(alloc, steps, &nodes, start)?,
-        widest: widest as u32,
+    nodes.truncate(start + 1);
+    let behaviour = read_back(alloc, steps, nodes)?;
+    Ok(Searched {
+        answer: Answer::Explained {
+            behaviour,
+            widest: widest as u32,
+        },
+        last: Vec::new(alloc),
     })
 }
 
+/// What a log says of a specification, whose assumptions are judged before all else; and, where not all lines are
+/// explained, the entries that the first of them reach, in the order in which they were found.
+pub fn search_entries<S: Steps>(alloc: Global, steps: &S) -> Result<Searched<S::Entry>, AllocError>
+    requires { IsSmall (S.system steps.now) }
+    ensures answer { IfOk result (λ searched. IsAnswer (S.system steps.now) searched.answer) }
+    ensures last { IfOk result (λ searched. AreLast (S.system steps.now) searched.answer searched.last.items) }
+{
+    if let Some(answer) = judge(alloc, steps)? {
+        return Ok(Searched {
+            answer,
+            last: Vec::new(alloc),
+        });
+    }
+    match search(alloc, steps) {
+        Ok(searched) => Ok(searched),
+        Err(Stop::Answered(answer)) => Ok(Searched {
+            answer,
+            last: Vec::new(alloc),
+        }),
+        Err(Stop::NoMemory) => Err(AllocError),
+    }
+}
+
 /// What a log says of a specification, whose assumptions are judged before all else.
-pub fn explain<S: Steps>(alloc: Global, steps: &S) -> Result<Answer, AllocError>
+pub fn search_layers<S: Steps>(alloc: Global, steps: &S) -> Result<Answer, AllocError>
     requires { IsSmall (S.system steps.now) }
     ensures { IfOk result (λ answer. IsAnswer (S.system steps.now) answer) }
 {
-    if let Some(answer) = judge(alloc, steps)? {
-        return Ok(answer);
-    }
-    match search(alloc, steps) {
-        Ok(answer) => Ok(answer),
-        Err(Stop::Answered(answer)) => Ok(answer),
-        Err(Stop::NoMemory) => Err(AllocError),
-    }
+    Ok(search_entries(alloc, steps)?.answer)
 }

@@ -1,10 +1,10 @@
-ghost use Rattle.std.specs.Prelude.{◌≡◌, ◌<◌};
-ghost use Rattle.tla_core.specs.States.{Values};
+ghost use Rattle.std.specs.Prelude.{◌≡◌, ℕ, ◌<◌};
 ghost use Rattle.tla_core.specs.System.{System, Begins};
-ghost use Rattle.state_layers.specs.Gives.{Gives, Tells, IsPlain};
+ghost use Rattle.state_layers.specs.Gives.{Gives, Tells, IsReached};
 
+use crate::member::Member;
 use std::alloc::{AllocError, Global};
-use tla_core::{Fault, State, StateList};
+use tla_core::Fault;
 use trace_base::{LineAt, Place};
 
 /// Why steps are not listed, or an assumption is not told of: an evaluation faults, there are more
@@ -27,9 +27,13 @@ impl From<AllocError> for StepFault {
     }
 }
 
-/// What gives the steps of a specification beside a log whose lines have one order.
+/// What gives the steps of a specification beside a log, from one member of a layer to another. Steps are asked only
+/// from what is a member of some layer. Lines are counted from 0, and so are assumptions.
 pub trait Steps {
-    ghost system: { Self → System Values };
+    /// What the layers hold.
+    type Entry: Member;
+
+    ghost system: { Self → System Self.Entry };
 
     /// How many lines there are.
     fn count(&self) -> u32
@@ -39,46 +43,61 @@ pub trait Steps {
     fn within(&self) -> u32
         ensures { result ≡ (system self.now).within };
 
-    /// How many states a layer may have.
+    /// How many entries a layer may have.
     fn limit(&self) -> u32
         ensures { result ≡ (system self.now).limit };
 
-    /// How many states all layers may have together.
+    /// How many entries all layers may have together.
     fn total(&self) -> u32
         ensures { result ≡ (system self.now).total };
 
-    /// Where a line stands. Lines are counted from 0.
-    fn at(&self, line: u32) -> LineAt
-        requires { line < (system self.now).count }
-        ensures { (s t : Values) → result ≡ (system self.now).at line s t };
+    /// Where the line stands that is the step from one entry to another.
+    fn at(&self, line: u32, from: &Self::Entry, to: &Self::Entry) -> LineAt
+        requires left { line < (system self.now).count }
+        requires reached { IsReached (system self.now) line from.now }
+        requires step { (system self.now).Step line from.now to.now }
+        ensures { result ≡ (system self.now).at line from.now to.now };
+
+    /// Where the line stands that is expected at an entry.
+    fn expected(&self, line: u32, from: &Self::Entry) -> LineAt
+        requires left { line < (system self.now).count }
+        requires reached { IsReached (system self.now) line from.now }
+        ensures { result ≡ (system self.now).expected line from.now };
 
     /// How many assumptions there are.
     fn assumes(&self) -> u32
         ensures { result ≡ (system self.now).assumes };
 
-    /// Nothing where the assumption is TRUE, or its place where it is FALSE. Assumptions are counted from 0; where there
-    /// is none of the number, the answer tells nothing.
+    /// Nothing where the assumption is TRUE, or its place where it is FALSE. Where there is none of the number, the
+    /// answer tells nothing.
     fn assumed(&self, alloc: Global, index: u32) -> Result<Option<Place>, StepFault>
         ensures { index < (system self.now).assumes → Tells (system self.now) index result };
 
-    /// The first states, each once.
-    fn initial(&self, alloc: Global, bound: u32) -> Result<StateList, StepFault>
+    /// The first entries, each once.
+    fn initial(&self, alloc: Global, bound: u32) -> Result<Vec<Self::Entry>, StepFault>
         ensures { Gives (Begins (system self.now)) (system self.now).FaultInit (system self.now).InitSeen bound result };
 
-    /// The states to which a line leads from a state, each once.
+    /// The entries to which a line leads from an entry, each once.
     fn successors(
         &self,
         alloc: Global,
         line: u32,
-        state: &State,
+        from: &Self::Entry,
         bound: u32,
-    ) -> Result<StateList, StepFault>
-        requires { line < (system self.now).count }
-        ensures { Gives ((system self.now).Step line state.now) ((system self.now).FaultStep line state.now) ((system self.now).Seen line state.now) bound result };
+    ) -> Result<Vec<Self::Entry>, StepFault>
+        requires left { line < (system self.now).count }
+        requires reached { IsReached (system self.now) line from.now }
+        ensures { Gives ((system self.now).Step line from.now) ((system self.now).FaultStep line from.now) ((system self.now).Seen line from.now) bound result };
 
-    /// The states to which a step that no line shows leads from a state, each once.
-    fn silent(&self, alloc: Global, state: &State, bound: u32) -> Result<StateList, StepFault>
-        ensures { Gives ((system self.now).Silent state.now) ((system self.now).FaultSilent state.now) (λ t. Unit {0}) bound result };
+    /// The entries to which a step that no line shows leads from an entry, each once.
+    fn silent(
+        &self,
+        alloc: Global,
+        from: &Self::Entry,
+        bound: u32,
+    ) -> Result<Vec<Self::Entry>, StepFault>
+        requires reached { (n : ℕ) × IsReached (system self.now) n from.now }
+        ensures { Gives ((system self.now).Silent from.now) ((system self.now).FaultSilent from.now) (λ t. Unit {0}) bound result };
 
-    ghost plain: { (s : Self) → IsPlain (system s) };
+    ghost shows: { (s : Self) (m : Self.Entry) → (system s).state_of m ≡ Self.Entry.state_of m };
 }

@@ -1,23 +1,78 @@
 ghost use Rattle.std.specs.Prelude.{◌≡◌, ◌≤◌, ◌↔◌, false, true, IsTrue, IfOk, IfErr, OnOk};
 ghost use Rattle.state_layers.specs.Gives.{Gives};
-ghost use Rattle.state_layers.specs.Found.{states_of};
-ghost use Rattle.state_layers.specs.Table.{Leads, IsEdge, Takes, IsRefused};
+ghost use Rattle.state_layers.specs.Found.{members_of};
+ghost use Rattle.state_layers.specs.Table.{Leads, IsEdge, Takes, IsRefused, none};
 
-use crate::layer::Frontier;
-use crate::{Answer, StepFault, Steps, explain};
+use crate::last::into_entries;
+use crate::layer::add;
+use crate::{Answer, Member, StepFault, Steps, search_entries, search_layers};
+use indexmap::IndexMap;
 use std::alloc::{AllocError, Global};
+use std::hash::{Hash, Hasher};
 use std::marker::Model;
 use std::rt::HostRuntime;
-use tla_core::{Behaviour, EvalKind, Fault, Mark, State, StateList};
+use tla_core::{Behaviour, EvalKind, Fault, Mark, State};
 use tla_values::Value;
 use trace_base::{LineAt, Place};
 
-/// A step of this kind from a state to a state, or a fault there.
+/// What is searched: a state at a place. All of them have one hash.
+#[derive(Drop, PartialEq, Eq)]
+struct Placed {
+    place: u32,
+    state: State,
+}
+
+impl Model for Placed {
+    ghost use Rattle.state_layers.specs.Table.{Spot, spot_code};
+
+    ghost Value = { Spot };
+
+    ghost coded = { spot_code };
+
+    ghost view = { λ p. (p.place, p.state) };
+
+    ghost inverse = { λ p. record { place = p.0; state = p.1 } };
+}
+
+impl Hash for Placed {
+    ghost use Rattle.std.specs.Prelude.{[], refl};
+
+    ghost hash_input = { λ p. [] };
+
+    ghost respects_eq = { λ p q e. refl };
+
+    fn hash<H: Hasher>(&self, _state: &mut H) {}
+}
+
+impl Member for Placed {
+    ghost use Rattle.state_layers.specs.Table.{placed_same};
+
+    ghost state_of = { λ p. p.1 };
+
+    ghost same = { placed_same };
+
+    fn state(&self) -> &State {
+        &self.state
+    }
+
+    fn into_state(self) -> State {
+        self.state
+    }
+
+    fn copy(&self, alloc: Global) -> Result<Placed, AllocError> {
+        Ok(Placed {
+            place: self.place,
+            state: self.state.copy(alloc)?,
+        })
+    }
+}
+
+/// A step of this kind from a place and state to another, or a fault there.
 #[derive(Drop)]
 struct Edge {
     mark: Mark,
-    from: State,
-    to: State,
+    from: Placed,
+    to: Placed,
     faults: bool,
 }
 
@@ -52,62 +107,54 @@ const FAULT: Fault = Fault {
     },
 };
 
-fn is_edge(edge: &Edge, mark: Mark, state: &State) -> bool
-    ensures { IsTrue result ↔ IsEdge edge.now mark state.now }
+fn is_edge(edge: &Edge, mark: Mark, from: &Placed) -> bool
+    ensures { IsTrue result ↔ IsEdge edge.now mark from.now }
 {
-    edge.mark == mark && edge.from.same(state)
+    edge.mark == mark && edge.from.place == from.place && edge.from.state.same(&from.state)
 }
 
 fn add_end(
     alloc: Global,
-    found: &mut Frontier,
+    found: &mut IndexMap<Placed, u32>,
     edge: &Edge,
     mark: Mark,
-    state: &State,
+    from: &Placed,
 ) -> Result<(), StepFault>
-    ensures ok { OnOk result (Takes edge.now mark state.now found.old found.new) }
-    ensures err { IfErr result (λ fault. IsRefused edge.now mark state.now fault) }
+    ensures ok { OnOk result (Takes edge.now mark from.now found.old.entries found.new.entries) }
+    ensures err { IfErr result (λ fault. IsRefused edge.now mark from.now fault) }
 {
-    if is_edge(edge, mark, state) {
+    if is_edge(edge, mark, from) {
         if edge.faults {
             return Err(StepFault::Eval(FAULT));
         }
-        found.add(edge.to.copy(alloc)?, 0)?;
+        add(found, edge.to.copy(alloc)?, 0)?;
     }
     Ok(())
 }
 
-fn into_states(alloc: Global, found: Frontier) -> Result<StateList, AllocError>
-    ensures { IfOk result (λ list. list ≡ states_of found) }
-{
-    let mut list = StateList::new(alloc);
-    for item in found.into_items() {
-        list.push(item.state)?;
-    }
-    Ok(list)
-}
-
-/// The states that the edges of a kind lead to from a state.
+/// What the edges of a kind lead to.
 fn listed(
     alloc: Global,
     edges: &[Edge],
     mark: Mark,
-    state: &State,
+    from: &Placed,
     bound: u32,
-) -> Result<StateList, StepFault>
-    ensures { Gives (Leads edges.now mark state.now false) (λ t f. Leads edges.now mark state.now true t) (λ t. Unit {0}) bound result }
+) -> Result<Vec<Placed>, StepFault>
+    ensures { Gives (Leads edges.now mark from.now false) (λ t f. Leads edges.now mark from.now true t) (λ t. Unit {0}) bound result }
 {
-    let mut found = Frontier::new(alloc);
+    let mut found = IndexMap::new(alloc);
     for edge in edges {
-        add_end(alloc, &mut found, edge, mark, state)?;
+        add_end(alloc, &mut found, edge, mark, from)?;
     }
     if found.len() > bound as usize {
         return Err(StepFault::TooMany);
     }
-    Ok(into_states(alloc, found)?)
+    Ok(into_entries(alloc, found)?)
 }
 
 impl Steps for Table {
+    type Entry = Placed;
+
     ghost use Rattle.std.specs.Prelude.{refl};
     ghost use Rattle.state_layers.specs.Table.{system_of};
 
@@ -129,8 +176,18 @@ impl Steps for Table {
         self.total
     }
 
-    fn at(&self, line: u32) -> LineAt {
-        LineAt { file: 1, line }
+    fn at(&self, line: u32, _from: &Placed, to: &Placed) -> LineAt {
+        LineAt {
+            file: to.place,
+            line,
+        }
+    }
+
+    fn expected(&self, line: u32, from: &Placed) -> LineAt {
+        LineAt {
+            file: from.place,
+            line,
+        }
     }
 
     fn assumes(&self) -> u32 {
@@ -145,42 +202,36 @@ impl Steps for Table {
         }
     }
 
-    fn initial(&self, alloc: Global, bound: u32) -> Result<StateList, StepFault> {
-        listed(
-            alloc,
-            &self.edges,
-            Mark::Init,
-            &State::new(Vec::new(alloc)),
-            bound,
-        )
+    fn initial(&self, alloc: Global, bound: u32) -> Result<Vec<Placed>, StepFault> {
+        listed(alloc, &self.edges, Mark::Init, &nowhere(alloc), bound)
     }
 
     fn successors(
         &self,
         alloc: Global,
         line: u32,
-        state: &State,
+        from: &Placed,
         bound: u32,
-    ) -> Result<StateList, StepFault> {
+    ) -> Result<Vec<Placed>, StepFault> {
         listed(
             alloc,
             &self.edges,
             Mark::Line(LineAt { file: 1, line }),
-            state,
+            from,
             bound,
         )
     }
 
-    fn silent(&self, alloc: Global, state: &State, bound: u32) -> Result<StateList, StepFault> {
-        listed(alloc, &self.edges, Mark::Silent, state, bound)
+    fn silent(&self, alloc: Global, from: &Placed, bound: u32) -> Result<Vec<Placed>, StepFault> {
+        listed(alloc, &self.edges, Mark::Silent, from, bound)
     }
 
-    ghost plain = { λ x. record { state = λ s. refl; line = λ n s t u v. refl; expected = λ n s t u. refl } };
+    ghost shows = { λ x m. refl };
 }
 
 /// A step of this kind, from a state if it is no first one, to a state; or a fault there.
 #[derive(Drop)]
-struct Row(Mark, Option<i64>, i64, bool);
+struct Row(Mark, Option<u32>, u32, bool);
 
 #[derive(Drop)]
 struct Case<'a> {
@@ -193,20 +244,33 @@ struct Case<'a> {
     expected: &'a str,
 }
 
-fn state_of(alloc: Global, number: i64) -> Result<State, AllocError> {
+// the state of the last digit at the place of the digits before it
+fn from_digits(alloc: Global, number: u32) -> Result<Placed, AllocError> {
     let mut values = Vec::new(alloc);
-    values.push(Value::int(number))?;
-    Ok(State::new(values))
+    values.push(Value::int(i64::from(number % 10)))?;
+    Ok(Placed {
+        place: number / 10,
+        state: State::new(values),
+    })
+}
+
+fn nowhere(alloc: Global) -> Placed
+    ensures { result ≡ none }
+{
+    Placed {
+        place: 0,
+        state: State::new(Vec::new(alloc)),
+    }
 }
 
 fn from_row(alloc: Global, row: &Row) -> Result<Edge, AllocError> {
     Ok(Edge {
         mark: row.0,
         from: match row.1 {
-            Some(number) => state_of(alloc, number)?,
-            None => State::new(Vec::new(alloc)),
+            Some(number) => from_digits(alloc, number)?,
+            None => nowhere(alloc),
         },
-        to: state_of(alloc, row.2)?,
+        to: from_digits(alloc, row.2)?,
         faults: row.3,
     })
 }
@@ -244,7 +308,10 @@ fn tell_states(alloc: Global, behaviour: &Behaviour) -> Result<String, AllocErro
         match shown.mark {
             Mark::Init => text.push_str(" init")?,
             Mark::Silent => text.push_str(" silent")?,
-            Mark::Line(at) => text.push_str(format!(in alloc; " line-{}", at.line)?.as_str())?,
+            Mark::Line(at) => text.push_str(format!(in alloc;
+                " line-{}@{}",
+                at.line, at.file
+            )?.as_str())?,
         }
         text.push_str(format!(in alloc; " {}", number_of(&shown.state))?.as_str())?;
     }
@@ -297,10 +364,12 @@ fn tell(alloc: Global, answer: &Answer) -> Result<String, AllocError> {
         } => {
             let mut text = format!(in alloc; "not explained {prefix} of {of}")?;
             text.push_str(format!(in alloc;
-                " next {}:{}",
+                " next {}@{}:{}",
                 after.line,
+                after.file,
                 tell_states(alloc, behaviour)?
-            )?.as_str())?;
+            )?
+            .as_str())?;
             Ok(text)
         }
         Answer::Fault {
@@ -333,7 +402,15 @@ fn run(alloc: Global, case: &Case) -> Result<String, AllocError> {
     {
         return String::from_str(alloc, "too large");
     }
-    tell(alloc, &explain(alloc, &table)?)
+    let searched = search_entries(alloc, &table)?;
+    let mut text = tell(alloc, &searched.answer)?;
+    if text.as_str() != tell(alloc, &search_layers(alloc, &table)?)?.as_str() {
+        text.push_str(" or another")?;
+    }
+    for entry in &searched.last {
+        text.push_str(format!(in alloc; " {}{}", entry.place, number_of(entry.state()))?.as_str())?;
+    }
+    Ok(text)
 }
 
 const fn line(number: u32) -> Mark {
@@ -376,6 +453,13 @@ fn answers(rt: HostRuntime) {
         Row(line(0), Some(0), 1, false),
         Row(line(0), Some(0), 2, false),
     ];
+    let turning = [
+        Row(Mark::Init, None, 10, false),
+        Row(Mark::Init, None, 20, false),
+        Row(Mark::Silent, Some(10), 20, false),
+        Row(Mark::Silent, Some(20), 30, false),
+        Row(Mark::Silent, Some(30), 10, false),
+    ];
     let faulty = [
         Row(Mark::Init, None, 0, false),
         Row(line(0), Some(0), 7, false),
@@ -391,7 +475,7 @@ fn answers(rt: HostRuntime) {
             within: 1,
             limit: 10,
             total: 100,
-            expected: "not explained 2 of 3 next 2: init 0 line-0 20 line-1 12",
+            expected: "not explained 2 of 3 next 2@1: init 0 line-0@2 0 line-1@1 2 12",
         },
         Case {
             rows: &pairs,
@@ -400,7 +484,7 @@ fn answers(rt: HostRuntime) {
             within: 1,
             limit: 10,
             total: 100,
-            expected: "explained 2: init 0 line-0 12 line-1 24",
+            expected: "explained 2: init 0 line-0@1 2 line-1@2 4",
         },
         Case {
             rows: &counting,
@@ -409,7 +493,7 @@ fn answers(rt: HostRuntime) {
             within: 3,
             limit: 10,
             total: 100,
-            expected: "explained 1: init 0 silent 1 silent 2 line-0 3",
+            expected: "explained 1: init 0 silent 1 silent 2 line-0@0 3",
         },
         Case {
             rows: &counting,
@@ -418,7 +502,16 @@ fn answers(rt: HostRuntime) {
             within: 2,
             limit: 10,
             total: 100,
-            expected: "not explained 0 of 1 next 0: init 0",
+            expected: "not explained 0 of 1 next 0@0: init 0 00 01",
+        },
+        Case {
+            rows: &turning,
+            assumptions: &[],
+            count: 1,
+            within: 3,
+            limit: 2,
+            total: 6,
+            expected: "not explained 0 of 1 next 0@1: init 0 10 20 30",
         },
         Case {
             rows: &repeating,
@@ -427,7 +520,7 @@ fn answers(rt: HostRuntime) {
             within: 1,
             limit: 3,
             total: 4,
-            expected: "explained 3: init 0 line-0 1",
+            expected: "explained 3: init 0 line-0@0 1",
         },
         Case {
             rows: &repeating,
@@ -508,7 +601,7 @@ fn answers(rt: HostRuntime) {
             within: 2,
             limit: 10,
             total: 100,
-            expected: "explained 1: init 0 line-0 7",
+            expected: "explained 1: init 0 line-0@0 7",
         },
         Case {
             rows: &faulty,

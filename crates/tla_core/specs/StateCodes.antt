@@ -7,8 +7,5 @@ use Rattle.tla_values.specs.Tree.{val_code}
 abbrev pub values_code : Coded (List Val)
 values_code = coded_list val_code
 
-abbrev pub states_code : Coded (List (List Val))
-states_code = coded_list values_code
-
 abbrev pub places_code : Coded (List (Option Val))
 places_code = coded_list (coded_option val_code)

@@ -11,7 +11,7 @@ mod var_set;
 pub use env::Env;
 pub use fault::Fault;
 pub use partial::Partial;
-pub use state::{Behaviour, Mark, Shown, State, StateList};
+pub use state::{Behaviour, Mark, Shown, State};
 pub use tla_values::EvalKind;
 pub use var_id::VarId;
 pub use var_set::VarSet;

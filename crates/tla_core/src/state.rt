@@ -60,15 +60,7 @@ impl State {
     pub fn same(&self, other: &State) -> bool
         ensures { IsTrue result ↔ (self.now ≡ other.now) }
     {
-        if self.values.len() != other.values.len() {
-            return false;
-        }
-        for index in 0..self.values.len() {
-            if !self.values[index].same(&other.values[index]) {
-                return false;
-            }
-        }
-        true
+        self == other
     }
 }
 
@@ -147,67 +139,5 @@ impl Behaviour {
         ensures { self.new ≡ reverse self.old }
     {
         self.items.reverse();
-    }
-}
-
-/// States, seen as the list of them.
-#[derive(Drop)]
-pub struct StateList {
-    items: Vec<State>,
-}
-
-impl Model for StateList {
-    ghost use Rattle.std.specs.Prelude.{List};
-    ghost use Rattle.tla_values.specs.Data.{Val};
-    ghost use Rattle.tla_core.specs.StateCodes.{states_code};
-
-    ghost Value = { List (List Val) };
-
-    ghost coded = { states_code };
-
-    ghost view = { λ b. b.items.items };
-}
-
-impl StateList {
-    pub fn new(alloc: Global) -> StateList
-        ensures { result ≡ [] }
-    {
-        StateList {
-            items: Vec::new(alloc),
-        }
-    }
-
-    /// Adds a state at the end, or nothing where memory is wanting.
-    pub fn push(&mut self, item: State) -> Result<(), AllocError>
-        ensures ok { OnOk result (self.new ≡ self.old ++ item ∷ []) }
-        ensures err { OnErr result (self.new ≡ self.old) }
-    {
-        self.items.push(item)?;
-        Ok(())
-    }
-
-    pub fn len(&self) -> usize
-        ensures { result ≡ length self.now }
-    {
-        self.items.len()
-    }
-
-    /// The state with this number, from 0.
-    pub fn get(&self, index: usize) -> Option<&State>
-        ensures { MatchOption result (length self.now ≤ index) (λ state. slice_get self.now index ≡ Some state.now) }
-    {
-        self.items.get(index)
-    }
-
-    pub fn items(&self) -> &[State]
-        ensures { result.now ≡ self.now }
-    {
-        &self.items
-    }
-
-    pub fn into_items(self) -> Vec<State>
-        ensures { result.items ≡ self }
-    {
-        self.items
     }
 }

@@ -1,5 +1,7 @@
-use crate::{Behaviour, Env, Mark, Partial, Shown, State, StateList, VarId, VarSet};
+use crate::{Behaviour, Env, Mark, Partial, Shown, State, VarId, VarSet};
 use std::alloc::{AllocError, Global};
+use std::cmp::Ordering;
+use std::hash::{FoldHasher, Hash, Hasher};
 use std::rt::HostRuntime;
 use tla_values::Value;
 use trace_base::LineAt;
@@ -63,37 +65,35 @@ fn tell_reversed(alloc: Global) -> Result<String, AllocError> {
     Ok(text)
 }
 
-// the states of a list, by index and then all
-fn tell_list(alloc: Global) -> Result<String, AllocError> {
-    let mut list = StateList::new(alloc);
-    list.push(state_of(alloc, &[5])?)?;
-    list.push(state_of(alloc, &[6])?)?;
-    let mut text = format!(in alloc; "{}", list.len())?;
-    if let Some(state) = list.get(1) {
-        text.push_str(format!(in alloc; " {}", number_of(state))?.as_str())?;
-    }
-    for state in list.items() {
-        text.push_str(format!(in alloc; " {}", number_of(state))?.as_str())?;
-    }
-    for state in list.into_items() {
-        text.push_str(format!(in alloc; " {}", number_of(&state))?.as_str())?;
-    }
-    Ok(text)
+// how the one stands to the other, and whether both are hashed alike
+fn tell_order(alloc: Global, one: &[i64], other: &[i64]) -> Result<(Ordering, bool), AllocError> {
+    let one = state_of(alloc, one)?;
+    let other = state_of(alloc, other)?;
+    Ok((one.cmp(&other), hash_of(&one) == hash_of(&other)))
+}
+
+fn hash_of(state: &State) -> u64 {
+    let mut hasher = FoldHasher::default();
+    state.hash(&mut hasher);
+    hasher.finish()
 }
 
 #[test]
 fn states(rt: HostRuntime) {
     let alloc = rt.alloc();
-    let cases: [(&[i64], &[i64], bool); 5] = [
-        (&[], &[], true),
-        (&[1, 2], &[1, 2], true),
-        (&[1, 2], &[1, 3], false),
-        (&[1, 2], &[1], false),
-        (&[1], &[1, 2], false),
+    let cases: [(&[i64], &[i64], Ordering); 6] = [
+        (&[], &[], Ordering::Equal),
+        (&[1, 2], &[1, 2], Ordering::Equal),
+        (&[1, 2], &[1, 3], Ordering::Less),
+        (&[2, 1], &[1, 2, 3], Ordering::Greater),
+        (&[1, 2], &[1], Ordering::Greater),
+        (&[1], &[1, 2], Ordering::Less),
     ];
-    for (one, other, expected) in cases {
+    for (one, other, order) in cases {
+        let equal = order.is_eq();
         assert!(rt;
-            is_copy(alloc, one, other) == Ok(expected),
+            is_copy(alloc, one, other) == Ok(equal)
+                && tell_order(alloc, one, other) == Ok((order, equal)),
             "{one:?} {other:?}"
         );
     }
@@ -102,8 +102,6 @@ fn states(rt: HostRuntime) {
         told.is_ok_and(|text| text.as_str()
             == "Line(LineAt { file: 2, line: 7 }) 2 Silent 1 Init 0 none")
     );
-    let listed = tell_list(alloc);
-    assert!(rt; listed.is_ok_and(|text| text.as_str() == "2 6 5 6 5 6"));
 }
 
 // which of the variables 0 to 3 and 63 are in the set

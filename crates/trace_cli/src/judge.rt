@@ -20,7 +20,7 @@ use crate::log::{Line, LogFault, read_log};
 use crate::steps::Form;
 use crate::words::{Job, read_words};
 use first_form::{Spec, read_module};
-use state_layers::{Answer, explain};
+use state_layers::{Answer, search_layers};
 use std::alloc::{AllocError, Global};
 use trace_base::{Files, ReadFault, read_file};
 
@@ -211,7 +211,7 @@ fn judge_lines(
     ensures device { ¬ IsErrOf result Stop.Device }
 {
     let form = Form { spec, lines };
-    let answer = explain(alloc, &form)?;
+    let answer = search_layers(alloc, &form)?;
     let fields = sort_fields(alloc, &spec.variables)?;
     let labels = Labels {
         file,

@@ -7,7 +7,7 @@ use crate::seen::is_seen;
 use first_form::{NextFault, Spec, next_state};
 use state_layers::{StepFault, Steps};
 use std::alloc::{AllocError, Global};
-use tla_core::{State, StateList};
+use tla_core::State;
 use trace_base::{LineAt, Place};
 
 /// A specification beside the lines of a log.
@@ -20,10 +20,10 @@ pub struct Form<'a> {
 }
 
 /// The list of this state alone.
-fn only(alloc: Global, state: State) -> Result<StateList, AllocError>
-    ensures { IfOk result (λ states. states ≡ state ∷ []) }
+fn only(alloc: Global, state: State) -> Result<Vec<State>, AllocError>
+    ensures { IfOk result (λ states. states.items ≡ state ∷ []) }
 {
-    let mut states = StateList::new(alloc);
+    let mut states = Vec::with_capacity(alloc, 1)?;
     states.push(state)?;
     Ok(states)
 }
@@ -41,6 +41,8 @@ fn step(alloc: Global, spec: &Spec, state: &State) -> Result<Option<State>, Step
 }
 
 impl<'a> Steps for Form<'a> {
+    type Entry = State;
+
     ghost use Rattle.std.specs.Prelude.{refl};
     ghost use Rattle.trace_cli.specs.Form.{first_form};
 
@@ -62,7 +64,11 @@ impl<'a> Steps for Form<'a> {
         2_000_000
     }
 
-    fn at(&self, line: u32) -> LineAt {
+    fn at(&self, line: u32, _from: &State, _to: &State) -> LineAt {
+        self.lines[line as usize].at
+    }
+
+    fn expected(&self, line: u32, _from: &State) -> LineAt {
         self.lines[line as usize].at
     }
 
@@ -74,7 +80,7 @@ impl<'a> Steps for Form<'a> {
         Ok(None)
     }
 
-    fn initial(&self, alloc: Global, _bound: u32) -> Result<StateList, StepFault> {
+    fn initial(&self, alloc: Global, _bound: u32) -> Result<Vec<State>, StepFault> {
         Ok(only(alloc, self.spec.init.copy(alloc)?)?)
     }
 
@@ -82,30 +88,26 @@ impl<'a> Steps for Form<'a> {
         &self,
         alloc: Global,
         line: u32,
-        state: &State,
+        from: &State,
         _bound: u32,
-    ) -> Result<StateList, StepFault> {
-        match step(alloc, self.spec, state)? {
+    ) -> Result<Vec<State>, StepFault> {
+        match step(alloc, self.spec, from)? {
             Some(next) => {
                 if !is_seen(&self.lines[line as usize], &next) {
-                    return Ok(StateList::new(alloc));
+                    return Ok(Vec::new(alloc));
                 }
                 Ok(only(alloc, next)?)
             }
-            None => Ok(StateList::new(alloc)),
+            None => Ok(Vec::new(alloc)),
         }
     }
 
-    fn silent(&self, alloc: Global, state: &State, _bound: u32) -> Result<StateList, StepFault> {
-        match step(alloc, self.spec, state)? {
+    fn silent(&self, alloc: Global, from: &State, _bound: u32) -> Result<Vec<State>, StepFault> {
+        match step(alloc, self.spec, from)? {
             Some(next) => Ok(only(alloc, next)?),
-            None => Ok(StateList::new(alloc)),
+            None => Ok(Vec::new(alloc)),
         }
     }
 
-    ghost plain = { λ form. record {
-      state = λ s. refl;
-      line = λ n s t u v. refl;
-      expected = λ n s t u. refl;
-    } };
+    ghost shows = { λ form s. refl };
 }

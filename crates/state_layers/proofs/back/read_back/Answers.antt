@@ -1,47 +1,29 @@
-use Rattle.std.proofs.Common.{◌≡◌, ◌<◌, length, arith, refl, get_or, false, rules}
-use Rattle.std.specs.Prelude.{IsTrue}
-use Rattle.std.proofs.lemmas.Option.{slice_get_read, slice_get-get_or}
-use Rattle.state_layers.proofs.FirstLaws.{linked_line, back_init, back_more, back_end}
+use Rattle.std.proofs.Common.{◌≡◌, ◌∙◌, ◌++◌, sym, IsTrue, false, true, rules, arith, length, ◌-◌, [], ◌∷◌, ap, option_to_list}
+use Rattle.state_layers.specs.Kept.{IsMark}
+use Rattle.state_layers.proofs.BackLaws.{back_more, back_end}
 use Rattle.state_layers.proofs.back.read_back.Goals as goal
 
-pub mark_of-mark-requires : goal.mark_of-mark-requires
-mark_of-mark-requires g c =
-    let lt : c.loop-states.index < length c.args.nodes.now = c.loop-states.invariant.within in
-    let at = slice_get_read c.args.nodes.now _ c.loop-states.index c.index-nodes-index.result refl lt c.index-nodes-index.is in
-    linked_line (g.S.Steps.system c.args.steps.now) _ c.index-nodes-index.result (c.requires.links c.loop-states.index c.index-nodes-index.result at)
-
-pub loop-states-init : goal.loop-states-init
-loop-states-init g c = record {
-  back = rw c.new-states.ensures (back_init (g.S.Steps.system c.args.steps.now) c.args.nodes.now c.args.at);
-  within = c.requires.within;
-}
-
-pub returns-then-is_first : goal.returns-then-is_first
-returns-then-is_first g c =
-    let lt : c.loop-states.index < length c.args.nodes.now = c.loop-states.invariant.within in
-    let at = slice_get_read c.args.nodes.now _ c.loop-states.index c.index-nodes-index.result refl lt c.index-nodes-index.is in
-    let yes : IsTrue c.is_first.result = search rules in
-    let first = c.is_first.ensures.0 yes in
-    rw (c.reverse.ensures, rw (c.mark_of-mark.ensures, c.in_ok-copy.ensures) at c.in_ok-push.ensures.ok)
-    (back_end (g.S.Steps.system c.args.steps.now) (g.met.S.Steps.plain c.args.steps.now) c.args.nodes.now c.args.at c.loop-states.index (get_or c.args.nodes.now c.args.at c.index-nodes-index.result) c.index-nodes-index.result
-    c.loop-states.states c.requires.links (slice_get-get_or c.args.nodes.now c.args.at c.index-nodes-index.result c.requires.within) at first.0 first.1 c.loop-states.invariant.back)
-
-pub loop-states-smaller : goal.loop-states-smaller
-loop-states-smaller g c =
-    let lt : c.loop-states.index < length c.args.nodes.now = c.loop-states.invariant.within in
-    let at = slice_get_read c.args.nodes.now _ c.loop-states.index c.index-nodes-index.result refl lt c.index-nodes-index.is in
-    let none : c.is_first.result ≡ false = c.if-is_first.false in
-    (back_more (g.S.Steps.system c.args.steps.now) (g.met.S.Steps.plain c.args.steps.now) c.args.nodes.now c.args.at c.loop-states.index c.index-nodes-index.result c.loop-states.states c.requires.links at
-    (λ a b. let yes : IsTrue c.is_first.result = c.is_first.ensures.1 (a, b) in grind arith) c.loop-states.invariant.back).1
+pub returns-then-first : goal.returns-then-first
+returns-then-first g c =
+    let y = g.S.Steps.system c.args.steps.now in
+    let z = c.unwrap-node.result in
+    let e : c.loop-states.nodes.items ≡ c.pop.new.self.items ++ z ∷ [] = c.pop.ensures.items ∙ ap (λ o. c.pop.new.self.items ++ option_to_list o) c.unwrap-node.ensures in
+    let m : IsMark y c.pop.new.self.items z c.mark_of-mark.result = rw c.deref.ensures.value at c.mark_of-mark.ensures in
+    let shows : y.state_of z.entry ≡ c.into_state.result = g.met.S.Steps.shows c.args.steps.now z.entry ∙ sym c.into_state.ensures in
+    let first = c.is_first-first.ensures.0 c.if-first.true in
+    rw (c.reverse.ensures, c.in_ok-push.ensures.ok)
+    (back_end y c.args.nodes.items c.loop-states.nodes.items c.pop.new.self.items z c.mark_of-mark.result c.into_state.result c.loop-states.states c.requires.links
+    c.loop-states.invariant.prefix e m shows first.0 first.1 c.loop-states.invariant.back)
 
 pub loop-states-preserved : goal.loop-states-preserved
 loop-states-preserved g c =
-    let lt : c.loop-states.index < length c.args.nodes.now = c.loop-states.invariant.within in
-    let at = slice_get_read c.args.nodes.now _ c.loop-states.index c.index-nodes-index.result refl lt c.index-nodes-index.is in
-    let none : c.is_first.result ≡ false = c.if-is_first.false in
-    let more = back_more (g.S.Steps.system c.args.steps.now) (g.met.S.Steps.plain c.args.steps.now) c.args.nodes.now c.args.at c.loop-states.index c.index-nodes-index.result c.loop-states.states c.requires.links at
-    (λ a b. let yes : IsTrue c.is_first.result = c.is_first.ensures.1 (a, b) in grind arith) c.loop-states.invariant.back in
-    record {
-      back = rw (rw (c.mark_of-mark.ensures, c.in_ok-copy.ensures) at c.in_ok-push.ensures.ok) more.0;
-      within = more.2;
-    }
+    let y = g.S.Steps.system c.args.steps.now in
+    let z = c.unwrap-node.result in
+    let e : c.loop-states.nodes.items ≡ c.pop.new.self.items ++ z ∷ [] = c.pop.ensures.items ∙ ap (λ o. c.pop.new.self.items ++ option_to_list o) c.unwrap-node.ensures in
+    let m : IsMark y c.pop.new.self.items z c.mark_of-mark.result = rw c.deref.ensures.value at c.mark_of-mark.ensures in
+    let shows : y.state_of z.entry ≡ c.into_state.result = g.met.S.Steps.shows c.args.steps.now z.entry ∙ sym c.into_state.ensures in
+    let more = back_more y c.args.nodes.items c.loop-states.nodes.items c.pop.new.self.items (length c.args.nodes.items - 1) z c.mark_of-mark.result c.into_state.result
+    c.loop-states.states c.requires.links c.loop-states.invariant.prefix e m shows
+    (λ a b. let yes : IsTrue c.is_first-first.result = c.is_first-first.ensures.1 (a, b) in let none : c.is_first-first.result ≡ false = c.if-first.false in grind arith)
+    c.loop-states.invariant.back in
+    rw (c.truncate.ensures.items, c.in_ok-push.ensures.ok) (record { prefix = more.prefix; some = more.some; back = more.back })

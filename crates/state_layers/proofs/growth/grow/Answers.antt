@@ -38,7 +38,7 @@ check_size-requires-clause-together g c =
 
 pub loop-index-init : goal.loop-index-init
 loop-index-init g c = record {
-  grows = rw c.new-layer.ensures (growing_nil (g.S.Steps.system c.args.steps.now) c.args.step c.args.nodes.now c.args.from c.requires.room);
+  grows = rw c.new-layer.ensures.empty (growing_nil (g.S.Steps.system c.args.steps.now) c.args.step c.args.nodes.now c.args.from c.requires.room);
   after = omega arith;
 }
 

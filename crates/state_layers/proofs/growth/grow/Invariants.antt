@@ -4,7 +4,7 @@ use Rattle.state_layers.proofs.growth.grow.Given as goal
 
 abbrev pub invariant-loop-index : goal.invariant-loop-index
 invariant-loop-index g l = record {
-  grows : Growing (g.S.Steps.system l.steps) l.step l.nodes l.from l.index l.layer;
+  grows : Growing (g.S.Steps.system l.steps) l.step l.nodes l.from l.index l.layer.entries;
   after : l.from ≤ l.index;
 }
 
