@@ -1,8 +1,10 @@
 -- A table of edges, whose system the tests search.
-use Rattle.std.specs.Prelude.{◌≡◌, ◌⊎◌, ℕ, Bool, true, false, List, [], Contains, get_or, Option, Some, None, Result, Ok, Err, refl}
+use Rattle.std.specs.Prelude.{◌≡◌, ◌⊎◌, ℕ, Bool, true, false, ◌&&◌, nat_eq, IsTrue, List, [], Contains, get_or, Option, Some, None, Result, Ok, Err, refl}
 use Rattle.trace_base.specs.declared.place.LineAt.{LineAt}
 use Rattle.trace_base.specs.declared.place.Place.{Place}
 use Rattle.tla_core.specs.States.{Values}
+use Rattle.std.proofs.Common.{arith, sym, true≢false}
+use Rattle.tla_core.specs.StateOrder.{state_eq, state_decides}
 use Rattle.tla_core.specs.Sets.{IsList}
 use Rattle.tla_core.specs.System.{System}
 use Rattle.tla_core.specs.declared.fault.Fault.{Fault}
@@ -98,6 +100,9 @@ system_of edges assumptions assumes count within limit total = record {
   IsFalse = λ k p. told assumptions k ≡ Ok (Some p);
 }
 
+nat_same : (m n : ℕ) → nat_eq m n ≡ true → m ≡ n
+nat_same m n h = grind arith
+
 -- Spots that are compared equal are one.
 pub placed_same : (one other : Spot) → IsTrue (nat_eq one.0 other.0 && state_eq one.1 other.1) → one ≡ other
 placed_same one other e = by (nat_eq one.0 other.0) (state_eq one.1 other.1) refl refl e
@@ -106,6 +111,3 @@ placed_same one other e = by (nat_eq one.0 other.0) (state_eq one.1 other.1) ref
     by true true p q h = λ i. (nat_same one.0 other.0 p i, (state_decides one.1 other.1).0 q i)
     by true false p q h = absurd (true≢false (sym h))
     by false c p q h = absurd (true≢false (sym h))
-
-    nat_same : (m n : ℕ) → nat_eq m n ≡ true → m ≡ n
-    nat_same m n h = grind arith
