@@ -1,4 +1,5 @@
 pub mod Choices
+pub mod JobLaws
 pub mod LineLoop
 pub mod ModuleLaws
 pub mod NameLaws
