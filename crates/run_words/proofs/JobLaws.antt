@@ -13,7 +13,7 @@ use Rattle.run_words.specs.declared.job.Words.{Words}
 use Rattle.run_words.specs.declared.job.Words.TheVariants.{Validate, Check, SelfRun}
 use Rattle.run_words.specs.Line.{Text, Part, apart, joined, stutter, positional, Line, Given, Gives, name_of, has_setting, has_stutter, is_given, begins_with_dash, is_part, is_line, behind_given, given_of, given_parts, given_behind, with_part}
 use Rattle.run_words.specs.Job.{AreFiles, IsJob, IsNumber, IsNumberOr, SetsOptions, is_same, values_of}
-use Rattle.run_words.specs.Words.{AreWords, Asks, AsksCheck, AsksNumber, IsOnlyNumber, IsWitnessed, JobMeets, MeetsRules, OneCommand, OptionsMeet}
+use Rattle.run_words.specs.Words.{AreWords, Asks, AsksCheck, AsksNumber, IsOnlyNumber, IsWitnessed, JobMeets, MeetsRules, OneCommand, OptionsMeet, Reads}
 use Rattle.run_words.proofs.ReadLaws.{one_given}
 
 -- ---- one command
@@ -196,3 +196,8 @@ words_meet ws (Validate j) h = job_meets command.Validate h.0 h.2.given j h.2.li
 words_meet ws (Check j w) h =
     (job_meets command.Check h.0 h.2.given j h.2.line h.2.witnessed.job_is, witness_meets command.Check h.0 h.2.given w h.2.line h.2.witnessed.witness_is)
 words_meet ws (SelfRun n) h = (h.2.number.number.above, h.2.number.number.below)
+
+pub read_meets : (ws : List Text) (r : Result (Option Words) AllocError) → Reads ws r → IfOk r (λ read. IfSome read MeetsRules)
+read_meets ws (Err e) h = tt
+read_meets ws (Ok None) h = tt
+read_meets ws (Ok (Some w)) h = words_meet ws w h

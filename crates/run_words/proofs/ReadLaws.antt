@@ -78,11 +78,41 @@ many_logs ts path logs e f = let n = log_count ts path logs f in let s = f.few i
 
 -- ---- the first word
 
-first_byte : List Text → ℕ
-first_byte [] = 0
-first_byte ([] ∷ ws) = 0
-first_byte ((b ∷ bs) ∷ ws) = b
-
-first_and_rest : (ws : List (String Global)) (first : String Global) → 1 ≤ length ws → first ≡ get_or ws 0 first
+pub first_and_rest : (ws : List (String Global)) (first : String Global) → 1 ≤ length ws → first ≡ get_or ws 0 first
     → words_of ws ≡ string_bytes first ∷ words_of (take (length ws - 1) (drop 1 ws))
 first_and_rest ws first l e = words_next ws 0 first (omega arith) e ∙ ap (λ (r : List (String Global)). string_bytes first ∷ words_of r) (sym (take_rest ws 1))
+
+abbrev rest_of : List Text → List Text
+rest_of [] = []
+rest_of (w ∷ ws) = ws
+
+abbrev word_of : List Text → Text
+word_of [] = []
+word_of (w ∷ ws) = w
+
+pub no_validate : (ws : List Text) → ((j : Job) → Asks command.Validate ws j → ⊥) → (w : Words) → AreWords (codes "validate" ∷ ws) w → ⊥
+no_validate ws none (Validate j) h = none j (subst (λ (r : List Text). Asks command.Validate r j) (sym (ap rest_of h.1)) h.2)
+no_validate ws none (Check j w) h = let e = h.1 in cc
+no_validate ws none (SelfRun n) h = let e = h.1 in cc
+
+pub no_check : (ws : List Text) → ((j : Job) (w : Text) → AsksCheck ws j w → ⊥) → (w : Words) → AreWords (codes "check" ∷ ws) w → ⊥
+no_check ws none (Validate j) h = let e = h.1 in cc
+no_check ws none (Check j w) h = none j w (subst (λ (r : List Text). AsksCheck r j w) (sym (ap rest_of h.1)) h.2)
+no_check ws none (SelfRun n) h = let e = h.1 in cc
+
+pub no_selfrun : (ws : List Text) → ((n : ℕ) → AsksNumber ws n → ⊥) → (w : Words) → AreWords (codes "selfrun" ∷ ws) w → ⊥
+no_selfrun ws none (Validate j) h = let e = h.1 in cc
+no_selfrun ws none (Check j w) h = let e = h.1 in cc
+no_selfrun ws none (SelfRun n) h = none n (subst (λ (r : List Text). AsksNumber r n) (sym (ap rest_of h.1)) h.2)
+
+-- no other word is a command
+pub no_command : (first : Text) (ws : List Text) → (first ≡ codes "validate" → ⊥) → (first ≡ codes "check" → ⊥) → (first ≡ codes "selfrun" → ⊥)
+    → (w : Words) → AreWords (first ∷ ws) w → ⊥
+no_command first ws a b d (Validate j) h = a (ap word_of h.1)
+no_command first ws a b d (Check j w) h = b (ap word_of h.1)
+no_command first ws a b d (SelfRun n) h = d (ap word_of h.1)
+
+pub no_empty : (w : Words) → AreWords [] w → ⊥
+no_empty (Validate j) h = let e = h.1 in cc
+no_empty (Check j w) h = let e = h.1 in cc
+no_empty (SelfRun n) h = let e = h.1 in cc

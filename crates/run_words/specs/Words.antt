@@ -1,5 +1,6 @@
 -- The words of the program, without its own name, and the command that they give.
-use Rattle.std.specs.Prelude.{◌≡◌, ℕ, ◌≤◌, List, [], ◌∷◌, true, length, Option, Some, None, IfSome, codes}
+use Rattle.std.specs.Prelude.{◌≡◌, ℕ, ◌≤◌, List, [], ◌∷◌, true, length, Option, Some, None, IfSome, Result, Ok, Err, codes}
+use Rattle.std.specs.declared.alloc.AllocError.{AllocError}
 use Rattle.std.specs.List.{list_all}
 use Rattle.run_words.specs.Line.{Text, Given, Gives, is_given}
 use Rattle.run_words.specs.Names.{IsName, IsModule}
@@ -46,6 +47,12 @@ abbrev pub AreWords : List Text → Words → Type 0
 AreWords words (Validate job) = (rest : List Text) × (words ≡ codes "validate" ∷ rest) × Asks command.Validate rest job
 AreWords words (Check job witness) = (rest : List Text) × (words ≡ codes "check" ∷ rest) × AsksCheck rest job witness
 AreWords words (SelfRun n) = (rest : List Text) × (words ≡ codes "selfrun" ∷ rest) × AsksNumber rest n
+
+-- this command was read of the words, or none since they are no command; or memory was wanting
+abbrev pub Reads : List Text → Result (Option Words) AllocError → Type 0
+Reads words (Err e) = Unit {0}
+Reads words (Ok None) = (w : Words) → ¬ AreWords words w
+Reads words (Ok (Some w)) = AreWords words w
 
 -- each list of words is at most one command
 abbrev pub OneCommand : Type 0

@@ -1,11 +1,11 @@
 //! The command that the words give.
 
-ghost use Rattle.std.specs.Prelude.{◌≡◌, ℕ, List, IfOk, MatchOption, option_map};
+ghost use Rattle.std.specs.Prelude.{◌≡◌, ℕ, List, IfOk, IfSome, MatchOption, codes, ◌∷◌, option_map};
 ghost use Rattle.run_words.specs.declared.command.Command.TheVariants.{Validate};
 ghost use Rattle.run_words.specs.Line.{words_of};
 ghost use Rattle.run_words.specs.Job.{AreFiles, IsJob};
 ghost use Rattle.run_words.specs.Scan.{given_by, texts_of};
-ghost use Rattle.run_words.specs.Words.{AreWords, Asks, AsksCheck, AsksNumber, IsOnlyNumber, IsWitnessed};
+ghost use Rattle.run_words.specs.Words.{Asks, AsksCheck, AsksNumber, IsOnlyNumber, IsWitnessed, MeetsRules, Reads};
 
 use crate::command::{Command, Setting};
 use crate::job::{Job, Words};
@@ -18,16 +18,47 @@ use trace_base::{Names, NoMemory, Text};
 
 /// The command that the words give, without the program's own name; none where they are no command.
 pub fn read_words(alloc: Global, words: &[String]) -> Result<Option<Words>, NoMemory>
-    ensures { IfOk result (λ read. MatchOption read ((w : Words) → ¬ AreWords (words_of words.now) w) (AreWords (words_of words.now))) }
+    ensures reads { Reads (words_of words.now) result }
+    ensures meets { IfOk result (λ read. IfSome read MeetsRules) }
 {
     let [first, rest @ ..] = words else {
         return Ok(None);
     };
     match first.as_str() {
-        "validate" => Ok(read_validate(alloc, rest)?.map(Words::Validate)),
-        "check" => Ok(read_check(alloc, rest)?.map(|(job, witness)| Words::Check(job, witness))),
-        "selfrun" => Ok(read_selfrun(alloc, rest)?.map(Words::SelfRun)),
+        "validate" => validate(alloc, rest),
+        "check" => check(alloc, rest),
+        "selfrun" => selfrun(alloc, rest),
         _ => Ok(None),
+    }
+}
+
+/// The command of the words behind `validate`.
+fn validate(alloc: Global, words: &[String]) -> Result<Option<Words>, NoMemory>
+    ensures { Reads (codes "validate" ∷ words_of words.now) result }
+{
+    match read_validate(alloc, words)? {
+        Some(job) => Ok(Some(Words::Validate(job))),
+        None => Ok(None),
+    }
+}
+
+/// The command of the words behind `check`.
+fn check(alloc: Global, words: &[String]) -> Result<Option<Words>, NoMemory>
+    ensures { Reads (codes "check" ∷ words_of words.now) result }
+{
+    match read_check(alloc, words)? {
+        Some((job, witness)) => Ok(Some(Words::Check(job, witness))),
+        None => Ok(None),
+    }
+}
+
+/// The command of the words behind `selfrun`.
+fn selfrun(alloc: Global, words: &[String]) -> Result<Option<Words>, NoMemory>
+    ensures { Reads (codes "selfrun" ∷ words_of words.now) result }
+{
+    match read_selfrun(alloc, words)? {
+        Some(n) => Ok(Some(Words::SelfRun(n))),
+        None => Ok(None),
     }
 }
 
