@@ -128,11 +128,11 @@ sign_none None (b ∷ bs) name e = cc
 
 sign_tail_none : (b : ℕ) (bs name : List ℕ)
     → IsThis (if b == 34 then string_shape (after_quote bs)
-        else if b == 92 then backslash_shape bs
-        else if opens_comment (b ∷ bs) then comment_shape (after_comment 1 (drop 1 bs))
-        else if begins_four 45 (b ∷ bs) then only_if (each is_dash bs) (Spelled kinds.Dashes)
-        else if begins_four 61 (b ∷ bs) then only_if (each is_equal bs) (Spelled kinds.Equals)
-        else sign_shape (kind_in signs (b ∷ bs)) bs) name
+    else if b == 92 then backslash_shape bs
+    else if opens_comment (b ∷ bs) then comment_shape (after_comment 1 (drop 1 bs))
+    else if begins_four 45 (b ∷ bs) then only_if (each is_dash bs) (Spelled kinds.Dashes)
+    else if begins_four 61 (b ∷ bs) then only_if (each is_equal bs) (Spelled kinds.Equals)
+    else sign_shape (kind_in signs (b ∷ bs)) bs) name
     → ⊥
 sign_tail_none b bs name e = elim (pick (b == 34) _ _ _ e) [
   | inl h ↦ content_none (after_quote bs).content name (only_none (is_empty (after_quote bs).rest) (content_shape (after_quote bs).content) name h)

@@ -78,7 +78,6 @@ unfolding scan step
 scan_behind c None h = refl
 scan_behind c (Some ws) h = ap (option_map (and_then nothing)) (scan_words c ws h)
 
-
 behind_some : (s : Next × Given) (next : Next) (f g : Given) (k : Scan) → k next ≡ Some g → behind_step (Some (next, f)) k ≡ Some (and_then f g)
 behind_some s next f g k e = ap (option_map (and_then f)) e
 

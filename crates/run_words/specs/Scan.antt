@@ -58,7 +58,7 @@ abbrev pub stutter_step : Command → Text → Step
 stutter_step command word =
     if bytes_eq word (codes "--stutter") then (if has_stutter command then Some (any, one_stutter) else None)
     else if nat_lt (position_or_len is_equals_sign word) (length word)
-        then with_value command (setting_of (before_first is_equals_sign word)) (after_first is_equals_sign word)
+    then with_value command (setting_of (before_first is_equals_sign word)) (after_first is_equals_sign word)
     else None
 
 abbrev pub option_step : Command → Option Setting → Text → Step

@@ -61,7 +61,11 @@ impl<'a> Line<'a> {
 }
 
 /// What a line gives, or none where the words are no line of the command.
-pub(crate) fn read_line<'a>(alloc: Global, command: Command, words: &'a [String]) -> Result<Option<Line<'a>>, NoMemory>
+pub(crate) fn read_line<'a>(
+    alloc: Global,
+    command: Command,
+    words: &'a [String],
+) -> Result<Option<Line<'a>>, NoMemory>
     ensures { IfOk result (λ found. MatchOption found ((g : Given) → ¬ Gives command (words_of words.now) g)
         (λ line. Gives command (words_of words.now) (given_by line))) }
 {
@@ -83,7 +87,11 @@ pub(crate) fn read_line<'a>(alloc: Global, command: Command, words: &'a [String]
 
 /// What a word is and what may come behind it, or none where it may not stand there.
 #[tactic(auto, unfolding(crate::specs::Scan::step))]
-fn read_word<'a>(command: Command, expected: Expected, word: &'a str) -> Option<(Expected, Part<'a>)>
+fn read_word<'a>(
+    command: Command,
+    expected: Expected,
+    word: &'a str,
+) -> Option<(Expected, Part<'a>)>
     ensures { step_by result ≡ step command (next_of expected) word.now }
 {
     match expected {
@@ -142,7 +150,11 @@ fn read_joined<'a>(command: Command, word: &'a str) -> Option<(Expected, Part<'a
     }
 }
 
-fn with_value<'a>(command: Command, setting: Option<Setting>, value: &'a str) -> Option<(Expected, Part<'a>)>
+fn with_value<'a>(
+    command: Command,
+    setting: Option<Setting>,
+    value: &'a str,
+) -> Option<(Expected, Part<'a>)>
     ensures { step_by result ≡ with_value command setting value.now }
 {
     match setting {

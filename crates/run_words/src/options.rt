@@ -16,7 +16,10 @@ use crate::number::number;
 pub(crate) struct Repeated;
 
 /// The value of an option, where it stands.
-pub(crate) fn value_of<'a>(options: &[(Setting, &'a str)], setting: Setting) -> Result<Option<&'a str>, Repeated>
+pub(crate) fn value_of<'a>(
+    options: &[(Setting, &'a str)],
+    setting: Setting,
+) -> Result<Option<&'a str>, Repeated>
     ensures { MatchResult result (IsValue (values_of setting (map text_of options.now))) (λ _. 2 ≤ length (values_of setting (map text_of options.now))) }
 {
     let mut found = None;
@@ -83,7 +86,13 @@ fn is_once(flags: &[&str]) -> Option<bool>
     }
 }
 
-fn number_of(options: &[(Setting, &str)], setting: Setting, default: u32, least: u32, most: u32) -> Option<u32>
+fn number_of(
+    options: &[(Setting, &str)],
+    setting: Setting,
+    default: u32,
+    least: u32,
+    most: u32,
+) -> Option<u32>
     ensures { MatchOption result ((n : ℕ) → ¬ IsNumberOr default (values_of setting (map text_of options.now)) least most n)
         (IsNumberOr default (values_of setting (map text_of options.now)) least most) }
 {

@@ -42,19 +42,38 @@ fn read(alloc: Global, row: &str) -> Result<String, Fail> {
     let words = words_of(alloc, row)?;
     match read_words(alloc, &words)? {
         Some(Words::Validate(job)) => Ok(format!(in alloc; "validate {}", shown(alloc, &job)?)?),
-        Some(Words::Check(job, witness)) => Ok(format!(in alloc; "check {} {}", witness.as_str(), shown(alloc, &job)?)?),
+        Some(Words::Check(job, witness)) => Ok(format!(in alloc;
+            "check {} {}",
+            witness.as_str(),
+            shown(alloc, &job)?
+        )?),
         Some(Words::SelfRun(n)) => Ok(format!(in alloc; "selfrun {n}")?),
         None => Ok(String::from_str(alloc, "none")?),
     }
 }
 
 const READ: [(&str, &str); 40] = [
-    ("validate A.tla c.log", "validate A.tla [ c.log ] none none 1 10000"),
-    ("validate --limit 3 A.tla c.log", "validate A.tla [ c.log ] none none 1 3"),
-    ("validate A.tla --limit=3 c.log", "validate A.tla [ c.log ] none none 1 3"),
-    ("validate A.tla c.log --limit 0000000003", "validate A.tla [ c.log ] none none 1 3"),
+    (
+        "validate A.tla c.log",
+        "validate A.tla [ c.log ] none none 1 10000",
+    ),
+    (
+        "validate --limit 3 A.tla c.log",
+        "validate A.tla [ c.log ] none none 1 3",
+    ),
+    (
+        "validate A.tla --limit=3 c.log",
+        "validate A.tla [ c.log ] none none 1 3",
+    ),
+    (
+        "validate A.tla c.log --limit 0000000003",
+        "validate A.tla [ c.log ] none none 1 3",
+    ),
     ("validate A.tla c.log --limit 00000000003", "none"),
-    ("validate A.tla c.log --limit 100000", "validate A.tla [ c.log ] none none 1 100000"),
+    (
+        "validate A.tla c.log --limit 100000",
+        "validate A.tla [ c.log ] none none 1 100000",
+    ),
     ("validate A.tla c.log --limit 100001", "none"),
     ("validate A.tla c.log --limit 0", "none"),
     ("validate A.tla c.log --limit 9999999999", "none"),
@@ -63,26 +82,47 @@ const READ: [(&str, &str); 40] = [
     ("validate A.tla c.log --limit=3\t", "none"),
     ("validate A.tla c.log --limit=", "none"),
     ("validate A.tla c.log --limit", "none"),
-    ("validate -- A.tla -c.log", "validate A.tla [ -c.log ] none none 1 10000"),
-    ("validate A.tla -- -c.log --", "validate A.tla [ -c.log -- ] none none 1 10000"),
-    ("validate A.tla c.log --", "validate A.tla [ c.log ] none none 1 10000"),
-    ("validate A.tla -- c.log --stutter", "validate A.tla [ c.log --stutter ] none none 1 10000"),
+    (
+        "validate -- A.tla -c.log",
+        "validate A.tla [ -c.log ] none none 1 10000",
+    ),
+    (
+        "validate A.tla -- -c.log --",
+        "validate A.tla [ -c.log -- ] none none 1 10000",
+    ),
+    (
+        "validate A.tla c.log --",
+        "validate A.tla [ c.log ] none none 1 10000",
+    ),
+    (
+        "validate A.tla -- c.log --stutter",
+        "validate A.tla [ c.log --stutter ] none none 1 10000",
+    ),
     ("validate A.tla -c.log", "none"),
     ("validate A.tla -", "none"),
     ("validate -- A.tla -", "none"),
     ("validate A.tla ''", "none"),
     ("validate -- A.tla ''", "none"),
-    ("validate A.tla c.log c.log", "validate A.tla [ c.log c.log ] none none 1 10000"),
+    (
+        "validate A.tla c.log c.log",
+        "validate A.tla [ c.log c.log ] none none 1 10000",
+    ),
     ("validate A.tla", "none"),
     ("validate", "none"),
     ("validate A.txt c.log", "none"),
     ("-- validate A.tla c.log", "none"),
     ("validate --limit 3 --limit 3 A.tla c.log", "none"),
     ("validate --limit=3 A.tla --limit 3 c.log", "none"),
-    ("validate --stutter A.tla c.log", "validate A.tla [ c.log ] none none 1 10000 stutter"),
+    (
+        "validate --stutter A.tla c.log",
+        "validate A.tla [ c.log ] none none 1 10000 stutter",
+    ),
     ("validate --stutter=1 A.tla c.log", "none"),
     ("validate --stutter --stutter A.tla c.log", "none"),
-    ("validate --within 8 A.tla c.log", "validate A.tla [ c.log ] none none 8 10000"),
+    (
+        "validate --within 8 A.tla c.log",
+        "validate A.tla [ c.log ] none none 8 10000",
+    ),
     ("validate --within 9 A.tla c.log", "none"),
     ("validate --with 8 A.tla c.log", "none"),
     ("validate --Within 8 A.tla c.log", "none"),
@@ -99,24 +139,45 @@ const OTHERS: [(&str, &str); 32] = [
     ("''", "none"),
     ("validates A.tla c.log", "none"),
     ("Validate A.tla c.log", "none"),
-    ("validate --config=-m.cfg d/A.tla c.log", "validate d/A.tla [ c.log ] -m.cfg none 1 10000"),
+    (
+        "validate --config=-m.cfg d/A.tla c.log",
+        "validate d/A.tla [ c.log ] -m.cfg none 1 10000",
+    ),
     ("validate --config -m.cfg A.tla c.log", "none"),
     ("validate --config - A.tla c.log", "none"),
     ("validate --config=- A.tla c.log", "none"),
     ("validate --config= A.tla c.log", "none"),
     ("validate --config '' A.tla c.log", "none"),
     ("validate --config -- A.tla c.log", "none"),
-    ("validate --config a=b A.tla c.log", "validate A.tla [ c.log ] a=b none 1 10000"),
-    ("validate --config=a=b A.tla c.log", "validate A.tla [ c.log ] a=b none 1 10000"),
-    ("validate --silent Quiet A.tla c.log", "validate A.tla [ c.log ] none Quiet 1 10000"),
+    (
+        "validate --config a=b A.tla c.log",
+        "validate A.tla [ c.log ] a=b none 1 10000",
+    ),
+    (
+        "validate --config=a=b A.tla c.log",
+        "validate A.tla [ c.log ] a=b none 1 10000",
+    ),
+    (
+        "validate --silent Quiet A.tla c.log",
+        "validate A.tla [ c.log ] none Quiet 1 10000",
+    ),
     ("validate --silent LOCAL A.tla c.log", "none"),
     ("validate --silent 1a A.tla c.log", "none"),
     ("validate LAMBDA.tla c.log", "none"),
     ("validate WF_x.tla c.log", "none"),
     ("validate \u{e9}.tla c.log", "none"),
-    ("validate A.tla \u{fffd}.log", "validate A.tla [ \u{fffd}.log ] none none 1 10000"),
-    ("check --witness w A.tla c.log", "check w A.tla [ c.log ] none none 1 10000"),
-    ("check A.tla c.log --within=2 --stutter --witness=w", "check w A.tla [ c.log ] none none 2 10000 stutter"),
+    (
+        "validate A.tla \u{fffd}.log",
+        "validate A.tla [ \u{fffd}.log ] none none 1 10000",
+    ),
+    (
+        "check --witness w A.tla c.log",
+        "check w A.tla [ c.log ] none none 1 10000",
+    ),
+    (
+        "check A.tla c.log --within=2 --stutter --witness=w",
+        "check w A.tla [ c.log ] none none 2 10000 stutter",
+    ),
     ("check A.tla c.log", "none"),
     ("check --witness w --witness w A.tla c.log", "none"),
     ("check --limit 5 --witness w A.tla c.log", "none"),

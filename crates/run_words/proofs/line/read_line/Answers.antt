@@ -16,7 +16,7 @@ returns-in_default c =
     let at = words_next c.args.words.now c.loop-word.word-index c.word-item.result c.loop-word-test.true c.word-item.is in
     let here = subst (λ (rest : List Text). Reads c.args.command all (given_by c.loop-word.line) rest next) at c.loop-word.invariant in
     let none : step c.args.command next (string_bytes c.word-item.result) ≡ None =
-        ap (step c.args.command next) (sym c.as_str.ensures.value) ∙ sym c.read_word.ensures ∙ no_step c.read_word.result c.in_default.not-Some in
+    ap (step c.args.command next) (sym c.as_str.ensures.value) ∙ sym c.read_word.ensures ∙ no_step c.read_word.result c.in_default.not-Some in
     reads_none c.args.command all (given_by c.loop-word.line) (string_bytes c.word-item.result) (words_of (drop (c.loop-word.word-index + 1) c.args.words.now)) next here none
 
 pub loop-word-preserved : goal.loop-word-preserved
@@ -26,7 +26,7 @@ loop-word-preserved c =
     let at = words_next c.args.words.now c.loop-word.word-index c.word-item.result c.loop-word-test.true c.word-item.is in
     let here = subst (λ (rest : List Text). Reads c.args.command all (given_by c.loop-word.line) rest next) at c.loop-word.invariant in
     let some : step c.args.command next (string_bytes c.word-item.result) ≡ Some (next_of c.in-Some.next, given_part c.in-Some.part) =
-        ap (step c.args.command next) (sym c.as_str.ensures.value) ∙ sym c.read_word.ensures ∙ ap step_by c.in-Some.is in
+    ap (step c.args.command next) (sym c.as_str.ensures.value) ∙ sym c.read_word.ensures ∙ ap step_by c.in-Some.is in
     let rest = words_of (drop (c.loop-word.word-index + 1) c.args.words.now) in
     let then = reads_more c.args.command all (given_by c.loop-word.line) (string_bytes c.word-item.result) rest next (next_of c.in-Some.next) (given_part c.in-Some.part) here some in
     subst (λ (g : Given). Reads c.args.command all g rest (next_of c.in-Some.next)) (sym c.in_ok-add.ensures) then
@@ -36,7 +36,7 @@ returns-in-Value c =
     let all = words_of c.args.words.now in
     let done = given_by c.loop-word.line in
     let here : Reads c.args.command all done [] (next_of c.loop-word.expected) =
-        subst (λ (rest : List Text). Reads c.args.command all done rest (next_of c.loop-word.expected)) (past_end c.args.words.now c.loop-word.word-index c.loop-word-test.false) c.loop-word.invariant in
+    subst (λ (rest : List Text). Reads c.args.command all done rest (next_of c.loop-word.expected)) (past_end c.args.words.now c.loop-word.word-index c.loop-word-test.false) c.loop-word.invariant in
     reads_unended c.args.command all done c.in-Value.field-0 (subst (λ (e : Expected). Reads c.args.command all done [] (next_of e)) c.in-Value.is here)
 
 pub returns-in-Any : goal.returns-in-Any
@@ -45,7 +45,7 @@ returns-in-Any c =
     let all = words_of c.args.words.now in
     let done = given_by c.loop-word.line in
     let here : Reads c.args.command all done [] (next_of c.loop-word.expected) =
-        subst (λ (rest : List Text). Reads c.args.command all done rest (next_of c.loop-word.expected)) (past_end c.args.words.now c.loop-word.word-index c.loop-word-test.false) c.loop-word.invariant in
+    subst (λ (rest : List Text). Reads c.args.command all done rest (next_of c.loop-word.expected)) (past_end c.args.words.now c.loop-word.word-index c.loop-word-test.false) c.loop-word.invariant in
     reads_ended c.args.command all done any refl (subst (λ (e : Expected). Reads c.args.command all done [] (next_of e)) c.in-Any.is here)
 
 pub returns : goal.returns
@@ -54,5 +54,5 @@ returns c =
     let all = words_of c.args.words.now in
     let done = given_by c.loop-word.line in
     let here : Reads c.args.command all done [] (next_of c.loop-word.expected) =
-        subst (λ (rest : List Text). Reads c.args.command all done rest (next_of c.loop-word.expected)) (past_end c.args.words.now c.loop-word.word-index c.loop-word-test.false) c.loop-word.invariant in
+    subst (λ (rest : List Text). Reads c.args.command all done rest (next_of c.loop-word.expected)) (past_end c.args.words.now c.loop-word.word-index c.loop-word-test.false) c.loop-word.invariant in
     reads_ended c.args.command all done words refl (subst (λ (e : Expected). Reads c.args.command all done [] (next_of e)) c.in-Words.is here)

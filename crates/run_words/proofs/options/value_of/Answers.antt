@@ -8,10 +8,10 @@ loop-name-preserved c =
     let all = c.args.options.now in
     let i = c.loop-name.name-index in
     elim c.if-is_same.branch [
-      then-is_same+else-is_some w ↦
+      | then-is_same+else-is_some w ↦
           subst (λ f. Finds c.args.setting all f (drop (i + 1) all)) (sym w.found-is)
           (finds_first c.args.setting all c.loop-name.found i _ c.loop-name-test.true (sym c.is_same.ensures ∙ w.if-is_same.true) (sym w.is_some.ensures ∙ w.if-is_some.false) c.loop-name.invariant)
-    | else-is_same w ↦
+      | else-is_same w ↦
           subst (λ f. Finds c.args.setting all f (drop (i + 1) all)) (sym w.found-is)
           (finds_other c.args.setting all c.loop-name.found i _ c.loop-name-test.true (sym c.is_same.ensures ∙ w.if-is_same.false) c.loop-name.invariant)
     ]
