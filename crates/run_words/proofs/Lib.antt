@@ -1,0 +1,10 @@
+pub mod Choices
+pub mod JobLaws
+pub mod LineLoop
+pub mod ModuleLaws
+pub mod NameLaws
+pub mod NumberLaws
+pub mod ReadLaws
+pub mod ScanLaws
+pub mod ScanMeans
+pub mod ValueLaws

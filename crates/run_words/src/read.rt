@@ -1,0 +1,181 @@
+//! The command that the words give.
+
+ghost use Rattle.std.specs.Prelude.{◌≡◌, ℕ, List, IfOk, IfSome, MatchOption, codes, ◌∷◌, option_map};
+ghost use Rattle.run_words.specs.declared.command.Command.TheVariants.{Validate};
+ghost use Rattle.run_words.specs.Line.{words_of};
+ghost use Rattle.run_words.specs.Job.{AreFiles, IsJob};
+ghost use Rattle.run_words.specs.Scan.{given_by, texts_of};
+ghost use Rattle.run_words.specs.Words.{Asks, AsksCheck, AsksNumber, IsOnlyNumber, IsWitnessed, MeetsRules, Reads};
+
+use crate::command::{Command, Setting};
+use crate::job::{Job, Words};
+use crate::line::{Line, read_line};
+use crate::name::is_module;
+use crate::number::number;
+use crate::options::{operator, read_options, value_of, witness};
+use std::alloc::Global;
+use trace_base::{Names, NoMemory, Text};
+
+/// The command that the words give, without the program's own name; none where they are no command.
+pub fn read_words(alloc: Global, words: &[String]) -> Result<Option<Words>, NoMemory>
+    ensures reads { Reads (words_of words.now) result }
+    ensures meets { IfOk result (λ read. IfSome read MeetsRules) }
+{
+    let [first, rest @ ..] = words else {
+        return Ok(None);
+    };
+    match first.as_str() {
+        "validate" => validate(alloc, rest),
+        "check" => check(alloc, rest),
+        "selfrun" => selfrun(alloc, rest),
+        _ => Ok(None),
+    }
+}
+
+/// The command of the words behind `validate`.
+fn validate(alloc: Global, words: &[String]) -> Result<Option<Words>, NoMemory>
+    ensures { Reads (codes "validate" ∷ words_of words.now) result }
+{
+    match read_validate(alloc, words)? {
+        Some(job) => Ok(Some(Words::Validate(job))),
+        None => Ok(None),
+    }
+}
+
+/// The command of the words behind `check`.
+fn check(alloc: Global, words: &[String]) -> Result<Option<Words>, NoMemory>
+    ensures { Reads (codes "check" ∷ words_of words.now) result }
+{
+    match read_check(alloc, words)? {
+        Some((job, witness)) => Ok(Some(Words::Check(job, witness))),
+        None => Ok(None),
+    }
+}
+
+/// The command of the words behind `selfrun`.
+fn selfrun(alloc: Global, words: &[String]) -> Result<Option<Words>, NoMemory>
+    ensures { Reads (codes "selfrun" ∷ words_of words.now) result }
+{
+    match read_selfrun(alloc, words)? {
+        Some(n) => Ok(Some(Words::SelfRun(n))),
+        None => Ok(None),
+    }
+}
+
+/// The job of `validate`.
+fn read_validate(alloc: Global, words: &[String]) -> Result<Option<Job>, NoMemory>
+    ensures { IfOk result (λ read. MatchOption read ((j : Job) → ¬ Asks Validate (words_of words.now) j) (Asks Validate (words_of words.now))) }
+{
+    match read_line(alloc, Command::Validate, words)? {
+        Some(line) => read_job(alloc, &line),
+        None => Ok(None),
+    }
+}
+
+/// The job of `check`, and the path of the file of states.
+fn read_check(alloc: Global, words: &[String]) -> Result<Option<(Job, Text)>, NoMemory>
+    ensures { IfOk result (λ read. MatchOption read ((j : Job) (w : List ℕ) → ¬ AsksCheck (words_of words.now) j w) (λ r. AsksCheck (words_of words.now) r.0 r.1)) }
+{
+    match read_line(alloc, Command::Check, words)? {
+        Some(line) => read_witnessed(alloc, &line),
+        None => Ok(None),
+    }
+}
+
+fn read_witnessed(alloc: Global, line: &Line<'_>) -> Result<Option<(Job, Text)>, NoMemory>
+    ensures { IfOk result (λ read. MatchOption read ((j : Job) (w : List ℕ) → ¬ IsWitnessed (given_by line.now) j w) (λ r. IsWitnessed (given_by line.now) r.0 r.1)) }
+{
+    let Some(path) = witness(&line.options) else {
+        return Ok(None);
+    };
+    match read_job(alloc, line)? {
+        Some(job) => Ok(Some((job, Text::from_text(alloc, path)?))),
+        None => Ok(None),
+    }
+}
+
+/// The number of `selfrun`.
+fn read_selfrun(alloc: Global, words: &[String]) -> Result<Option<u32>, NoMemory>
+    ensures { IfOk result (λ read. MatchOption read ((n : ℕ) → ¬ AsksNumber (words_of words.now) n) (AsksNumber (words_of words.now))) }
+{
+    match read_line(alloc, Command::SelfRun, words)? {
+        Some(line) => Ok(only_number(&line.positional)),
+        None => Ok(None),
+    }
+}
+
+fn only_number(words: &[&str]) -> Option<u32>
+    ensures { MatchOption result ((n : ℕ) → ¬ IsOnlyNumber (texts_of words.now) n) (IsOnlyNumber (texts_of words.now)) }
+{
+    match words {
+        [text] => number(text, 1, 20_000),
+        _ => None,
+    }
+}
+
+/// The job of a line.
+fn read_job(alloc: Global, line: &Line<'_>) -> Result<Option<Job>, NoMemory>
+    ensures { IfOk result (λ read. MatchOption read ((j : Job) → ¬ IsJob (given_by line.now) j) (IsJob (given_by line.now))) }
+{
+    let Some((path, logs)) = files(&line.positional) else {
+        return Ok(None);
+    };
+    let Ok(config) = value_of(&line.options, Setting::Config) else {
+        return Ok(None);
+    };
+    let Some(silent) = operator(&line.options) else {
+        return Ok(None);
+    };
+    let Some(options) = read_options(line) else {
+        return Ok(None);
+    };
+    let module = Text::from_text(alloc, path)?;
+    let logs = names(alloc, logs)?;
+    let config = owned(alloc, config)?;
+    let silent = owned(alloc, silent)?;
+    Ok(Some(Job {
+        module,
+        logs,
+        config,
+        silent,
+        options,
+    }))
+}
+
+/// The path of the module and those of 1 to 64 logs.
+fn files<'a, 'b>(words: &'b [&'a str]) -> Option<(&'a str, &'b [&'a str])>
+    ensures { MatchOption result ((path : List ℕ) (logs : List (List ℕ)) → ¬ AreFiles (texts_of words.now) path logs) (λ f. AreFiles (texts_of words.now) f.0.now (texts_of f.1.now)) }
+{
+    let [path, logs @ ..] = words else {
+        return None;
+    };
+    if logs.is_empty() {
+        return None;
+    }
+    if logs.len() > 64 {
+        return None;
+    }
+    if !is_module(path.as_bytes()) {
+        return None;
+    }
+    Some((*path, logs))
+}
+
+fn names(alloc: Global, texts: &[&str]) -> Result<Names, NoMemory>
+    ensures { IfOk result (λ names. names ≡ texts_of texts.now) }
+{
+    let mut names = Names::new(alloc);
+    for text in texts {
+        names.push(Text::from_text(alloc, text)?)?;
+    }
+    Ok(names)
+}
+
+fn owned(alloc: Global, text: Option<&str>) -> Result<Option<Text>, NoMemory>
+    ensures { IfOk result (λ o. o ≡ option_map (λ t. t.now) text.entry) }
+{
+    match text {
+        Some(text) => Ok(Some(Text::from_text(alloc, text)?)),
+        None => Ok(None),
+    }
+}
