@@ -10,7 +10,7 @@ some_is : {X : Type 0} {x y : X} → Some x ≡ Some y → x ≡ y
 some_is e = cc
 
 module _ {X : Type 0} (P : X → Type 0) where
-  at_each : (xs : List X) (i : ℕ) (x : X) → AllByRecursion P xs → slice_get xs i ≡ Some x → P x
+  pub at_each : (xs : List X) (i : ℕ) (x : X) → AllByRecursion P xs → slice_get xs i ≡ Some x → P x
   at_each [] i x h e = cc
   at_each (y ∷ ys) zero x h e = subst P (some_is e) h.0
   at_each (y ∷ ys) (suc i) x h e = at_each ys i x h.1 e

@@ -1,5 +1,6 @@
 -- In which orders the lines of several logs may stand.
-use Rattle.std.specs.Prelude.{◌≡◌, ◌≢◌, ◌⊎◌, ◌<◌, ℕ, ℤ, ◌<ℤ◌, ◌≤ℤ◌, List, map, slice_get, Some, AllPairs, Contains, Vec}
+use Rattle.std.specs.Prelude.{◌≡◌, ◌≢◌, ◌⊎◌, ◌<◌, ◌≤◌, ℕ, ℤ, ◌<ℤ◌, ◌≤ℤ◌, List, length, map, slice_get, Some, AllPairs, Contains, Vec}
+use Rattle.std.specs.List.{AllByRecursion}
 use Rattle.std.specs.declared.alloc.Global.{Global}
 use Rattle.clock_merge.specs.declared.order.LineRef.{LineRef}
 
@@ -21,6 +22,10 @@ HasClock clocks l c = (log : List ℤ) × (slice_get clocks l.file ≡ Some log)
 -- in no log does a clock fall
 abbrev pub NoneFalls : Clocks → Type 0
 NoneFalls clocks = (l : LineRef) (i : ℕ) (c d : ℤ) → l.index < i → HasClock clocks l c → HasClock clocks (line l.file i) d → c ≤ℤ d
+
+-- no log has more lines than 32 bits number
+abbrev pub AreFew : Clocks → Type 0
+AreFew clocks = AllByRecursion (λ log. length log ≤ 4294967296) clocks
 
 -- the line is one of the logs
 abbrev pub IsLine : Clocks → LineRef → Type 0

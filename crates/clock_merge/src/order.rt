@@ -1,6 +1,6 @@
-ghost use Rattle.std.specs.Prelude.{◌≡◌, ◌++◌, ◌≤◌, All, IfOk, OnOk, length, map};
+ghost use Rattle.std.specs.Prelude.{◌≡◌, ◌++◌, ◌≤◌, IfOk, OnOk, length, map};
 ghost use Rattle.std.specs.List.Sorted.{IsPermutation, IsSorted};
-ghost use Rattle.clock_merge.specs.Orders.{IsAllowedByClock, IsMerged, IsOnlyOrder, NoneFalls, clocks_of};
+ghost use Rattle.clock_merge.specs.Orders.{AreFew, IsAllowedByClock, IsMerged, IsOnlyOrder, NoneFalls, clocks_of};
 ghost use Rattle.clock_merge.specs.Stamps.{line_of, stamp_cmp, stamps_from, stamps_in};
 
 use std::alloc::{AllocError, Global};
@@ -17,7 +17,7 @@ pub struct LineRef {
 pub fn merge(alloc: Global, clocks: &[Vec<i64>]) -> Result<Vec<LineRef>, NoMemory>
     requires none_falls { NoneFalls (clocks_of clocks.now) }
     requires few_logs { length clocks.now ≤ 4294967296 }
-    requires few_lines { All (λ log. length log.items ≤ 4294967296) clocks.now }
+    requires few_lines { AreFew (clocks_of clocks.now) }
     ensures { IfOk result (λ order. IsMerged (clocks_of clocks.now) order.items) }
 {
     let stamps = stamps_of(alloc, clocks)?;
@@ -34,7 +34,7 @@ pub fn order_laws()
 /// Each line with its clock, log by log.
 fn stamps_of(alloc: Global, clocks: &[Vec<i64>]) -> Result<Vec<(i64, u32, u32)>, AllocError>
     requires few_logs { length clocks.now ≤ 4294967296 }
-    requires few_lines { All (λ log. length log.items ≤ 4294967296) clocks.now }
+    requires few_lines { AreFew (clocks_of clocks.now) }
     ensures { IfOk result (λ stamps. stamps.items ≡ stamps_from 0 (clocks_of clocks.now)) }
 {
     let mut stamps = Vec::new(alloc);
