@@ -177,6 +177,9 @@ fn spec(alloc: Global) -> Result<Spec, AllocError> {
 
 fn tell_spec(alloc: Global) -> Result<bool, AllocError> {
     let spec = spec(alloc)?;
+    if spec.variables.len() > 64 {
+        return Ok(false);
+    }
     let operators = spec.operator("Init") == Some(DefId(1))
         && spec.operator("").is_none()
         && spec.operator("Next").is_none()
