@@ -76,10 +76,13 @@ steps_limits l NoSteps = []
 steps_limits l (MoreSteps ss p s) = steps_limits l ss ++ step_limits p (of_steps l ss) s
 
 -- the indices of a path, told at the EXCEPT
+abbrev pub index_limits : Place → Step → List Limit
+index_limits at (Index ts) = term_limits at ts
+index_limits at s = []
+
 abbrev pub path_limits : Place → Steps → List Limit
 path_limits at NoSteps = []
-path_limits at (MoreSteps ss p (Index ts)) = path_limits at ss ++ term_limits at ts
-path_limits at (MoreSteps ss p s) = path_limits at ss
+path_limits at (MoreSteps ss p s) = path_limits at ss ++ index_limits at s
 
 abbrev pub change_limits : Place → Changes → List Limit
 change_limits at NoChanges = []

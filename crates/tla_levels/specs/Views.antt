@@ -1,6 +1,16 @@
--- For the prover: the parts that wait on a stack.
-use Rattle.std.specs.Prelude.{List, map}
+-- For the prover: the parts that wait on a stack, and the first of several faults.
+use Rattle.std.specs.Prelude.{◌+◌, ◌||◌, ℕ, suc, Bool, List, [], ◌∷◌, Option, Some, None, if◌then◌else◌, fold, map}
+use Rattle.trace_base.specs.declared.place.Place.{Place}
+use Rattle.tla_terms.specs.declared.term.Operand.{Operand}
+use Rattle.tla_terms.specs.declared.level.Level.{Level}
+use Rattle.tla_terms.specs.declared.level.Level.TheVariants.{Constant}
+use Rattle.tla_terms.specs.Terms.{Term, level_of, place_of}
+use Rattle.tla_levels.specs.declared.fault.LevelFault.{LevelFault}
+use Rattle.tla_levels.specs.declared.fault.LevelFault.TheVariants.{TooHigh, PrimedArgument}
 use Rattle.tla_levels.specs.declared.pending.Pending.{Pending}
+use Rattle.tla_levels.specs.Faults.{is_before}
+use Rattle.tla_levels.specs.Limits.{Limit, is_above, limit}
+use Rattle.tla_levels.specs.Marks.{has}
 use Rattle.tla_levels.specs.Parts.{Part, part}
 
 abbrev pub part_of : Pending → Part
@@ -8,3 +18,35 @@ part_of p = part p.primed p.term.now
 
 abbrev pub waiting : List Pending → List Part
 waiting ps = map part_of ps
+
+-- the earlier of what was found and a further fault
+abbrev pub earlier : Option LevelFault → LevelFault → Option LevelFault
+earlier None g = Some g
+earlier (Some f) g = if is_before g f then Some g else Some f
+
+abbrev pub held : Option LevelFault → Limit → Option LevelFault
+held found x = if is_above x.found x.allowed then earlier found (TooHigh x.found x.allowed x.at) else found
+
+abbrev pub held_all : Option LevelFault → List Limit → Option LevelFault
+held_all found xs = fold held found xs
+
+-- the place of the first operator of a chain, and the limits of the operands behind it
+abbrev pub first_place : Place → List Operand → Place
+first_place at [] = at
+first_place at (x ∷ xs) = x.at
+
+abbrev pub other_limits : Level → List Operand → List Limit
+other_limits allowed xs = map (λ x. limit x.at allowed (level_of x.value)) xs
+
+-- the arguments from the i-th on of a definition whose parameters stand behind that many slots: those of primed parameters stand under a prime
+abbrev pub arguments_from : List Bool → ℕ → Bool → ℕ → List Term → List Part
+arguments_from primed outer b i [] = []
+arguments_from primed outer b i (e ∷ es) = part (b || has primed (outer + i)) e ∷ arguments_from primed outer b (i + 1) es
+
+-- what is found where each argument of a primed parameter has to be constant
+abbrev pub argued : List Bool → ℕ → ℕ → Term → Option LevelFault → Option LevelFault
+argued primed outer i e found = if has primed (outer + i) then (if is_above (level_of e) Constant then earlier found (PrimedArgument (place_of e)) else found) else found
+
+abbrev pub argued_from : List Bool → ℕ → ℕ → List Term → Option LevelFault → Option LevelFault
+argued_from primed outer i [] found = found
+argued_from primed outer i (e ∷ es) found = argued_from primed outer (i + 1) es (argued primed outer i e found)

@@ -2,6 +2,8 @@
 #![tactic(auto)]
 
 mod fault;
+mod levels;
+mod limits;
 mod note;
 mod pending;
 mod slots;
