@@ -2,10 +2,11 @@
 use Rattle.std.proofs.Common.{◌≡◌, ◌∙◌, sym, ap, refl, List, [], ◌∷◌, ◌++◌, length, take, drop, ◌<◌, ◌≤◌, arith, append_assoc, add-one, get_or}
 use Rattle.std.proofs.lemmas.List.{append-nil}
 use Rattle.std.proofs.lemmas.List.Sums.{fold-append}
-use Rattle.std.specs.Prelude.{ℕ, zero, suc, ◌+◌, ◌||◌, Bool, Option, map, fold}
+use Rattle.std.specs.Prelude.{ℕ, zero, suc, ◌+◌, ◌||◌, Bool, Option, Result, Ok, Err, OnOk, map, fold}
 use Rattle.trace_base.specs.declared.place.Place.{Place}
 use Rattle.tla_ast.specs.declared.operators.InfixOperator.{InfixOperator}
 use Rattle.tla_terms.specs.declared.level.Level.{Level}
+use Rattle.tla_terms.specs.declared.level.Level.TheVariants.{Action}
 use Rattle.tla_terms.specs.declared.term.Arm.{Arm}
 use Rattle.tla_terms.specs.declared.term.Bound.{Bound}
 use Rattle.tla_terms.specs.declared.term.Change.{Change}
@@ -13,19 +14,22 @@ use Rattle.tla_terms.specs.declared.term.Field.{Field}
 use Rattle.tla_terms.specs.declared.term.Operand.{Operand}
 use Rattle.tla_terms.specs.declared.term.StepAt.{StepAt}
 use Rattle.tla_terms.specs.Terms as term
-use Rattle.tla_terms.specs.Terms.{Term, Terms, Operands, Steps, Bounds, Fields, Changes, Arms, level_of}
+use Rattle.tla_terms.specs.Terms.{Term, Terms, Operands, Steps, Bounds, Fields, Changes, Arms, Meaning, level_of}
 use Rattle.tla_terms.specs.Levels.{joined, of_terms, of_steps, of_step}
 use Rattle.tla_terms.specs.TermViews.{step_view, terms_from, terms_of, operands_from, operands_of, steps_from, steps_of, bounds_from, bounds_of, fields_from, fields_of, changes_from, changes_of, arms_from, arms_of}
-use Rattle.tla_levels.specs.Limits.{Limit, limit, no_temporal, operand_limits, infix_allows}
-use Rattle.tla_levels.specs.Parts.{Part, part, parts_of, operand_list}
+use Rattle.tla_levels.specs.Limits.{Limit, limit, no_temporal, operand_limits, infix_allows, term_limits, set_limits, value_limits, index_limits, path_limits, step_limits, steps_limits, change_limits}
+use Rattle.tla_levels.specs.Parts.{Part, part, parts_of, operand_list, listed, set_list, value_list, arm_list, is_prime, has_prime, step_parts, steps_parts, change_parts}
 use Rattle.tla_levels.specs.declared.fault.LevelFault.{LevelFault}
 use Rattle.tla_levels.specs.Views.{held, held_all, first_place, other_limits}
 
+taken_suc : {A : Type 0} (xs : List A) (i : ℕ) (x : A) → i < length xs → x ≡ get_or xs i x → take (suc i) xs ≡ take i xs ++ x ∷ []
+taken_suc [] i x lt e = absurd (omega arith)
+taken_suc (y ∷ xs) zero x lt e = ap (λ z. z ∷ []) (sym e)
+taken_suc (y ∷ xs) (suc i) x lt e = ap (λ zs. y ∷ zs) (taken_suc xs i x (omega arith) e)
+
 -- one item more
 pub taken : {A : Type 0} (xs : List A) (i : ℕ) (x : A) → i < length xs → x ≡ get_or xs i x → take (i + 1) xs ≡ take i xs ++ x ∷ []
-taken [] i x lt e = absurd (omega arith)
-taken (y ∷ xs) zero x lt e = ap (λ z. z ∷ []) (sym e)
-taken (y ∷ xs) (suc i) x lt e = ap (λ zs. y ∷ zs) (taken xs i x (omega arith) e)
+taken xs i x lt e = rw add-one (taken_suc xs i x lt e)
 
 terms_pushed : (ts : Terms) (xs : List Term) (x : Term) → terms_from ts (xs ++ x ∷ []) ≡ term.MoreTerms (terms_from ts xs) x
 terms_pushed ts [] x = refl
@@ -97,3 +101,66 @@ operands_held at o e xs os q = ap (λ y. operand_limits at o y) (sym q) ∙ oper
 -- What is found behind one item more.
 pub held_on : (now start : Option LevelFault) (before own whole : List Limit) → now ≡ held_all start before → whole ≡ before ++ own → held_all now own ≡ held_all start whole
 held_on now start before own whole invariant cut = ap (λ f. held_all f own) invariant ∙ sym (fold-append held start before own) ∙ ap (λ xs. held_all start xs) (sym cut)
+
+-- One item more of each kind of list.
+pub terms_more : (b : Bool) (xs : List Term) (i : ℕ) (x : Term) → i < length xs → x ≡ get_or xs i x → parts_of b (listed (terms_of (take (i + 1) xs))) ≡ parts_of b (listed (terms_of (take i xs))) ++ part b x ∷ []
+terms_more b xs i x lt e = ap (λ ts. parts_of b (listed ts)) (terms_next xs i x lt e) ∙ parts_of-append b (listed (terms_of (take i xs))) (x ∷ [])
+
+pub sets_more : (b : Bool) (xs : List Bound) (i : ℕ) (x : Bound) → i < length xs → x ≡ get_or xs i x → parts_of b (set_list (bounds_of (take (i + 1) xs))) ≡ parts_of b (set_list (bounds_of (take i xs))) ++ part b x.set ∷ []
+sets_more b xs i x lt e = ap (λ ts. parts_of b (set_list ts)) (bounds_next xs i x lt e) ∙ parts_of-append b (set_list (bounds_of (take i xs))) (x.set ∷ [])
+
+pub values_more : (b : Bool) (xs : List Field) (i : ℕ) (x : Field) → i < length xs → x ≡ get_or xs i x → parts_of b (value_list (fields_of (take (i + 1) xs))) ≡ parts_of b (value_list (fields_of (take i xs))) ++ part b x.value ∷ []
+values_more b xs i x lt e = ap (λ ts. parts_of b (value_list ts)) (fields_next xs i x lt e) ∙ parts_of-append b (value_list (fields_of (take i xs))) (x.value ∷ [])
+
+pub arms_more : (b : Bool) (xs : List Arm) (i : ℕ) (x : Arm) → i < length xs → x ≡ get_or xs i x → parts_of b (arm_list (arms_of (take (i + 1) xs))) ≡ parts_of b (arm_list (arms_of (take i xs))) ++ part b x.test ∷ part b x.value ∷ []
+arms_more b xs i x lt e = ap (λ ts. parts_of b (arm_list ts)) (arms_next xs i x lt e) ∙ parts_of-append b (arm_list (arms_of (take i xs))) (x.test ∷ x.value ∷ [])
+
+pub changes_more : (b : Bool) (xs : List Change) (i : ℕ) (x : Change) → i < length xs → x ≡ get_or xs i x → change_parts b (changes_of (take (i + 1) xs)) ≡ change_parts b (changes_of (take i xs)) ++ (steps_parts b x.path ++ part b x.value ∷ [])
+changes_more b xs i x lt e = ap (change_parts b) (changes_next xs i x lt e) ∙ append_assoc (change_parts b (changes_of (take i xs))) (steps_parts b x.path) (part b x.value ∷ [])
+
+pub terms_held : (at : Place) (xs : List Term) (i : ℕ) (x : Term) → i < length xs → x ≡ get_or xs i x → term_limits at (terms_of (take (i + 1) xs)) ≡ term_limits at (terms_of (take i xs)) ++ no_temporal at x ∷ []
+terms_held at xs i x lt e = ap (term_limits at) (terms_next xs i x lt e)
+
+pub sets_held : (at : Place) (xs : List Bound) (i : ℕ) (x : Bound) → i < length xs → x ≡ get_or xs i x → set_limits at (bounds_of (take (i + 1) xs)) ≡ set_limits at (bounds_of (take i xs)) ++ no_temporal at x.set ∷ []
+sets_held at xs i x lt e = ap (set_limits at) (bounds_next xs i x lt e)
+
+pub values_held : (at : Place) (xs : List Field) (i : ℕ) (x : Field) → i < length xs → x ≡ get_or xs i x → value_limits at (fields_of (take (i + 1) xs)) ≡ value_limits at (fields_of (take i xs)) ++ no_temporal at x.value ∷ []
+values_held at xs i x lt e = ap (value_limits at) (fields_next xs i x lt e)
+
+pub path_held : (at : Place) (xs : List StepAt) (i : ℕ) (x : StepAt) → i < length xs → x ≡ get_or xs i x → path_limits at (steps_of (take (i + 1) xs)) ≡ path_limits at (steps_of (take i xs)) ++ index_limits at (step_view x.step)
+path_held at xs i x lt e = ap (path_limits at) (steps_next xs i x lt e)
+
+pub steps_held : (l : Level) (xs : List StepAt) (i : ℕ) (x : StepAt) → i < length xs → x ≡ get_or xs i x → steps_limits l (steps_of (take (i + 1) xs)) ≡ steps_limits l (steps_of (take i xs)) ++ step_limits x.at (of_steps l (steps_of (take i xs))) (step_view x.step)
+steps_held l xs i x lt e = ap (steps_limits l) (steps_next xs i x lt e)
+
+pub changes_held : (at : Place) (xs : List Change) (i : ℕ) (x : Change) → i < length xs → x ≡ get_or xs i x → change_limits at (changes_of (take (i + 1) xs)) ≡ change_limits at (changes_of (take i xs)) ++ (path_limits at x.path ++ no_temporal at x.value ∷ [])
+changes_held at xs i x lt e = ap (change_limits at) (changes_next xs i x lt e) ∙ append_assoc (change_limits at (changes_of (take i xs))) (path_limits at x.path) (no_temporal at x.value ∷ [])
+
+-- a term that is seen, and its level
+pub seen_level : (at : Place) (l : Level) (m : Meaning) (e : Term) → term.Placed at l m ≡ e → l ≡ level_of e
+seen_level at l m e q = ap level_of q
+
+pub held_part : (now next : Option LevelFault) (at : Place) (l : Level) (e : Term) → next ≡ held now (limit at Action l) → l ≡ level_of e → next ≡ held_all now (no_temporal at e ∷ [])
+held_part now next at l e h q = h ∙ ap (λ k. held now (limit at Action k)) q
+
+-- the steps before the last that is left
+pub steps_less : (b : Bool) (xs : List StepAt) (i : ℕ) (x : StepAt) → i < length xs → x ≡ get_or xs i x → steps_parts b (steps_of (take (i + 1) xs)) ≡ step_parts b (step_view x.step) ++ steps_parts (b || is_prime (step_view x.step)) (steps_of (take i xs))
+steps_less b xs i x lt e = ap (steps_parts b) (steps_next xs i x lt e)
+
+pub steps_on : (now new start own left whole : List Part) → new ≡ now ++ own → now ++ (own ++ left) ≡ start ++ whole → new ++ left ≡ start ++ whole
+steps_on now new start own left whole pushed invariant = ap (λ xs. xs ++ left) pushed ∙ append_assoc now own left ∙ invariant
+
+pub prime_more : (xs : List StepAt) (i : ℕ) (x : StepAt) → i < length xs → x ≡ get_or xs i x → has_prime (steps_of (take (i + 1) xs)) ≡ (has_prime (steps_of (take i xs)) || is_prime (step_view x.step))
+prime_more xs i x lt e = ap has_prime (steps_next xs i x lt e)
+
+-- what is found in the operands of a chain
+pub operands_checked : (found mid r : Option LevelFault) (at p : Place) (o : InfixOperator) (allowed l : Level) (e : Term) (xs : List Operand) (os : Operands) → operands_of e xs ≡ os → p ≡ first_place at xs → allowed ≡ infix_allows o → l ≡ level_of e → mid ≡ held found (limit p allowed l) → r ≡ held_all mid (other_limits allowed xs) → r ≡ held_all found (operand_limits at o os)
+operands_checked found mid r at p o allowed l e xs os q qp qa ql first rest =
+    rest ∙ ap (λ a. held_all mid (other_limits a xs)) qa ∙ ap (λ f. held_all f (other_limits (infix_allows o) xs)) (first ∙ ap (λ y. held found (limit y allowed l)) qp ∙ ap (λ y. held found (limit (first_place at xs) y l)) qa ∙ ap (λ y. held found (limit (first_place at xs) (infix_allows o) y)) ql) ∙ ap (held_all found) (sym (operands_held at o e xs os q))
+
+pub ok_mapped : {A E : Type 0} (r : Result A E) (P Q : Type 0) → (P → Q) → OnOk r P → OnOk r Q
+ok_mapped (Ok x) P Q f h = f h
+ok_mapped (Err e) P Q f h = tt
+
+pub levels_more : (xs : List Term) (i : ℕ) (x : Term) (l k : Level) → i < length xs → x ≡ get_or xs i x → l ≡ of_terms (terms_of (take i xs)) → k ≡ joined l (level_of x) → k ≡ of_terms (terms_of (take (i + 1) xs))
+levels_more xs i x l k lt e h j = j ∙ ap (λ y. joined y (level_of x)) h ∙ ap of_terms (sym (terms_next xs i x lt e))

@@ -1,6 +1,6 @@
 -- The parts of a term weigh less than the term.
 use Rattle.std.proofs.Common.{◌≡◌, ◌∙◌, sym, ap, refl, List, [], ◌∷◌, ◌++◌, arith, zero-add}
-use Rattle.std.specs.Prelude.{ℕ, suc, ◌+◌, ◌||◌, Bool, false, true, sum_by}
+use Rattle.std.specs.Prelude.{ℕ, suc, ◌+◌, ◌||◌, Bool, false, true}
 use Rattle.tla_terms.specs.Terms as term
 use Rattle.tla_terms.specs.Terms.{Term, Terms, Operands, Step, Steps, Bounds, Fields, Changes, Arms, Meaning}
 use Rattle.tla_levels.specs.Parts.{Part, part, parts_of, listed, operand_list, set_list, value_list, arm_list, is_prime, has_prime, step_parts, steps_parts, change_parts, primes, parts}

@@ -1,5 +1,5 @@
 -- For the prover: how many terms a term has, itself and all in it.
-use Rattle.std.specs.Prelude.{ℕ, suc, ◌+◌, List, sum_by}
+use Rattle.std.specs.Prelude.{ℕ, suc, ◌+◌, List, [], ◌∷◌}
 use Rattle.tla_terms.specs.Terms.{Term, Placed, Meaning, Known, Named, Variable, Slot, Use, Standard, Parenthesized, Scoped, All, Any, Prefix, Infix, Postfix, SetOf, Filter, Map, Tuple, Function, FunctionSet, Record, RecordSet, Except, Quantified, Choose, If, Case, CaseOther, BoxAction, AngleAction, Fairness, Terms, NoTerms, MoreTerms, Operands, First, Next, Step, Prime, Index, Field, Steps, NoSteps, MoreSteps, Bounds, NoBounds, MoreBounds, Fields, NoFields, MoreFields, Changes, NoChanges, MoreChanges, Arms, NoArms, MoreArms}
 use Rattle.tla_levels.specs.Parts.{Part}
 
@@ -70,5 +70,6 @@ abbrev mutual
   in_arms (MoreArms arms p e) = in_arms arms + (weight p + weight e)
 
 -- of all that wait
-pub total : List Part → ℕ
-total ps = sum_by (λ p. weight p.term) ps
+unfoldable pub total : List Part → ℕ
+total [] = 0
+total (p ∷ ps) = weight p.term + total ps

@@ -6,6 +6,7 @@ mod levels;
 mod limits;
 mod note;
 mod pending;
+mod reading;
 mod slots;
 
 pub use fault::LevelFault;

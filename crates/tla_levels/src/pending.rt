@@ -185,6 +185,12 @@ fn push_case<'a>(
     push(stack, primed, other)
 }
 
+pub fn either(first: bool, second: bool) -> bool
+    ensures { result ≡ (first || second) }
+{
+    first || second
+}
+
 fn is_prime(step: &Step) -> bool
     ensures { result ≡ is_prime (step_view step.now) }
 {
@@ -223,7 +229,7 @@ fn push_steps<'a>(
         left -= 1;
         let step = &steps[left].step;
         push_step(stack, under, step)?;
-        under = under || is_prime(step);
+        under = either(under, is_prime(step));
     }
     Ok(())
 }
@@ -234,7 +240,7 @@ fn has_prime(steps: &Steps) -> bool
     let items = steps.items();
     let mut found = false;
     for step in items {
-        found = found || is_prime(&step.step);
+        found = either(found, is_prime(&step.step));
     }
     found
 }
@@ -286,8 +292,8 @@ fn push_postfix<'a>(
 ) -> Result<(), NoMemory>
     ensures { OnOk result (waiting stack.new.items ≡ waiting stack.old.items ++ (part ((primed || is_prime (step_view last.now)) || has_prime steps.now) base.now ∷ [] ++ step_parts primed (step_view last.now) ++ steps_parts (primed || is_prime (step_view last.now)) steps.now)) }
 {
-    let under = primed || is_prime(last);
-    push(stack, under || has_prime(steps), base)?;
+    let under = either(primed, is_prime(last));
+    push(stack, either(under, has_prime(steps)), base)?;
     push_step(stack, primed, last)?;
     push_steps(stack, under, steps.items())
 }
@@ -327,7 +333,7 @@ pub fn push_parts<'a>(
         TermNode::Scoped(_, term) => push(stack, primed, term),
         TermNode::All(terms) => push_terms(stack, primed, terms),
         TermNode::Any(terms) => push_terms(stack, primed, terms),
-        TermNode::Prefix(operator, term) => push(stack, primed || primes(*operator), term),
+        TermNode::Prefix(operator, term) => push(stack, either(primed, primes(*operator)), term),
         TermNode::Infix(_, operands, last) => push_chain(stack, primed, operands, last),
         TermNode::Postfix(base, steps, last) => push_postfix(stack, primed, base, steps, last),
         TermNode::SetOf(terms) => push_terms(stack, primed, terms),

@@ -1,7 +1,7 @@
 //! Sets of slots.
 
-ghost use Rattle.std.specs.Prelude.{◌≡◌, ◌==◌, ◌+◌, ◌||◌, ◌&&◌, ℕ, [], OnOk, nat_lt};
-ghost use Rattle.tla_levels.specs.Marks.{has};
+ghost use Rattle.std.specs.Prelude.{◌≡◌, ◌==◌, ◌+◌, ◌||◌, ◌&&◌, ℕ, [], OnOk};
+ghost use Rattle.tla_levels.specs.Marks.{Absorbs, has};
 
 use std::alloc::Global;
 use std::marker::Model;
@@ -57,14 +57,24 @@ impl Slots {
         Ok(())
     }
 
+    /// Adds a slot that is in another set.
+    fn take(&mut self, other: &Slots, slot: usize) -> Result<(), NoMemory>
+        ensures { OnOk result ((i : ℕ) → has self.new i ≡ ((has other.now slot && (i == slot)) || has self.old i)) }
+    {
+        if other.has(slot) {
+            return self.add(slot);
+        }
+        Ok(())
+    }
+
     /// Adds the slots of another set that are below a bound.
     pub fn absorb(&mut self, other: &Slots, below: usize) -> Result<(), NoMemory>
-        ensures { OnOk result ((i : ℕ) → has self.new i ≡ (has self.old i || (nat_lt i below && has other.now i))) }
+        ensures { OnOk result (Absorbs below self.old other.now self.new) }
     {
-        for (slot, is_in) in other.marks.iter().enumerate() {
-            if slot < below && *is_in {
-                self.add(slot)?;
-            }
+        let marks = other.marks.len();
+        let end = if below < marks { below } else { marks };
+        for slot in 0..end {
+            self.take(other, slot)?;
         }
         Ok(())
     }

@@ -8,4 +8,4 @@ use Rattle.tla_levels.specs.Views.{waiting, held_all, other_limits}
 use Rattle.tla_levels.proofs.limits.in_steps.Given as goal
 
 abbrev pub invariant-loop-step : goal.invariant-loop-step
-invariant-loop-step l = (l.found ≡ held_all l.initial.found (steps_limits l.level (steps_of (take l.step-index l.items)))) × (l.before ≡ of_steps l.level (steps_of (take l.step-index l.items)))
+invariant-loop-step l = (l.found ≡ held_all l.initial.found (steps_limits l.fn.level (steps_of (take l.step-index l.items)))) × (l.before ≡ of_steps l.fn.level (steps_of (take l.step-index l.items)))
