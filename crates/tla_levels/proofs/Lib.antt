@@ -1,7 +1,11 @@
 mod Adds
+mod Below
+mod Conjuncts
+mod Fair
 mod Lists
 mod Marks
 mod Order
 mod Texts
 mod Under
+mod Ways
 mod Weights

@@ -1,8 +1,8 @@
 -- Lists of parts, item by item.
-use Rattle.std.proofs.Common.{◌≡◌, ◌∙◌, sym, ap, refl, List, [], ◌∷◌, ◌++◌, length, take, drop, ◌<◌, ◌≤◌, arith, append_assoc, add-one, get_or}
+use Rattle.std.proofs.Common.{◌≡◌, ◌∙◌, sym, ap, refl, List, [], ◌∷◌, ◌++◌, length, take, drop, ◌<◌, ◌≤◌, arith, append_assoc, add-one, add-zero, get_or}
 use Rattle.std.proofs.lemmas.List.{append-nil}
 use Rattle.std.proofs.lemmas.List.Sums.{fold-append}
-use Rattle.std.specs.Prelude.{ℕ, zero, suc, ◌+◌, ◌||◌, Bool, Option, Result, Ok, Err, OnOk, map, fold}
+use Rattle.std.specs.Prelude.{ℕ, zero, suc, ◌+◌, ◌||◌, Bool, Option, Result, Ok, Err, OnOk, Contains, Some, slice_get, ◌-◌, map, fold}
 use Rattle.trace_base.specs.declared.place.Place.{Place}
 use Rattle.tla_ast.specs.declared.operators.InfixOperator.{InfixOperator}
 use Rattle.tla_terms.specs.declared.level.Level.{Level}
@@ -14,13 +14,17 @@ use Rattle.tla_terms.specs.declared.term.Field.{Field}
 use Rattle.tla_terms.specs.declared.term.Operand.{Operand}
 use Rattle.tla_terms.specs.declared.term.StepAt.{StepAt}
 use Rattle.tla_terms.specs.Terms as term
-use Rattle.tla_terms.specs.Terms.{Term, Terms, Operands, Steps, Bounds, Fields, Changes, Arms, Meaning, level_of}
+use Rattle.tla_terms.specs.Terms.{Term, Terms, Operands, Steps, Bounds, Fields, Changes, Arms, Meaning, Step, level_of}
 use Rattle.tla_terms.specs.Levels.{joined, of_terms, of_steps, of_step}
 use Rattle.tla_terms.specs.TermViews.{step_view, terms_from, terms_of, operands_from, operands_of, steps_from, steps_of, bounds_from, bounds_of, fields_from, fields_of, changes_from, changes_of, arms_from, arms_of}
 use Rattle.tla_levels.specs.Limits.{Limit, limit, no_temporal, operand_limits, infix_allows, term_limits, set_limits, value_limits, index_limits, path_limits, step_limits, steps_limits, change_limits}
 use Rattle.tla_levels.specs.Parts.{Part, part, parts_of, operand_list, listed, set_list, value_list, arm_list, is_prime, has_prime, step_parts, steps_parts, change_parts}
 use Rattle.tla_levels.specs.declared.fault.LevelFault.{LevelFault}
-use Rattle.tla_levels.specs.Views.{held, held_all, first_place, other_limits}
+use Rattle.tla_levels.specs.Views.{held, held_all, first_place, other_limits, argued, argued_from, arguments_from, part_of, waiting}
+use Rattle.tla_levels.specs.declared.pending.Pending.{Pending}
+use Rattle.tla_levels.specs.Marks.{has}
+use Rattle.std.proofs.Math.Seq.{take-length}
+use Rattle.std.proofs.lemmas.List.{map-append}
 
 taken_suc : {A : Type 0} (xs : List A) (i : ℕ) (x : A) → i < length xs → x ≡ get_or xs i x → take (suc i) xs ≡ take i xs ++ x ∷ []
 taken_suc [] i x lt e = absurd (omega arith)
@@ -164,3 +168,79 @@ ok_mapped (Err e) P Q f h = tt
 
 pub levels_more : (xs : List Term) (i : ℕ) (x : Term) (l k : Level) → i < length xs → x ≡ get_or xs i x → l ≡ of_terms (terms_of (take i xs)) → k ≡ joined l (level_of x) → k ≡ of_terms (terms_of (take (i + 1) xs))
 levels_more xs i x l k lt e h j = j ∙ ap (λ y. joined y (level_of x)) h ∙ ap of_terms (sym (terms_next xs i x lt e))
+
+-- the terms in one step less
+pub left_on : (now new start whole : List Part) (b c p : Bool) (xs : List StepAt) (n : ℕ) (r : StepAt) → 0 < n → n ≤ length xs → r ≡ get_or xs (n - 1) r → new ≡ now ++ step_parts b (step_view (get_or xs (n - 1) r).step) → p ≡ is_prime (step_view (get_or xs (n - 1) r).step) → c ≡ (b || p) → now ++ steps_parts b (steps_of (take n xs)) ≡ start ++ whole → new ++ steps_parts c (steps_of (take (n - 1) xs)) ≡ start ++ whole
+left_on now new start whole b c p xs n r some within is pushed prime under invariant =
+    let k : n ≡ (n - 1) + 1 = omega arith in
+    let lt : n - 1 < length xs = omega arith in
+    let own : Step → List Part = step_parts b in
+    let before : Steps = steps_of (take (n - 1) xs) in
+    let same_step : step_view r.step ≡ step_view (get_or xs (n - 1) r).step = ap (λ z. step_view z.step) is in
+    let flag : (b || is_prime (step_view r.step)) ≡ c = ap (λ z. b || is_prime z) same_step ∙ ap (λ z. b || z) (sym prime) ∙ sym under in
+    let cut : steps_parts b (steps_of (take n xs)) ≡ step_parts b (step_view (get_or xs (n - 1) r).step) ++ steps_parts c (steps_of (take (n - 1) xs)) =
+      ap (λ i. steps_parts b (steps_of (take i xs))) k ∙ steps_less b xs (n - 1) r lt is ∙ ap (λ z. step_parts b z ++ steps_parts (b || is_prime (step_view r.step)) (steps_of (take (n - 1) xs))) same_step ∙ ap (λ z. step_parts b (step_view (get_or xs (n - 1) r).step) ++ steps_parts z (steps_of (take (n - 1) xs))) flag in
+    steps_on now new start (step_parts b (step_view (get_or xs (n - 1) r).step)) (steps_parts c (steps_of (take (n - 1) xs))) whole pushed (ap (λ ps. now ++ ps) (sym cut) ∙ invariant)
+
+pub left_all : (xs : List StepAt) (b : Bool) (n : ℕ) → n ≡ length xs → steps_parts b (steps_of (take n xs)) ≡ steps_parts b (steps_of xs)
+left_all xs b n q = ap (λ i. steps_parts b (steps_of (take i xs))) q ∙ ap (λ ys. steps_parts b (steps_of ys)) (take-length xs)
+
+-- arguments, one more
+length_taken : {A : Type 0} (xs : List A) (i : ℕ) → i ≤ length xs → length (take i xs) ≡ i
+length_taken [] zero le = refl
+length_taken [] (suc i) le = absurd (omega arith)
+length_taken (x ∷ xs) zero le = refl
+length_taken (x ∷ xs) (suc i) le = omega (arith, length_taken xs i (omega arith))
+
+arguments_from-push : (primed : List Bool) (outer : ℕ) (b : Bool) (i : ℕ) (xs : List Term) (x : Term) → arguments_from primed outer b i (xs ++ x ∷ []) ≡ arguments_from primed outer b i xs ++ part (b || has primed (outer + (i + length xs))) x ∷ []
+arguments_from-push primed outer b i [] x = ap (λ n. part (b || has primed (outer + n)) x ∷ []) (sym (add-zero i))
+arguments_from-push primed outer b i (y ∷ xs) x =
+    let shifted : (i + 1) + length xs ≡ i + suc (length xs) = omega arith in
+    ap (λ ps. part (b || has primed (outer + i)) y ∷ ps) (arguments_from-push primed outer b (i + 1) xs x ∙ ap (λ n. arguments_from primed outer b (i + 1) xs ++ part (b || has primed (outer + n)) x ∷ []) shifted)
+
+pub arguments_more : (primed : List Bool) (outer : ℕ) (b : Bool) (xs : List Term) (i : ℕ) (x : Term) → i < length xs → x ≡ get_or xs i x → arguments_from primed outer b 0 (take (i + 1) xs) ≡ arguments_from primed outer b 0 (take i xs) ++ part (b || has primed (outer + i)) x ∷ []
+arguments_more primed outer b xs i x lt e =
+    let count : 0 + length (take i xs) ≡ i = omega (arith, length_taken xs i (omega arith)) in
+    ap (arguments_from primed outer b 0) (taken xs i x lt e) ∙ arguments_from-push primed outer b 0 (take i xs) x ∙ ap (λ n. arguments_from primed outer b 0 (take i xs) ++ part (b || has primed (outer + n)) x ∷ []) count
+
+argued_from-push : (primed : List Bool) (outer i : ℕ) (xs : List Term) (x : Term) (o : Option LevelFault) → argued_from primed outer i (xs ++ x ∷ []) o ≡ argued (has primed (outer + (i + length xs))) x (argued_from primed outer i xs o)
+argued_from-push primed outer i [] x o = ap (λ n. argued (has primed (outer + n)) x o) (sym (add-zero i))
+argued_from-push primed outer i (y ∷ xs) x o =
+    let shifted : (i + 1) + length xs ≡ i + suc (length xs) = omega arith in
+    argued_from-push primed outer (i + 1) xs x (argued (has primed (outer + i)) y o) ∙ ap (λ n. argued (has primed (outer + n)) x (argued_from primed outer (i + 1) xs (argued (has primed (outer + i)) y o))) shifted
+
+pub argued_more : (primed : List Bool) (outer : ℕ) (xs : List Term) (i : ℕ) (x : Term) (o now next : Option LevelFault) (b : Bool) → i < length xs → x ≡ get_or xs i x → now ≡ argued_from primed outer 0 (take i xs) o → b ≡ has primed (outer + i) → next ≡ argued b x now → next ≡ argued_from primed outer 0 (take (i + 1) xs) o
+argued_more primed outer xs i x o now next b lt e h q r =
+    let count : 0 + length (take i xs) ≡ i = omega (arith, length_taken xs i (omega arith)) in
+    r ∙ ap (λ z. argued z x now) q ∙ ap (λ f. argued (has primed (outer + i)) x f) h ∙ ap (λ n. argued (has primed (outer + n)) x (argued_from primed outer 0 (take i xs) o)) (sym count) ∙ sym (argued_from-push primed outer 0 (take i xs) x o) ∙ ap (λ ys. argued_from primed outer 0 ys o) (sym (taken xs i x lt e))
+
+-- an item of a list
+pub item_at : {A : Type 0} (xs : List A) (k : ℕ) (d : A) → k < length xs → slice_get xs k ≡ Some (get_or xs k d)
+item_at [] k d lt = absurd (omega arith)
+item_at (x ∷ xs) zero d lt = refl
+item_at (x ∷ xs) (suc k) d lt = item_at xs k d (omega arith)
+
+pub some_item : {A : Type 0} (xs : List A) (k : ℕ) → k < length xs → (x : A) × (slice_get xs k ≡ Some x)
+some_item [] k lt = absurd (omega arith)
+some_item (x ∷ xs) zero lt = (x, refl)
+some_item (x ∷ xs) (suc k) lt = some_item xs k (omega arith)
+
+pub item_in : {A : Type 0} (xs : List A) (k : ℕ) (x : A) → slice_get xs k ≡ Some x → Contains xs x
+item_in [] k x q = absurd (cc)
+item_in (y ∷ xs) zero x q = (zero, (omega arith), cc)
+item_in (y ∷ xs) (suc k) x q = let c : Contains xs x = item_in xs k x q in (suc c.0, (omega arith), c.2)
+
+pub item_within : {A : Type 0} (xs : List A) (k : ℕ) (x : A) → slice_get xs k ≡ Some x → k < length xs
+item_within [] k x q = absurd (cc)
+item_within (y ∷ xs) zero x q = omega arith
+item_within (y ∷ xs) (suc k) x q = omega (arith, item_within xs k x q)
+
+pub item_more : {A : Type 0} (xs : List A) (k : ℕ) (x : A) → slice_get xs k ≡ Some x → take (k + 1) xs ≡ take k xs ++ x ∷ []
+item_more xs k x q = taken xs k x (item_within xs k x q) (some_same (sym q ∙ item_at xs k x (item_within xs k x q)))
+  where
+    some_same : {A : Type 0} {a b : A} → Some a ≡ Some b → a ≡ b
+    some_same e = cc
+
+-- the parts on a stack whose top was taken
+pub waiting-push : (ps : List Pending) (p : Pending) → waiting (ps ++ p ∷ []) ≡ waiting ps ++ part p.primed p.term.now ∷ []
+waiting-push ps p = map-append part_of ps (p ∷ [])

@@ -8,6 +8,9 @@ use Rattle.tla_terms.specs.declared.level.Level.TheVariants.{Constant}
 use Rattle.tla_terms.specs.declared.operator.Operator.{Operator}
 use Rattle.tla_terms.specs.Terms as term
 use Rattle.tla_terms.specs.Terms.{Term, Terms, Placed, Meaning, level_of, place_of, meaning_of}
+use Rattle.tla_terms.specs.TermViews.{terms_from, terms_of}
+use Rattle.std.proofs.lemmas.List.{append-nil}
+use Rattle.std.proofs.Common.{append_assoc}
 use Rattle.tla_levels.specs.declared.fault.LevelFault.{LevelFault}
 use Rattle.tla_levels.specs.declared.fault.LevelFault.TheVariants.{TooHigh, PrimedArgument}
 use Rattle.tla_levels.specs.declared.note.Note.{Note}
@@ -16,7 +19,7 @@ use Rattle.tla_levels.specs.Findings.{Finding, Standing, Under, Wrong, Covers, S
 use Rattle.tla_levels.specs.Limits.{Limit, limits, is_above}
 use Rattle.tla_levels.specs.Marks.{has}
 use Rattle.tla_levels.specs.Parts.{Part, part, parts, parts_of, listed}
-use Rattle.tla_levels.specs.Slots.{Occurs, itself, occurs_in_part, occurs_in_let, occurs_where_used, IsPrimed, under, primed_in_part, in_argument, primed_in_let, primed_where_used, Mentions, mentioned_in_part, used, MentionsBelow}
+use Rattle.tla_levels.specs.Slots.{Occurs, itself, occurs_in_part, occurs_in_let, occurs_where_used, IsPrimed, under, primed_in_part, in_argument, primed_in_let, primed_where_used, Mentions, listed_in_let, mentioned_in_part, used, MentionsBelow}
 use Rattle.tla_levels.specs.Slots as slots
 use Rattle.tla_levels.specs.Special.{IsOther}
 use Rattle.tla_levels.specs.Views.{arguments_from}
@@ -357,3 +360,22 @@ read_use ops n b at l m k ts e o primed old first second new q is known marks be
         let under_n : MentionsBelow n (Placed at l (term.Use k ts)) = subst (MentionsBelow n) (sym whole) below in
         let P : Part → Type 0 = λ y. MentionsBelow n y.term in
         subst P (sym u.3) (part_below n false at l (term.Use k ts) under_n (part false u.1) (plain_at (listed ts) u.0 u.1 u.2))
+
+pub use_below : (n : ℕ) (at : Place) (l : Level) (m : Meaning) (k : ℕ) (ts : Terms) (e : Term) → Placed at l m ≡ e → m ≡ term.Use k ts → MentionsBelow n e → k < n
+use_below n at l m k ts e q is below = let P : Term → Type 0 = λ t. Mentions t k in below k (subst P (ap (Placed at l) (sym is) ∙ q) (used at l k ts))
+
+pub let_below : (n : ℕ) (at : Place) (l : Level) (m : Meaning) (ks : List ℕ) (d e : Term) → Placed at l m ≡ e → m ≡ term.Scoped ks d → MentionsBelow n e → (k : ℕ) → Contains ks k → k < n
+let_below n at l m ks d e q is below k c = let P : Term → Type 0 = λ t. Mentions t k in below k (subst P (ap (Placed at l) (sym is) ∙ q) (listed_in_let at l ks d k c))
+
+listed_from : (ts : Terms) (xs : List Term) → listed (terms_from ts xs) ≡ listed ts ++ xs
+listed_from ts [] = sym (append-nil (listed ts))
+listed_from ts (x ∷ xs) = listed_from (term.MoreTerms ts x) xs ∙ append_assoc (listed ts) (x ∷ []) xs
+
+pub listed_of : (xs : List Term) (ts : Terms) → terms_of xs ≡ ts → xs ≡ listed ts
+listed_of xs ts q = sym (listed_from term.NoTerms xs) ∙ ap listed q
+
+pub reads_use : (ops : List Operator) (n : ℕ) (b : Bool) (at : Place) (l : Level) (m : Meaning) (k : ℕ) (ts : Terms) (e : Term) (es : List Term) (before after : List Part) (old first new : Note) → Placed at l m ≡ e → m ≡ term.Use k ts → terms_of es ≡ ts → MentionsBelow n e → Adds (LimitFinds at m) old first → ReadsUse ops b k es before after first new → Reads ops n (part b e) before after old new
+reads_use ops n b at l m k ts e es before after old first new q is items below adds h =
+    let P : List Term → Type 0 = λ xs. ReadsUse ops b k xs before after first new in
+    let r : ReadsUse ops b k (listed ts) before after first new = subst P (listed_of es ts items) h in
+    (arguments_from r.1 r.0.outer b 0 (listed ts), r.4, read_use ops n b at l m k ts e r.0 r.1 old first r.5 new q is r.2 r.3 below adds r.6 r.7)

@@ -1,3 +1,5 @@
+pub mod Conjuncts
+pub mod Fairness
 pub mod Faults
 pub mod Findings
 pub mod Limits

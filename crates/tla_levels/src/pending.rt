@@ -56,7 +56,8 @@ fn push_three<'a>(
     push_two(stack, primed, second, third, primed)
 }
 
-fn push_terms<'a>(
+/// Puts terms on the stack.
+pub fn push_terms<'a>(
     stack: &mut Vec<Pending<'a>>,
     primed: bool,
     terms: &'a Terms,

@@ -20,14 +20,14 @@ use tla_terms::{DefIds, Level, Operator, Term, TermNode, Terms};
 use trace_base::{NoMemory, Place};
 
 /// The terms that are read in a way of their own: a slot, a use of a definition, and a LET.
-enum Special<'a> {
+pub enum Special<'a> {
     Slot(usize),
     Use(usize, &'a Terms),
     Let(&'a DefIds),
     Other,
 }
 
-fn special_of(node: &TermNode) -> Special<'_>
+pub fn special_of(node: &TermNode) -> Special<'_>
     ensures { IsSpecial (node_view node.now) result }
 {
     match node {
@@ -184,8 +184,9 @@ fn read_let(
     ensures { OnOk result (Adds (LetsFind table.now primed numbers.now) note.old note.new) }
 {
     for index in 0..numbers.len() {
-        if let Some(number) = numbers.get(index) {
-            read_definition(table, notes, note, primed, number.0)?;
+        match numbers.get(index) {
+            Some(number) => read_definition(table, notes, note, primed, number.0)?,
+            None => return Ok(()),
         }
     }
     Ok(())

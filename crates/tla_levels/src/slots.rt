@@ -1,6 +1,6 @@
 //! Sets of slots.
 
-ghost use Rattle.std.specs.Prelude.{◌≡◌, ◌==◌, ◌+◌, ◌||◌, ◌&&◌, ℕ, [], OnOk};
+ghost use Rattle.std.specs.Prelude.{◌≡◌, ◌==◌, ◌+◌, ◌||◌, ◌&&◌, ℕ, [], OnOk, length};
 ghost use Rattle.tla_levels.specs.Marks.{Absorbs, has};
 
 use std::alloc::Global;
@@ -29,6 +29,12 @@ impl Slots {
         Slots {
             marks: Vec::new(alloc),
         }
+    }
+
+    fn count(&self) -> usize
+        ensures { result ≡ length self.now }
+    {
+        self.marks.len()
     }
 
     /// Whether a slot is in the set.
@@ -71,7 +77,7 @@ impl Slots {
     pub fn absorb(&mut self, other: &Slots, below: usize) -> Result<(), NoMemory>
         ensures { OnOk result (Absorbs below self.old other.now self.new) }
     {
-        let marks = other.marks.len();
+        let marks = other.count();
         let end = if below < marks { below } else { marks };
         for slot in 0..end {
             self.take(other, slot)?;

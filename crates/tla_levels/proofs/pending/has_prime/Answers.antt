@@ -1,12 +1,9 @@
-use Rattle.std.proofs.Common.{◌||◌, ◌≡◌, ◌∙◌, ap, sym, [], ◌∷◌, ◌++◌, take, ◌+◌, arith, ◌<◌, length}
-use Rattle.tla_terms.specs.TermViews.{terms_of, bounds_of, fields_of, arms_of, changes_of, steps_of, step_view}
-use Rattle.tla_terms.specs.Terms.{level_of}
-use Rattle.tla_levels.specs.Limits.{change_limits, index_limits, infix_allows, limit, no_temporal, operand_limits, path_limits, set_limits, step_limits, steps_limits, term_limits, value_limits}
-use Rattle.tla_levels.specs.Parts.{arm_list, change_parts, has_prime, is_prime, listed, operand_list, part, parts_of, set_list, step_parts, steps_parts, value_list}
-use Rattle.tla_levels.specs.Views.{waiting, held_all, held, first_place, other_limits}
+use Rattle.std.proofs.Common.{◌||◌, ◌∙◌, ap, sym}
+use Rattle.tla_terms.specs.TermViews.{step_view}
+use Rattle.tla_levels.specs.Parts.{is_prime}
 use Rattle.tla_levels.proofs.Lists.{prime_more}
 use Rattle.tla_levels.proofs.pending.has_prime.Goals as goal
 
 pub loop-step-preserved : goal.loop-step-preserved
 loop-step-preserved c =
-    c.either-found.ensures ∙ ap (λ y. y || is_prime (step_view c.step-item.result.step)) c.loop-step.invariant ∙ sym (prime_more c.items-items.result.now c.loop-step.step-index c.step-item.result c.loop-step-test.true c.step-item.is)
+    c.either-found.ensures ∙ ap (λ y. c.loop-step.found || y) c.is_prime.ensures ∙ ap (λ y. y || is_prime (step_view c.step-item.result.step)) c.loop-step.invariant ∙ sym (prime_more c.items-items.result.now c.loop-step.step-index c.step-item.result c.loop-step-test.true c.step-item.is)
