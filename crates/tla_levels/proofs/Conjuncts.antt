@@ -1,6 +1,6 @@
 -- The conjuncts of the operator of SPECIFICATION, one at a time.
-use Rattle.std.proofs.Common.{◌≡◌, ◌∙◌, sym, ap, refl, List, [], ◌∷◌, ◌++◌, inl, inr, subst, arith, length, ◌<◌, append_assoc, take}
-use Rattle.std.specs.Prelude.{◌⊎◌, ◌↔◌, ◌≢◌, ℕ, Bool, true, false, Option, Some, None, Contains, reverse, ◌+◌, map}
+use Rattle.std.proofs.Common.{◌≡◌, ◌∙◌, sym, ap, refl, List, [], ◌∷◌, ◌++◌, inl, inr, subst, arith, length, ◌<◌, ◌≤◌, append_assoc, take, get_or}
+use Rattle.std.specs.Prelude.{◌⊎◌, ◌↔◌, ◌≢◌, ℕ, Bool, true, false, Option, Some, None, Contains, reverse, ◌+◌, ◌-◌, Result, Ok, Err, IfOk}
 use Rattle.std.proofs.lemmas.List.{append-nil, reverse-append}
 use Rattle.std.proofs.lemmas.List.Elements.{Contains-append_left, Contains-append_right, Contains-append_cases, Contains-push, Contains-push_cases}
 use Rattle.trace_base.specs.declared.place.Place.{Place}
@@ -13,12 +13,17 @@ use Rattle.tla_terms.specs.Terms as term
 use Rattle.tla_terms.specs.Terms.{Term, Terms, Placed, Meaning, level_of, meaning_of}
 use Rattle.tla_levels.specs.declared.gathering.Conjunct.{Conjunct}
 use Rattle.tla_levels.specs.declared.gathering.Conjunct.TheVariants as conjunct
-use Rattle.tla_levels.specs.Conjuncts.{IsConjunct, IsUnfair, IsNoConjunction, Does, Takes, GivesStack, IsGathering, taken, boxed, always}
+use Rattle.tla_levels.specs.Conjuncts.{IsConjunct, IsUnfair, IsNoConjunction, Does, Takes, GivesStack, IsGathering, taken, rows}
 use Rattle.tla_levels.specs.Limits.{is_above}
 use Rattle.tla_levels.specs.Parts.{listed, part, parts_of}
 use Rattle.tla_levels.specs.Parts as text
 use Rattle.tla_levels.specs.Shape.{IsFair, Parts, Gives, GivesEach, both_parts, parts}
 use Rattle.tla_levels.specs.Slots.{MentionsBelow, mentioned_in_part}
+use Rattle.std.specs.Borrow.{Bor}
+use Rattle.std.proofs.lemmas.List.{map-append}
+use Rattle.tla_levels.specs.Weights.{weight, inner, total}
+use Rattle.tla_levels.proofs.Lists.{parts_of-append, taken as item_taken}
+use Rattle.tla_levels.proofs.Weights.{total-append, total-cons, total-nil, of_parts}
 use Rattle.tla_levels.proofs.Adds.{contains_cons, contains_head, contains_tail, contains_nothing}
 
 -- What is added to what.
@@ -235,3 +240,49 @@ gathering_ends ops known body stack so_far q way_there p =
     let way : IsGathering ops known body [] so_far = subst (λ (xs : List Term). IsGathering ops known body xs so_far) q way_there in
     ((λ g. let u : (r : Parts) × (r ≡ parts [] []) × (p ≡ both_parts so_far r) = way.needs p g in u.2 ∙ ap (λ y. both_parts so_far y) u.1 ∙ behind_all so_far),
      (λ e. subst (Gives ops body) (behind_all so_far ∙ sym e) (way.suffices (parts [] []) refl)))
+
+-- What is on the stack gets less.
+abbrev weighed : List Term → ℕ
+weighed xs = total (parts_of false xs)
+
+weighed-append : (xs ys : List Term) → weighed (xs ++ ys) ≡ weighed xs + weighed ys
+weighed-append xs ys = ap total (parts_of-append false xs ys) ∙ total-append (parts_of false xs) (parts_of false ys)
+
+weighed-reverse : (xs : List Term) → weighed (reverse xs) ≡ weighed xs
+weighed-reverse [] = refl
+weighed-reverse (x ∷ xs) =
+    omega (arith, ap weighed (reverse-append (x ∷ []) xs), weighed-append (reverse xs) (x ∷ []), weighed-reverse xs, total-cons (part false x) (parts_of false xs), total-cons (part false x) [], total-nil)
+
+weighs : (e : Term) → 0 < weight e
+weighs (Placed at l m) = omega arith
+
+of_conjunction : (e : Term) (ts : Terms) → meaning_of e ≡ term.All ts → weighed (listed ts) < weight e
+of_conjunction (Placed at l m) ts q = omega (arith, of_parts false (term.All ts), ap inner q)
+
+pub takes_less : (ops : List Operator) (e : Term) (stack left t : List Term) (p q : Parts) (k : Conjunct) → stack ≡ left ++ e ∷ [] → IsConjunct ops e k → Does k e left t p q → weighed t < weighed stack
+takes_less ops e stack left t p q conjunct.Init popped is d = omega (arith, ap weighed d.0, ap weighed popped, weighed-append left (e ∷ []), total-cons (part false e) [], total-nil, weighs e)
+takes_less ops e stack left t p q conjunct.Fairness popped is d = omega (arith, ap weighed d.0, ap weighed popped, weighed-append left (e ∷ []), total-cons (part false e) [], total-nil, weighs e)
+takes_less ops e stack left t p q (conjunct.Step a) popped is d = omega (arith, ap weighed d.0, ap weighed popped, weighed-append left (e ∷ []), total-cons (part false e) [], total-nil, weighs e)
+takes_less ops e stack left t p q (conjunct.Conjunction ts) popped is d =
+    omega (arith, ap weighed d.0, ap weighed popped, weighed-append left (e ∷ []), weighed-append left (reverse (listed ts.now)), weighed-reverse (listed ts.now), total-cons (part false e) [], total-nil, of_conjunction e ts.now is.2)
+takes_less ops e stack left t p q conjunct.Other popped is d = absurd d
+
+pub took : (ops : List Operator) (e : Term) (b : Bool) (k : Conjunct) (s t : List Term) (p q : Parts) → b ≡ true → IsConjunct ops e k → Does k e s t p q → Takes ops e b s t p q
+took ops e true k s t p q h is d = (k, is, d)
+took ops e false k s t p q h is d = absurd (cc)
+
+pub if_ok_mapped : {A E : Type 0} (r : Result A E) (P Q : A → Type 0) → ((x : A) → P x → Q x) → IfOk r P → IfOk r Q
+if_ok_mapped (Ok x) P Q f h = f x h
+if_ok_mapped (Err e) P Q f h = tt
+
+-- the terms on a stack whose top was taken
+pub rows-push : (xs : List (Bor Term)) (x : Bor Term) → rows (xs ++ x ∷ []) ≡ rows xs ++ x.now ∷ []
+rows-push xs x = map-append (λ y. y.now) xs (x ∷ [])
+
+-- One item less of a list that is put on the stack from its end.
+pub reverse_less : (xs : List Term) (n : ℕ) (x : Term) (now new start : List Term) → 0 < n → n ≤ length xs → x ≡ get_or xs (n - 1) x → new ≡ now ++ x ∷ [] → now ++ reverse (take n xs) ≡ start ++ reverse xs → new ++ reverse (take (n - 1) xs) ≡ start ++ reverse xs
+reverse_less xs n x now new start some within is pushed invariant =
+    let k : n ≡ (n - 1) + 1 = omega arith in
+    let lt : n - 1 < length xs = omega arith in
+    let cut : reverse (take n xs) ≡ x ∷ [] ++ reverse (take (n - 1) xs) = ap (λ i. reverse (take i xs)) k ∙ ap reverse (item_taken xs (n - 1) x lt is) ∙ reverse-append (take (n - 1) xs) (x ∷ []) in
+    ap (λ ys. ys ++ reverse (take (n - 1) xs)) pushed ∙ append_assoc now (x ∷ []) (reverse (take (n - 1) xs)) ∙ ap (λ ys. now ++ ys) (sym cut) ∙ invariant

@@ -4,6 +4,7 @@ mod Conjuncts
 mod Fair
 mod Lists
 mod Marks
+mod Noted
 mod Order
 mod Texts
 mod Under

@@ -64,6 +64,12 @@ Does (conjunct.Step a) e s t p q = (t ≡ s) × (q ≡ parts p.inits (p.steps ++
 Does (conjunct.Conjunction ts) e s t p q = (t ≡ s ++ reverse (listed ts.now)) × (q ≡ p)
 Does conjunct.Other e s t p q = ⊥
 
+abbrev pub Adds : Bool → Parts → Parts → Type 0
+Adds b new wanted = (b ≡ true) × (new ≡ wanted)
+
+abbrev pub Opens : Bool → List Term → List Term → Type 0
+Opens b new wanted = (b ≡ true) × (new ≡ wanted)
+
 abbrev pub Takes : List Operator → Term → Bool → List Term → List Term → Parts → Parts → Type 0
 Takes ops e true s t p q = (k : Conjunct) × IsConjunct ops e k × Does k e s t p q
 Takes ops e false s t p q = IsConjunct ops e conjunct.Other

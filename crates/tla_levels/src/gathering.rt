@@ -3,10 +3,10 @@
 ghost use Rattle.std.specs.Prelude.{◌≡◌, ◌≤◌, ◌++◌, ℕ, [], ◌∷◌, IfOk, MatchOption, OnOk, ◌↔◌, length, reverse};
 ghost use Rattle.tla_terms.specs.Terms.{Prefix, level_of, meaning_of};
 ghost use Rattle.tla_terms.specs.TermViews.{node_view};
-ghost use Rattle.tla_levels.specs.Conjuncts.{IsConjunct, IsUnfair, Takes, boxed, parts_in, rows};
+ghost use Rattle.tla_levels.specs.Conjuncts.{Adds, IsConjunct, IsUnfair, Opens, Takes, boxed, parts_in, rows};
 ghost use Rattle.tla_levels.specs.Notes.{AreNotes};
 ghost use Rattle.tla_levels.specs.Parts.{listed};
-ghost use Rattle.tla_levels.specs.Shape.{Gives, Parts};
+ghost use Rattle.tla_levels.specs.Shape.{Gives, Parts, parts};
 ghost use Rattle.tla_levels.specs.Slots.{MentionsBelow};
 
 use crate::fairness::is_fair;
@@ -198,6 +198,27 @@ fn push_conjunction<'a>(stack: &mut Vec<&'a Term>, terms: &'a Terms) -> Result<(
     push_reversed(stack, terms.items())
 }
 
+fn take_init<'a>(gathered: &mut Gathered<'a>, term: &'a Term) -> Result<bool, NoMemory>
+    ensures { IfOk result (λ b. Adds b (parts_in gathered.new) (parts ((parts_in gathered.old).inits ++ term.now ∷ []) (parts_in gathered.old).steps)) }
+{
+    gathered.inits.push(term)?;
+    Ok(true)
+}
+
+fn take_step<'a>(gathered: &mut Gathered<'a>, action: &'a Term) -> Result<bool, NoMemory>
+    ensures { IfOk result (λ b. Adds b (parts_in gathered.new) (parts (parts_in gathered.old).inits ((parts_in gathered.old).steps ++ action.now ∷ []))) }
+{
+    gathered.steps.push(action)?;
+    Ok(true)
+}
+
+fn open_conjunction<'a>(stack: &mut Vec<&'a Term>, terms: &'a Terms) -> Result<bool, NoMemory>
+    ensures { IfOk result (λ b. Opens b (rows stack.new.items) (rows stack.old.items ++ reverse (listed terms.now))) }
+{
+    push_conjunction(stack, terms)?;
+    Ok(true)
+}
+
 /// Takes one conjunct: whether it is one that may stand there.
 fn take<'a>(
     alloc: Global,
@@ -213,13 +234,12 @@ fn take<'a>(
     ensures { IfOk result (λ b. Takes table.now term.now b (rows stack.old.items) (rows stack.new.items) (parts_in gathered.old) (parts_in gathered.new)) }
 {
     match conjunct_of(alloc, table, notes, term)? {
-        Conjunct::Init => gathered.inits.push(term)?,
-        Conjunct::Step(action) => gathered.steps.push(action)?,
-        Conjunct::Fairness => {}
-        Conjunct::Conjunction(terms) => push_conjunction(stack, terms)?,
-        Conjunct::Other => return Ok(false),
+        Conjunct::Init => take_init(gathered, term),
+        Conjunct::Step(action) => take_step(gathered, action),
+        Conjunct::Fairness => Ok(true),
+        Conjunct::Conjunction(terms) => open_conjunction(stack, terms),
+        Conjunct::Other => Ok(false),
     }
-    Ok(true)
 }
 
 /// The conjuncts of Init and the actions that are always taken, or none where a conjunct is neither these nor fairness.
