@@ -1,4 +1,5 @@
 mod Adds
+mod Assumptions
 mod Below
 mod Conjuncts
 mod Fair
@@ -6,6 +7,7 @@ mod Lists
 mod Marks
 mod Noted
 mod Order
+mod Shapes
 mod Texts
 mod Under
 mod Ways

@@ -1,8 +1,7 @@
-use Rattle.std.proofs.Common.{◌≡◌, ◌∙◌, ap, sym, refl, [], ◌∷◌, ◌++◌, length, ◌<◌, ◌≤◌, ◌+◌, arith, false, true, get_or, subst, List, ℕ, inl, inr}
-use Rattle.std.specs.Prelude.{slice_get, Some, Contains, OnOk, IfOk, IsTrue, map}
+use Rattle.std.proofs.Common.{◌≡◌, ◌∙◌, ap, false, true, subst}
 use Rattle.tla_terms.specs.TermViews.{node_view}
-use Rattle.tla_levels.specs.Parts.{part, parts}
-use Rattle.tla_levels.specs.Views.{waiting, part_of}
+use Rattle.tla_levels.specs.Parts.{part}
+use Rattle.tla_levels.specs.Views.{waiting}
 use Rattle.tla_levels.specs.Fairness.{Splits, fair_in, split}
 use Rattle.tla_levels.proofs.Fair.{fair_on, fair_less, fair_off}
 use Rattle.tla_levels.proofs.Lists.{waiting-push}
