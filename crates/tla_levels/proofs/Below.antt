@@ -1,6 +1,6 @@
 -- Which definitions a text uses, one term at a time.
 use Rattle.std.proofs.Common.{◌≡◌, ◌∙◌, sym, ap, refl, List, [], ◌∷◌, ◌++◌, inl, inr, subst, arith, length, ◌<◌, ◌≤◌}
-use Rattle.std.specs.Prelude.{◌⊎◌, ℕ, Bool, true, false, Contains, ◌+◌, slice_get, Some}
+use Rattle.std.specs.Prelude.{◌⊎◌, ◌↔◌, IsTrue, ℕ, Bool, true, false, Contains, ◌+◌, slice_get, Some}
 use Rattle.std.proofs.lemmas.List.Elements.{Contains-append_left, Contains-append_right, Contains-append_cases, Contains-push, Contains-push_cases}
 use Rattle.trace_base.specs.declared.place.Place.{Place}
 use Rattle.tla_terms.specs.declared.level.Level.{Level}
@@ -11,6 +11,8 @@ use Rattle.tla_levels.specs.Parts.{Part, part, parts}
 use Rattle.tla_levels.specs.Slots.{Mentions, used, listed_in_let, mentioned_in_part, MentionsBelow, UsesSmaller}
 use Rattle.tla_levels.specs.Special.{IsOwnBelow}
 use Rattle.tla_levels.specs.Weights.{weight, total}
+use Rattle.std.proofs.lemmas.Bool.{cases_lt}
+use Rattle.tla_levels.proofs.Lists.{item_within}
 use Rattle.tla_levels.proofs.Adds.{contains_cons, contains_head, contains_nothing}
 use Rattle.tla_levels.proofs.Weights.{total-append, total-cons, total-nil, of_parts}
 
@@ -71,3 +73,21 @@ module _ (n : ℕ) (e : Term) (p : Part) (at : Place) (l : Level) (m : Meaning) 
 
 pub below_ends : (n : ℕ) (e : Term) (stack : List Part) → stack ≡ [] → IsBelowWay n e stack → MentionsBelow n e
 below_ends n e stack q way = way.suffices (λ p c. let P : List Part → Type 0 = λ ps. Contains ps p in absurd (contains_nothing p (subst P q c)))
+
+pub own_let : (n : ℕ) (m : Meaning) (ks : List ℕ) (e : Term) (b : Bool) → m ≡ term.Scoped ks e → IsTrue b ↔ ((k : ℕ) → Contains ks k → k < n) → IsTrue b ↔ IsOwnBelow n m
+own_let n m ks e b q h = subst (λ (y : Meaning). IsTrue b ↔ IsOwnBelow n y) (sym q) h
+
+pub smaller_more : (ops : List Operator) (n : ℕ) (o : Operator) → ((k : ℕ) (p : Operator) → k < n → slice_get ops k ≡ Some p → MentionsBelow k p.body) → slice_get ops n ≡ Some o → MentionsBelow n o.body → (k : ℕ) (p : Operator) → k < n + 1 → slice_get ops k ≡ Some p → MentionsBelow k p.body
+smaller_more ops n o before is here k p lt is_p = elim (cases_lt k n) [
+    inl below ↦ before k p below is_p
+    | inr above ↦
+      let same_number : n ≡ k = omega arith in
+      let same : o ≡ p = some_same (sym is ∙ ap (slice_get ops) same_number ∙ is_p) in
+      subst (λ (y : ℕ). MentionsBelow y p.body) same_number (subst (λ (y : Operator). MentionsBelow n y.body) same here)
+  ]
+  where
+    some_same : {a b : Operator} → Some a ≡ Some b → a ≡ b
+    some_same e = cc
+
+pub smaller_all : (ops : List Operator) (n : ℕ) → length ops ≤ n → ((k : ℕ) (p : Operator) → k < n → slice_get ops k ≡ Some p → MentionsBelow k p.body) → UsesSmaller ops
+smaller_all ops n all before k o is = let lt : k < length ops = item_within ops k o is in before k o (omega arith) is

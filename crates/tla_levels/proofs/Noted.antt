@@ -1,6 +1,6 @@
 -- The notes of definitions, one more.
-use Rattle.std.proofs.Common.{◌≡◌, ◌∙◌, sym, ap, List, [], ◌∷◌, ◌++◌, subst, arith, length, ◌<◌, inl, inr, refl}
-use Rattle.std.specs.Prelude.{◌⊎◌, ℕ, zero, suc, Some, slice_get, ◌+◌, map}
+use Rattle.std.proofs.Common.{◌≡◌, ◌∙◌, sym, ap, List, [], ◌∷◌, ◌++◌, subst, arith, length, ◌<◌, inl, inr, refl, take}
+use Rattle.std.specs.Prelude.{◌⊎◌, ℕ, zero, suc, Some, slice_get, ◌+◌, ◌-◌, map}
 use Rattle.tla_terms.specs.declared.operator.Operator.{Operator}
 use Rattle.tla_levels.specs.declared.note.Note.{Note}
 use Rattle.tla_levels.specs.Notes.{AreNotes, IsNote}
@@ -16,6 +16,16 @@ push_get (z ∷ xs) y (suc k) x q = elim (push_get xs y k x q) [ inl e ↦ inl e
 pub nothing_left : {A B : Type 0} (f : A → B) (xs : List A) → (0 < length xs → ⊥) → map f xs ≡ []
 nothing_left f [] h = refl
 nothing_left f (x ∷ xs) h = absurd (h (omega arith))
+
+none_taken : {A : Type 0} (xs : List A) → take 0 xs ≡ []
+none_taken [] = refl
+none_taken (x ∷ xs) = refl
+
+-- a stack of which nothing was taken
+pub popped_nothing : {A : Type 0} (xs ys : List A) (n : ℕ) → xs ≡ ys ++ [] → ys ≡ take (n - 1) xs → n ≡ 0 → xs ≡ []
+popped_nothing xs ys n whole rest none =
+    let z : n - 1 ≡ 0 = omega arith in
+    whole ∙ ap (λ zs. zs ++ []) (rest ∙ ap (λ k. take k xs) z ∙ none_taken xs)
 
 pub same_notes : (ops : List Operator) (ns ms : List Note) → ms ≡ ns → AreNotes ops ns → AreNotes ops ms
 same_notes ops ns ms q h k o n is at = h k o n is (ap (λ xs. slice_get xs k) (sym q) ∙ at)

@@ -233,7 +233,8 @@ fn take<'a>(
     requires below { MentionsBelow (length notes.now) term.now }
     ensures { IfOk result (λ b. Takes table.now term.now b (rows stack.old.items) (rows stack.new.items) (parts_in gathered.old) (parts_in gathered.new)) }
 {
-    match conjunct_of(alloc, table, notes, term)? {
+    let kind = conjunct_of(alloc, table, notes, term)?;
+    match kind {
         Conjunct::Init => take_init(gathered, term),
         Conjunct::Step(action) => take_step(gathered, action),
         Conjunct::Fairness => Ok(true),

@@ -48,7 +48,8 @@ pub fn specification<'a>(
     requires below { MentionsBelow (length notes.now) body.now }
     ensures { IfOk result (λ o. MatchOption o ((init next : Seen) → ¬ HasShape table.now body.now init next) (λ s. HasShape table.now body.now (init_of (place_of body.now) (rows s.inits.items)) s.next.now)) }
 {
-    match gather(alloc, table, notes, body)? {
+    let found = gather(alloc, table, notes, body)?;
+    match found {
         Some(gathered) => Ok(shaped(gathered)),
         None => Ok(None),
     }

@@ -3,7 +3,7 @@ use Rattle.std.specs.Prelude.{Some}
 use Rattle.tla_levels.specs.Conjuncts.{Takes, parts_in, rows}
 use Rattle.tla_levels.specs.Shape.{parts}
 use Rattle.tla_levels.proofs.Conjuncts.{gathering_begins, gathering_ends, rows-push, stops, takes_less, takes_on, top_is_below}
-use Rattle.tla_levels.proofs.Noted.{nothing_left}
+use Rattle.tla_levels.proofs.Noted.{popped_nothing}
 use Rattle.tla_levels.proofs.gathering.gather.Goals as goal
 
 pub take-requires-clause-below : goal.take-requires-clause-below
@@ -34,4 +34,4 @@ loop-term-init c =
 
 pub returns : goal.returns
 returns c =
-    gathering_ends c.args.table.now (length c.args.notes.now) c.args.body.now (rows c.loop-term.stack.items) (parts_in c.loop-term.gathered) (let h = c.in_default.ensures in ?) c.loop-term.invariant
+    gathering_ends c.args.table.now (length c.args.notes.now) c.args.body.now (rows c.loop-term.stack.items) (parts_in c.loop-term.gathered) (ap rows (popped_nothing c.loop-term.stack.items c.pop.new.self.items _ c.in_default.ensures.items c.in_default.ensures.rest c.in_default.ensures.cases.0)) c.loop-term.invariant

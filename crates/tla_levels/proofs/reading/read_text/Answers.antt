@@ -2,6 +2,7 @@ use Rattle.std.proofs.Common.{◌≡◌, ◌∙◌, ap, refl, [], ◌∷◌, ◌
 use Rattle.tla_levels.specs.Parts.{part}
 use Rattle.tla_levels.specs.Views.{waiting}
 use Rattle.tla_levels.proofs.Lists.{waiting-push}
+use Rattle.tla_levels.proofs.Noted.{popped_nothing}
 use Rattle.tla_levels.proofs.Ways.{begins, goes_on, gets_less, top_below, is_told}
 use Rattle.tla_levels.proofs.reading.read_text.Goals as goal
 
@@ -26,4 +27,4 @@ loop-pending-preserved c =
 
 
 pub returns : goal.returns
-returns c = is_told c.args.table.now (length c.args.notes.now) c.args.term.now (waiting c.loop-pending.stack.items) c.loop-pending.note (let h = c.in_default.ensures in ?) c.loop-pending.invariant
+returns c = is_told c.args.table.now (length c.args.notes.now) c.args.term.now (waiting c.loop-pending.stack.items) c.loop-pending.note (ap waiting (popped_nothing c.loop-pending.stack.items c.pop.new.self.items _ c.in_default.ensures.items c.in_default.ensures.rest c.in_default.ensures.cases.0)) c.loop-pending.invariant
