@@ -19,9 +19,9 @@ use Rattle.tla_levels.proofs.Order.{earlier_keeps, earlier_tells, earlier_sound}
 told_match : (r : Option LevelFault) (IsSuch : LevelFault → Type 0) → ((f : LevelFault) → r ≡ Some f → IsSuch f) → ((g : LevelFault) → IsSuch g → Reaches r g) → MatchOption r ((f : LevelFault) → ¬ IsSuch f) (IsFirst IsSuch)
 told_match None S sound reaches = λ f w. let r : Reaches None f = reaches f w in let q : None ≡ Some r.0 = r.1 in absurd (cc)
 told_match (Some f) S sound reaches = record {
-    is_such = sound f refl;
-    none_before = λ g w. let r : Reaches (Some f) g = reaches g w in let same : r.0 ≡ f = cc (r.1) in ap (λ y. is_before g y) (sym same) ∙ r.2
-  }
+  is_such = sound f refl;
+  none_before = λ g w. let r : Reaches (Some f) g = reaches g w in let same : r.0 ≡ f = cc (r.1) in ap (λ y. is_before g y) (sym same) ∙ r.2;
+}
 
 keeps_by : (b : Bool) (o : Option LevelFault) (h g : LevelFault) → Reaches o g → Reaches (if b then earlier o h else o) g
 keeps_by true o h g r = earlier_keeps o g h r
@@ -40,9 +40,10 @@ assumption_told ops at l m e o q h = told_match (held o (limit at Constant l)) (
   where
     sound : (f : LevelFault) → held o (limit at Constant l) ≡ Some f → IsAssumptionFault ops e f
     sound f k = elim (sound_by (is_above l Constant) o (TooHigh l Constant at) f k) [
-        inl s ↦ in_term e f (note_sound ops e o f h s)
-        | inr s ↦ let P : LevelFault → Type 0 = IsAssumptionFault ops e in subst P (sym s.1) (subst (λ (t : Term). IsAssumptionFault ops t (TooHigh l Constant at)) q (no_constant at l m s.0))
-      ]
+      | inl s ↦ in_term e f (note_sound ops e o f h s)
+      | inr s ↦ let P : LevelFault → Type 0 = IsAssumptionFault ops e in subst P (sym s.1) (subst (λ (t : Term). IsAssumptionFault ops t (TooHigh l Constant at)) q (no_constant at l m s.0))
+    ]
+
     reaches : (e : Term) (g : LevelFault) → Placed at l m ≡ e → MatchOption o ((f : LevelFault) → ¬ IsFault ops e f) (IsFirst (IsFault ops e)) → IsAssumptionFault ops e g → Reaches (held o (limit at Constant l)) g
     reaches _ _ q h (in_term e f w) = keeps_by (is_above l Constant) o (TooHigh l Constant at) f (note_reaches ops e o f h w)
     reaches _ _ q h (no_constant at_e l_e m_e t) =

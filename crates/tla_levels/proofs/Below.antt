@@ -33,9 +33,9 @@ pub record IsBelowWay (n : ℕ) (e : Term) (stack : List Part) : Type 0 where
 
 pub below_begins : (n : ℕ) (e : Term) (stack : List Part) → stack ≡ part false e ∷ [] → IsBelowWay n e stack
 below_begins n e stack q = subst (λ (ps : List Part). IsBelowWay n e ps) (sym q) record {
-    needs = λ w p c. let P : Part → Type 0 = λ y. MentionsBelow n y.term in subst P (first p c) w;
-    suffices = λ h. h (part false e) (contains_head (part false e) [])
-  }
+  needs = λ w p c. let P : Part → Type 0 = λ y. MentionsBelow n y.term in subst P (first p c) w;
+  suffices = λ h. h (part false e) (contains_head (part false e) []);
+}
   where
     first : (p : Part) → Contains (part false e ∷ []) p → part false e ≡ p
     first p c = elim (contains_cons (part false e) [] p c) [ inl s ↦ s | inr k ↦ absurd (contains_nothing p k) ]
@@ -55,15 +55,15 @@ module _ (n : ℕ) (e : Term) (p : Part) (at : Place) (l : Level) (m : Meaning) 
 
   pub below_on : after ≡ left ++ parts false m → IsOwnBelow n m → IsBelowWay n e after
   below_on pushed own = subst (λ (ps : List Part). IsBelowWay n e ps) (sym pushed) record {
-      needs = λ w q c. elim (Contains-append_cases left (parts false m) q c) [
-        inl k ↦ way.needs w q (below_top q k)
-        | inr k ↦ λ j u. here_below w j (mentioned_in_part at l m q j k u)
-      ];
-      suffices = λ h. way.suffices (λ q c. elim (in_stack q c) [
-        inl k ↦ h q (Contains-append_left left (parts false m) q k)
-        | inr k ↦ let P : Part → Type 0 = λ y. MentionsBelow n y.term in subst P k (subst (MentionsBelow n) seen (whole_below n (Placed at l m) own (λ r d. h r (Contains-append_right left (parts false m) r d))))
-      ])
-    }
+    needs = λ w q c. elim (Contains-append_cases left (parts false m) q c) [
+      | inl k ↦ way.needs w q (below_top q k)
+      | inr k ↦ λ j u. here_below w j (mentioned_in_part at l m q j k u)
+    ];
+    suffices = λ h. way.suffices (λ q c. elim (in_stack q c) [
+      | inl k ↦ h q (Contains-append_left left (parts false m) q k)
+      | inr k ↦ let P : Part → Type 0 = λ y. MentionsBelow n y.term in subst P k (subst (MentionsBelow n) seen (whole_below n (Placed at l m) own (λ r d. h r (Contains-append_right left (parts false m) r d))))
+    ]);
+  }
 
   pub below_less : after ≡ left ++ parts false m → total after < total stack
   below_less pushed = omega (arith, ap total pushed, ap total popped, total-append left (parts false m), total-append left (p ∷ []), total-cons p [], total-nil, of_parts false m, ap weight seen)
@@ -79,12 +79,12 @@ own_let n m ks e b q h = subst (λ (y : Meaning). IsTrue b ↔ IsOwnBelow n y) (
 
 pub smaller_more : (ops : List Operator) (n : ℕ) (o : Operator) → ((k : ℕ) (p : Operator) → k < n → slice_get ops k ≡ Some p → MentionsBelow k p.body) → slice_get ops n ≡ Some o → MentionsBelow n o.body → (k : ℕ) (p : Operator) → k < n + 1 → slice_get ops k ≡ Some p → MentionsBelow k p.body
 smaller_more ops n o before is here k p lt is_p = elim (cases_lt k n) [
-    inl below ↦ before k p below is_p
-    | inr above ↦
+  | inl below ↦ before k p below is_p
+  | inr above ↦
       let same_number : n ≡ k = omega arith in
       let same : o ≡ p = some_same (sym is ∙ ap (slice_get ops) same_number ∙ is_p) in
       subst (λ (y : ℕ). MentionsBelow y p.body) same_number (subst (λ (y : Operator). MentionsBelow n y.body) same here)
-  ]
+]
   where
     some_same : {a b : Operator} → Some a ≡ Some b → a ≡ b
     some_same e = cc

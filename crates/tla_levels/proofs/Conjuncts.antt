@@ -153,16 +153,16 @@ in_reverse [] x c = absurd (contains_nothing x (subst (λ (ys : List Term). Cont
     reverse_nothing : reverse {A = Term} [] ≡ []
     reverse_nothing = refl
 in_reverse (y ∷ ys) x c = elim (Contains-append_cases (reverse ys) (y ∷ []) x (subst (λ (zs : List Term). Contains zs x) (reverse-append (y ∷ []) ys) c)) [
-    inl k ↦ contains_tail y ys x (in_reverse ys x k)
-    | inr k ↦ elim (contains_cons y [] x k) [ inl e ↦ subst (λ (z : Term). Contains (y ∷ ys) z) e (contains_head y ys) | inr n ↦ absurd (contains_nothing x n) ]
-  ]
+  | inl k ↦ contains_tail y ys x (in_reverse ys x k)
+  | inr k ↦ elim (contains_cons y [] x k) [ inl e ↦ subst (λ (z : Term). Contains (y ∷ ys) z) e (contains_head y ys) | inr n ↦ absurd (contains_nothing x n) ]
+]
 
 listed_part : (es : List Term) (x : Term) → Contains es x → Contains (parts_of false es) (part false x)
 listed_part [] x c = absurd (contains_nothing x c)
 listed_part (y ∷ ys) x c = elim (contains_cons y ys x c) [
-    inl e ↦ subst (λ (z : Term). Contains (part false y ∷ parts_of false ys) (part false z)) e (contains_head (part false y) (parts_of false ys))
-    | inr k ↦ contains_tail (part false y) (parts_of false ys) (part false x) (listed_part ys x k)
-  ]
+  | inl e ↦ subst (λ (z : Term). Contains (part false y ∷ parts_of false ys) (part false z)) e (contains_head (part false y) (parts_of false ys))
+  | inr k ↦ contains_tail (part false y) (parts_of false ys) (part false x) (listed_part ys x k)
+]
 
 item_below : (known : ℕ) (e : Term) (ts : Terms) → meaning_of e ≡ term.All ts → MentionsBelow known e → (x : Term) → Contains (listed ts) x → MentionsBelow known x
 item_below known (Placed at l m) ts is below x c k w =
@@ -194,26 +194,26 @@ module _ (ops : List Operator) (known : ℕ) (body e : Term) (stack left : List 
   -- a conjunct that gives these and nothing else
   settled : (own : Parts) → ((p : Parts) → Gives ops e p → p ≡ own) → Gives ops e own → IsGathering ops known body left (both_parts so_far own)
   settled own gives given = record {
-      needs = λ p g.
-      let u : (a b : Parts) × Gives ops e a × GivesStack ops left b × (p ≡ both_parts so_far (both_parts a b)) = needs_top p g in
-      (u.1, u.3, u.4 ∙ ap (λ y. both_parts so_far (both_parts y u.1)) (gives u.0 u.2) ∙ sym (regrouped so_far own u.1));
-      suffices = λ q h. subst (Gives ops body) (sym (regrouped so_far own q)) (suffices_top own q given h);
-      below = λ x c. way.below x (below_top x c)
-    }
+    needs = λ p g.
+        let u : (a b : Parts) × Gives ops e a × GivesStack ops left b × (p ≡ both_parts so_far (both_parts a b)) = needs_top p g in
+        (u.1, u.3, u.4 ∙ ap (λ y. both_parts so_far (both_parts y u.1)) (gives u.0 u.2) ∙ sym (regrouped so_far own u.1));
+    suffices = λ q h. subst (Gives ops body) (sym (regrouped so_far own q)) (suffices_top own q given h);
+    below = λ x c. way.below x (below_top x c);
+  }
 
   opened : (ts : Terms) → meaning_of e ≡ term.All ts → ((p : Parts) → Gives ops e p → GivesEach ops ts p) → ((p : Parts) → GivesEach ops ts p → Gives ops e p) → IsGathering ops known body (left ++ reverse (listed ts)) so_far
   opened ts is gives given = record {
-      needs = λ p g.
-      let u : (a b : Parts) × Gives ops e a × GivesStack ops left b × (p ≡ both_parts so_far (both_parts a b)) = needs_top p g in
-      (both_parts u.0 u.1, each_given ops ts left u.0 u.1 (gives u.0 u.2) u.3, u.4);
-      suffices = λ q h.
-      let u : (a b : Parts) × GivesEach ops ts a × GivesStack ops left b × (q ≡ both_parts a b) = each_gives ops ts left q h in
-      subst (λ (y : Parts). Gives ops body (both_parts so_far y)) (sym u.4) (suffices_top u.0 u.1 (given u.0 u.2) u.3);
-      below = λ x c. elim (Contains-append_cases left (reverse (listed ts)) x c) [
-        inl k ↦ way.below x (below_top x k)
-        | inr k ↦ item_below known e ts is (way.below e at_top) x (in_reverse (listed ts) x k)
-      ]
-    }
+    needs = λ p g.
+        let u : (a b : Parts) × Gives ops e a × GivesStack ops left b × (p ≡ both_parts so_far (both_parts a b)) = needs_top p g in
+        (both_parts u.0 u.1, each_given ops ts left u.0 u.1 (gives u.0 u.2) u.3, u.4);
+    suffices = λ q h.
+        let u : (a b : Parts) × GivesEach ops ts a × GivesStack ops left b × (q ≡ both_parts a b) = each_gives ops ts left q h in
+        subst (λ (y : Parts). Gives ops body (both_parts so_far y)) (sym u.4) (suffices_top u.0 u.1 (given u.0 u.2) u.3);
+    below = λ x c. elim (Contains-append_cases left (reverse (listed ts)) x c) [
+      | inl k ↦ way.below x (below_top x k)
+      | inr k ↦ item_below known e ts is (way.below e at_top) x (in_reverse (listed ts) x k)
+    ];
+  }
 
   pub takes_on : (t : List Term) (next : Parts) (k : Conjunct) → IsConjunct ops e k → Does k e left t so_far next → IsGathering ops known body t next
   takes_on t next conjunct.Init is d = done (parts (e ∷ []) []) t next d.0 (d.1 ∙ ap (λ ss. parts (so_far.inits ++ e ∷ []) ss) (sym (append-nil so_far.steps))) (settled (parts (e ∷ []) []) (λ p g. low_gives ops e p is g) (low_given ops e is))
@@ -232,14 +232,15 @@ gathering_begins ops known body stack so_far q r below =
     subst (λ (xs : List Term). IsGathering ops known body xs so_far) (sym q) (subst (λ (y : Parts). IsGathering ops known body (body ∷ []) y) (sym r) record {
       needs = λ p g. (p, (parts [] [], p, refl, g, refl), refl);
       suffices = λ p h. subst (Gives ops body) (ap (λ y. both_parts y h.1) (sym h.2) ∙ sym h.4) h.3;
-      below = λ x c. elim (contains_cons body [] x c) [ inl e ↦ subst (λ (z : Term). MentionsBelow known z) e below | inr k ↦ absurd (contains_nothing x k) ]
+      below = λ x c. elim (contains_cons body [] x c) [ inl e ↦ subst (λ (z : Term). MentionsBelow known z) e below | inr k ↦ absurd (contains_nothing x k) ];
     })
 
 pub gathering_ends : (ops : List Operator) (known : ℕ) (body : Term) (stack : List Term) (so_far : Parts) → stack ≡ [] → IsGathering ops known body stack so_far → (p : Parts) → Gives ops body p ↔ (p ≡ so_far)
 gathering_ends ops known body stack so_far q way_there p =
-    let way : IsGathering ops known body [] so_far = subst (λ (xs : List Term). IsGathering ops known body xs so_far) q way_there in
-    ((λ g. let u : (r : Parts) × (r ≡ parts [] []) × (p ≡ both_parts so_far r) = way.needs p g in u.2 ∙ ap (λ y. both_parts so_far y) u.1 ∙ behind_all so_far),
-     (λ e. subst (Gives ops body) (behind_all so_far ∙ sym e) (way.suffices (parts [] []) refl)))
+    let way : IsGathering ops known body [] so_far = subst (λ (xs : List Term). IsGathering ops known body xs so_far) q way_there in (
+      (λ g. let u : (r : Parts) × (r ≡ parts [] []) × (p ≡ both_parts so_far r) = way.needs p g in u.2 ∙ ap (λ y. both_parts so_far y) u.1 ∙ behind_all so_far),
+      (λ e. subst (Gives ops body) (behind_all so_far ∙ sym e) (way.suffices (parts [] []) refl)),
+    )
 
 -- What is on the stack gets less.
 abbrev weighed : List Term → ℕ

@@ -77,16 +77,16 @@ split_weight names at l m es s = absurd (cc)
 parts_of_in : (xs : List Term) (x : Term) → Contains xs x → Contains (parts_of false xs) (part false x)
 parts_of_in [] x c = absurd (contains_nothing x c)
 parts_of_in (y ∷ ys) x c = elim (contains_cons y ys x c) [
-    inl e ↦ subst (λ (z : Term). Contains (part false y ∷ parts_of false ys) (part false z)) e (contains_head (part false y) (parts_of false ys))
-    | inr k ↦ contains_tail (part false y) (parts_of false ys) (part false x) (parts_of_in ys x k)
-  ]
+  | inl e ↦ subst (λ (z : Term). Contains (part false y ∷ parts_of false ys) (part false z)) e (contains_head (part false y) (parts_of false ys))
+  | inr k ↦ contains_tail (part false y) (parts_of false ys) (part false x) (parts_of_in ys x k)
+]
 
 parts_of_out : (xs : List Term) (p : Part) → Contains (parts_of false xs) p → (x : Term) × Contains xs x × (p ≡ part false x)
 parts_of_out [] p c = absurd (contains_nothing p c)
 parts_of_out (y ∷ ys) p c = elim (contains_cons (part false y) (parts_of false ys) p c) [
-    inl e ↦ (y, contains_head y ys, sym e)
-    | inr k ↦ let u : (x : Term) × Contains ys x × (p ≡ part false x) = parts_of_out ys p k in (u.0, contains_tail y ys u.0 u.1, u.2)
-  ]
+  | inl e ↦ (y, contains_head y ys, sym e)
+  | inr k ↦ let u : (x : Term) × Contains ys x × (p ≡ part false x) = parts_of_out ys p k in (u.0, contains_tail y ys u.0 u.1, u.2)
+]
 
 split_parts : (names : ℕ → Bool) (m : Meaning) (es : List Term) (x : Term) → split names m ≡ Some es → Contains es x → Contains (parts false m) (part false x)
 split_parts names (term.Fairness v e) es x s c = absurd (let q : es ≡ [] = cc in contains_nothing x (subst (λ (xs : List Term). Contains xs x) q c))
@@ -107,10 +107,10 @@ pub record IsFairWay (ops : List Operator) (n : ℕ) (e : Term) (stack : List Pa
 
 pub fair_begins : (ops : List Operator) (n : ℕ) (e : Term) (stack : List Part) → stack ≡ part false e ∷ [] → MentionsBelow n e → IsFairWay ops n e stack
 fair_begins ops n e stack q below = subst (λ (ps : List Part). IsFairWay ops n e ps) (sym q) record {
-    needs = λ w p c. let P : Part → Type 0 = λ y. IsFair ops y.term in subst P (first p c) w;
-    suffices = λ h. h (part false e) (contains_head (part false e) []);
-    below = λ p c. let P : Part → Type 0 = λ y. MentionsBelow n y.term in subst P (first p c) below
-  }
+  needs = λ w p c. let P : Part → Type 0 = λ y. IsFair ops y.term in subst P (first p c) w;
+  suffices = λ h. h (part false e) (contains_head (part false e) []);
+  below = λ p c. let P : Part → Type 0 = λ y. MentionsBelow n y.term in subst P (first p c) below;
+}
   where
     first : (p : Part) → Contains (part false e ∷ []) p → part false e ≡ p
     first p c = elim (contains_cons (part false e) [] p c) [ inl s ↦ s | inr k ↦ absurd (contains_nothing p k) ]
@@ -118,12 +118,12 @@ fair_begins ops n e stack q below = subst (λ (ps : List Part). IsFairWay ops n 
 -- the notes tell which definitions mean fairness
 known_names : (ops : List Operator) (ns : List Note) → AreNotes ops ns → length ns ≤ length ops → IsKnown ops (length ns) (fair_in ns)
 known_names ops ns noted within = record {
-    is_right = λ k o lt is. let x : (n : Note) × (slice_get ns k ≡ Some n) = some_item ns k lt in
+  is_right = λ k o lt is. let x : (n : Note) × (slice_get ns k ≡ Some n) = some_item ns k lt in
       let same : fair_in ns k ≡ x.0.fair = ap fair_of x.1 in
       let r : IsTrue x.0.fair ↔ IsFair ops o.body = (noted k o x.0 is x.1).fair in
       ((λ h. r.0 (sym same ∙ h)), (λ w. same ∙ r.1 w));
-    within = within
-  }
+  within = within;
+}
 
 split_on : (o : Option (List Term)) (old new : List Part) → Splits o true old new → (es : List Term) × (o ≡ Some es) × (new ≡ old ++ parts_of false es)
 split_on None old new h = absurd (cc)
@@ -154,29 +154,29 @@ module _ (ops : List Operator) (ns : List Note) (e : Term) (p : Part) (at : Plac
 
   on_stack : (es : List Term) → split (fair_in ns) m ≡ Some es → IsFairWay ops (length ns) e (left ++ parts_of false es)
   on_stack es s = record {
-      needs = λ w q c. elim (Contains-append_cases left (parts_of false es) q c) [
-        inl k ↦ way.needs w q (below_top q k)
-        | inr k ↦
+    needs = λ w q c. elim (Contains-append_cases left (parts_of false es) q c) [
+      | inl k ↦ way.needs w q (below_top q k)
+      | inr k ↦
           let u : (x : Term) × Contains es x × (q ≡ part false x) = parts_of_out es q k in
           let h : (ys : List Term) × (split (fair_in ns) m ≡ Some ys) × IsAllFair ops ys = here_parts (way.needs w p at_top) in
           let same : h.0 ≡ es = cc (h.1, s) in
           let P : Part → Type 0 = λ y. IsFair ops y.term in
           subst P (sym u.2) (subst (IsAllFair ops) same h.2 u.0 u.1)
-      ];
-      suffices = λ h. way.suffices (λ q c. elim (in_stack q c) [
-        inl k ↦ h q (Contains-append_left left (parts_of false es) q k)
-        | inr k ↦
+    ];
+    suffices = λ h. way.suffices (λ q c. elim (in_stack q c) [
+      | inl k ↦ h q (Contains-append_left left (parts_of false es) q k)
+      | inr k ↦
           let P : Part → Type 0 = λ y. IsFair ops y.term in
           subst P k (subst (IsFair ops) seen (fair_back ops (length ns) (fair_in ns) at l m es names_known here_below s (λ x d. h (part false x) (Contains-append_right left (parts_of false es) (part false x) (parts_of_in es x d)))))
-      ]);
-      below = λ q c. elim (Contains-append_cases left (parts_of false es) q c) [
-        inl k ↦ way.below q (below_top q k)
-        | inr k ↦
+    ]);
+    below = λ q c. elim (Contains-append_cases left (parts_of false es) q c) [
+      | inl k ↦ way.below q (below_top q k)
+      | inr k ↦
           let u : (x : Term) × Contains es x × (q ≡ part false x) = parts_of_out es q k in
           let P : Part → Type 0 = λ y. MentionsBelow (length ns) y.term in
           subst P (sym u.2) (λ n w. here_below n (mentioned_in_part at l m (part false u.0) n (split_parts (fair_in ns) m es u.0 s u.1) w))
-      ]
-    }
+    ];
+  }
 
   pub fair_on : Splits (split (fair_in ns) m) true left after → IsFairWay ops (length ns) e after
   fair_on splits =

@@ -179,7 +179,7 @@ left_on now new start whole b c p xs n r some within is pushed prime under invar
     let same_step : step_view r.step ≡ step_view (get_or xs (n - 1) r).step = ap (λ z. step_view z.step) is in
     let flag : (b || is_prime (step_view r.step)) ≡ c = ap (λ z. b || is_prime z) same_step ∙ ap (λ z. b || z) (sym prime) ∙ sym under in
     let cut : steps_parts b (steps_of (take n xs)) ≡ step_parts b (step_view (get_or xs (n - 1) r).step) ++ steps_parts c (steps_of (take (n - 1) xs)) =
-      ap (λ i. steps_parts b (steps_of (take i xs))) k ∙ steps_less b xs (n - 1) r lt is ∙ ap (λ z. step_parts b z ++ steps_parts (b || is_prime (step_view r.step)) (steps_of (take (n - 1) xs))) same_step ∙ ap (λ z. step_parts b (step_view (get_or xs (n - 1) r).step) ++ steps_parts z (steps_of (take (n - 1) xs))) flag in
+    ap (λ i. steps_parts b (steps_of (take i xs))) k ∙ steps_less b xs (n - 1) r lt is ∙ ap (λ z. step_parts b z ++ steps_parts (b || is_prime (step_view r.step)) (steps_of (take (n - 1) xs))) same_step ∙ ap (λ z. step_parts b (step_view (get_or xs (n - 1) r).step) ++ steps_parts z (steps_of (take (n - 1) xs))) flag in
     steps_on now new start (step_parts b (step_view (get_or xs (n - 1) r).step)) (steps_parts c (steps_of (take (n - 1) xs))) whole pushed (ap (λ ps. now ++ ps) (sym cut) ∙ invariant)
 
 pub left_all : (xs : List StepAt) (b : Bool) (n : ℕ) → n ≡ length xs → steps_parts b (steps_of (take n xs)) ≡ steps_parts b (steps_of xs)

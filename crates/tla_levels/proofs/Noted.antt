@@ -35,13 +35,13 @@ body_below ops i count o smaller is q k w = let lt : k < i = smaller i o is k w 
 
 pub notes_more : (ops : List Operator) (ns next : List Note) (i : ℕ) (o : Operator) (n : Note) → AreNotes ops ns → length ns ≡ i → next ≡ ns ++ n ∷ [] → slice_get ops i ≡ Some o → IsNote ops o.body n → AreNotes ops next
 notes_more ops ns next i o n noted count q is note k p m is_p at = elim (push_get ns n k m (ap (λ xs. slice_get xs k) (sym q) ∙ at)) [
-    inl old ↦ noted k p m is_p old
-    | inr new ↦
+  | inl old ↦ noted k p m is_p old
+  | inr new ↦
       let here : k ≡ i = new.0 ∙ count in
       let same : o ≡ p = some_same (sym is ∙ ap (slice_get ops) (sym here) ∙ is_p) in
       let P : Operator → Type 0 = λ y. IsNote ops y.body m in
       subst P same (subst (λ (y : Note). IsNote ops o.body y) new.1 note)
-  ]
+]
   where
     some_same : {a b : Operator} → Some a ≡ Some b → a ≡ b
     some_same e = cc

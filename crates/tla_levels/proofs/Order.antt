@@ -40,9 +40,9 @@ by_cases false = inr refl
 -- what is not before one that another precedes is not before that other
 pub not_before : (f g h : LevelFault) → is_before f g ≡ false → is_before h g ≡ true → is_before f h ≡ false
 not_before f g h a b = elim (by_cases (is_before f h)) [
-    inl c ↦ absurd (let q : true ≡ false = sym (before_trans f h g c b) ∙ a in cc)
-    | inr c ↦ c
-  ]
+  | inl c ↦ absurd (let q : true ≡ false = sym (before_trans f h g c b) ∙ a in cc)
+  | inr c ↦ c
+]
 
 -- the earlier of two reaches what either did
 earlier_test : (b : Bool) (f g h : LevelFault) → is_before h g ≡ b → is_before f g ≡ false → Reaches (if b then Some h else Some g) f

@@ -11,11 +11,11 @@ use Rattle.tla_levels.specs.Shape.{Parts, Gives, HasShape, init_of, parts}
 pub shape_told : (ops : List Operator) (body : Term) (whole : Parts) (o : Option Shape) → ((p : Parts) → Gives ops body p ↔ (p ≡ whole)) → MatchOption o (IsNoShape whole) (IsShapeOf whole) → MatchOption o ((init next : Term) → ¬ HasShape ops body init next) (λ s. HasShape ops body (init_of (place_of body) (rows s.inits.items)) s.next.now)
 shape_told ops body whole None only h = λ init next shape. shape.some (h shape.inits next (sym ((only (parts shape.inits (next ∷ []))).0 shape.gives)))
 shape_told ops body whole (Some s) only h = record {
-    inits = rows s.inits.items;
-    some = h.1;
-    gives = (only (parts (rows s.inits.items) (s.next.now ∷ []))).1 (sym h.0);
-    init_is = refl
-  }
+  inits = rows s.inits.items;
+  some = h.1;
+  gives = (only (parts (rows s.inits.items) (s.next.now ∷ []))).1 (sym h.0);
+  init_is = refl;
+}
 
 pub no_shape : (ops : List Operator) (body : Term) → ((p : Parts) → ¬ Gives ops body p) → (init next : Term) → ¬ HasShape ops body init next
 no_shape ops body none init next shape = none (parts shape.inits (next ∷ [])) shape.gives

@@ -40,11 +40,11 @@ part_finds ops b at l m (Under i) (q, c, w) =
     let P : Term → Type 0 = λ t. Occurs ops t i in
     let Q : Term → Type 0 = λ t. IsPrimed ops t i in
     elim w [
-      inl primed ↦ inl (primed_in_part at l m u.0 i u.1 (subst Q u.2 primed))
+      | inl primed ↦ inl (primed_in_part at l m u.0 i u.1 (subst Q u.2 primed))
       | inr below ↦ elim (or_cases b u.0.primed (sym u.3 ∙ below.0)) [
-          inl above ↦ inr (above, occurs_in_part at l m u.0 i u.1 (subst P u.2 below.1))
-          | inr own ↦ inl (under at l m u.0 i u.1 own (subst P u.2 below.1))
-        ]
+        | inl above ↦ inr (above, occurs_in_part at l m u.0 i u.1 (subst P u.2 below.1))
+        | inr own ↦ inl (under at l m u.0 i u.1 own (subst P u.2 below.1))
+      ]
     ]
 part_finds ops b at l m (Wrong f) (q, c, w) =
     let u : (p : Part) × Contains (parts false m) p × (q.term ≡ p.term) × (q.primed ≡ (b || p.primed)) = part_over b m q c in
@@ -122,13 +122,13 @@ adds_sum P Q a b c p q = adds_both P Q (λ x. P x ⊎ Q x) a b c (λ x h. h) (λ
 
 pub read_other : (ops : List Operator) (n : ℕ) (b : Bool) (at : Place) (l : Level) (m : Meaning) (e : Term) (old new : Note) → Placed at l m ≡ e → IsOther m → MentionsBelow n e → Adds (LimitFinds at m) old new → IsRead ops n (part b e) (parts b m) old new
 read_other ops n b at l m e old new q other below adds = subst (λ (t : Term). IsRead ops n (part b t) (parts b m) old new) q record {
-    kept = adds.kept;
-    all = λ x h. elim (all_other ops b at l m x other h) [ inl u ↦ inl (adds.told x u) | inr u ↦ inr u ];
-    sound = λ x h. elim (adds.sound x h) [ inl u ↦ inl u | inr u ↦ inr (limit_finds ops b at l m x u) ];
-    rest = part_finds ops b at l m;
-    below = part_below n b at l m (let P : Term → Type 0 = MentionsBelow n in subst P (sym q) below);
-    falls = part_falls b at l m
-  }
+  kept = adds.kept;
+  all = λ x h. elim (all_other ops b at l m x other h) [ inl u ↦ inl (adds.told x u) | inr u ↦ inr u ];
+  sound = λ x h. elim (adds.sound x h) [ inl u ↦ inl u | inr u ↦ inr (limit_finds ops b at l m x u) ];
+  rest = part_finds ops b at l m;
+  below = part_below n b at l m (let P : Term → Type 0 = MentionsBelow n in subst P (sym q) below);
+  falls = part_falls b at l m;
+}
 
 -- A slot.
 slot_is : (ops : List Operator) (at : Place) (l : Level) (i j : ℕ) → Occurs ops (Placed at l (term.Slot i)) j → j ≡ i
@@ -155,12 +155,12 @@ read_slot ops n b at l m i e old mid new q is first second =
       kept = λ x h. second.kept x (first.kept x h);
       all = λ x h. inl (second.told x (all_slot ops b at l i x h));
       sound = λ x h. elim (second.sound x h) [
-        inl u ↦ elim (first.sound x u) [ inl v ↦ inl v | inr v ↦ inr (limit_finds ops b at l (term.Slot i) x (subst (λ (y : Meaning). LimitFinds at y x) is v)) ]
+        | inl u ↦ elim (first.sound x u) [ inl v ↦ inl v | inr v ↦ inr (limit_finds ops b at l (term.Slot i) x (subst (λ (y : Meaning). LimitFinds at y x) is v)) ]
         | inr u ↦ inr (slot_finds ops b at l i x u)
       ];
       rest = λ x h. absurd (contains_nothing h.0 h.1);
       below = λ p c. absurd (contains_nothing p c);
-      falls = omega (arith, total-nil)
+      falls = omega (arith, total-nil);
     }
 
 -- A LET.
@@ -195,21 +195,21 @@ read_let ops n b at l m ks d e old mid new q is below first second =
       kept = λ x h. second.kept x (first.kept x h);
       all = λ x h. elim (all_let ops b at l ks d x h) [ inl u ↦ inl (second.told x u) | inr u ↦ inr u ];
       sound = λ x h. elim (second.sound x h) [
-        inl u ↦ elim (first.sound x u) [ inl v ↦ inl v | inr v ↦ inr (limit_finds ops b at l (term.Scoped ks d) x (subst (λ (y : Meaning). LimitFinds at y x) is v)) ]
+        | inl u ↦ elim (first.sound x u) [ inl v ↦ inl v | inr v ↦ inr (limit_finds ops b at l (term.Scoped ks d) x (subst (λ (y : Meaning). LimitFinds at y x) is v)) ]
         | inr u ↦ inr (lets_find ops b at l ks d x u)
       ];
       rest = part_finds ops b at l (term.Scoped ks d);
       below = part_below n b at l (term.Scoped ks d) under_n;
-      falls = part_falls b at l (term.Scoped ks d)
+      falls = part_falls b at l (term.Scoped ks d);
     })
 
 -- A use, and its arguments.
 argument_of : (c : Bool) (es : List Term) (p : Part) → Contains (parts_of c es) p → (j : ℕ) × (e : Term) × (slice_get es j ≡ Some e) × (p ≡ part c e)
 argument_of c [] p k = absurd (contains_nothing p k)
 argument_of c (e ∷ es) p k = elim (contains_cons (part c e) (parts_of c es) p k) [
-    inl q ↦ (zero, e, refl, sym q)
-    | inr r ↦ let u : (j : ℕ) × (y : Term) × (slice_get es j ≡ Some y) × (p ≡ part c y) = argument_of c es p r in (suc u.0, u.1, u.2, u.3)
-  ]
+  | inl q ↦ (zero, e, refl, sym q)
+  | inr r ↦ let u : (j : ℕ) × (y : Term) × (slice_get es j ≡ Some y) × (p ≡ part c y) = argument_of c es p r in (suc u.0, u.1, u.2, u.3)
+]
 
 argument_at : (primed : List Bool) (outer : ℕ) (b : Bool) (i j : ℕ) (es : List Term) (e : Term) → slice_get es j ≡ Some e → Contains (arguments_from primed outer b i es) (part (b || has primed (outer + (i + j))) e)
 argument_at primed outer b i j [] e q = absurd (cc)
@@ -225,12 +225,12 @@ argument_at primed outer b i (suc j) (x ∷ es) e q =
 argument_out : (primed : List Bool) (outer : ℕ) (b : Bool) (i : ℕ) (es : List Term) (p : Part) → Contains (arguments_from primed outer b i es) p → (j : ℕ) × (e : Term) × (slice_get es j ≡ Some e) × (p ≡ part (b || has primed (outer + (i + j))) e)
 argument_out primed outer b i [] p k = absurd (contains_nothing p k)
 argument_out primed outer b i (x ∷ es) p k = elim (contains_cons (part (b || has primed (outer + i)) x) (arguments_from primed outer b (i + 1) es) p k) [
-    inl q ↦ (zero, x, refl, sym q ∙ ap (λ n. part (b || has primed (outer + n)) x) (sym (add-zero i)))
-    | inr r ↦
+  | inl q ↦ (zero, x, refl, sym q ∙ ap (λ n. part (b || has primed (outer + n)) x) (sym (add-zero i)))
+  | inr r ↦
       let u : (j : ℕ) × (e : Term) × (slice_get es j ≡ Some e) × (p ≡ part (b || has primed (outer + ((i + 1) + j))) e) = argument_out primed outer b (i + 1) es p r in
       let shifted : (i + 1) + u.0 ≡ i + suc u.0 = omega arith in
       (suc u.0, u.1, u.2, u.3 ∙ ap (λ n. part (b || has primed (outer + n)) u.1) shifted)
-  ]
+]
 
 plain_at : (es : List Term) (j : ℕ) (e : Term) → slice_get es j ≡ Some e → Contains (parts_of false es) (part false e)
 plain_at [] j e q = absurd (cc)
@@ -299,13 +299,13 @@ UseOwn ops b at k ts o primed x = LimitFinds at (term.Use k ts) x ⊎ (NamedFind
 all_use : (ops : List Operator) (b : Bool) (at : Place) (l : Level) (k : ℕ) (ts : Terms) (o : Operator) (primed : List Bool) (x : Finding) → IsUsed ops k o primed → Finds ops (part b (Placed at l (term.Use k ts))) x → UseOwn ops b at k ts o primed x ⊎ SomeOf (arguments_from primed o.outer b 0 (listed ts)) (λ q. Finds ops q x)
 all_use ops b at l k ts o primed (Standing i) known h = elim (use_occurs ops b at l k ts o primed i h) [ inl u ↦ inl (inr (inl u)) | inr u ↦ inr u ]
 all_use ops b at l k ts o primed (Under i) known h = elim h [
-    inl w ↦ elim (use_primed ops b at l k ts o primed i known w) [ inl u ↦ inl (inr (inl u)) | inr u ↦ inr u ]
-    | inr w ↦ elim (use_above ops b at l k ts o primed i w.0 w.1) [ inl u ↦ inl (inr (inl u)) | inr u ↦ inr u ]
-  ]
+  | inl w ↦ elim (use_primed ops b at l k ts o primed i known w) [ inl u ↦ inl (inr (inl u)) | inr u ↦ inr u ]
+  | inr w ↦ elim (use_above ops b at l k ts o primed i w.0 w.1) [ inl u ↦ inl (inr (inl u)) | inr u ↦ inr u ]
+]
 all_use ops b at l k ts o primed (Wrong f) known h = elim (use_fault ops b at l k ts o primed f known h) [
-    inl u ↦ inl (inl u)
-    | inr u ↦ elim u [ inl v ↦ inl (inr (inr v)) | inr v ↦ inr v ]
-  ]
+  | inl u ↦ inl (inl u)
+  | inr u ↦ elim u [ inl v ↦ inl (inr (inr v)) | inr v ↦ inr v ]
+]
 
 argument_finds : (ops : List Operator) (b : Bool) (at : Place) (l : Level) (k : ℕ) (ts : Terms) (o : Operator) (primed : List Bool) (x : Finding) → IsUsed ops k o primed → ArgumentFinds primed o.outer (listed ts) x → Finds ops (part b (Placed at l (term.Use k ts))) x
 argument_finds ops b at l k ts o primed (Standing i) known h = absurd h
@@ -323,12 +323,12 @@ pushed_finds ops b at l k ts o primed x known (q, c, w) =
     from_argument : (x : Finding) (j : ℕ) (e : Term) → slice_get (listed ts) j ≡ Some e → Finds ops (part (b || has primed (o.outer + (0 + j))) e) x → Finds ops (part b (Placed at l (term.Use k ts))) x
     from_argument (Standing i) j e nth w = occurs_in_part at l (term.Use k ts) (part false e) i (plain_at (listed ts) j e nth) w
     from_argument (Under i) j e nth w = elim w [
-        inl v ↦ inl (primed_in_part at l (term.Use k ts) (part false e) i (plain_at (listed ts) j e nth) v)
-        | inr v ↦ elim (or_cases b (has primed (o.outer + (0 + j))) v.0) [
-            inl above ↦ inr (above, occurs_in_part at l (term.Use k ts) (part false e) i (plain_at (listed ts) j e nth) v.1)
-            | inr marked ↦ inl (in_argument at l k ts o j e i known.is nth ((known.marked (o.outer + j)).0 (ap (λ n. has primed (o.outer + n)) (sym (zero-add j)) ∙ marked)) v.1)
-          ]
+      | inl v ↦ inl (primed_in_part at l (term.Use k ts) (part false e) i (plain_at (listed ts) j e nth) v)
+      | inr v ↦ elim (or_cases b (has primed (o.outer + (0 + j))) v.0) [
+        | inl above ↦ inr (above, occurs_in_part at l (term.Use k ts) (part false e) i (plain_at (listed ts) j e nth) v.1)
+        | inr marked ↦ inl (in_argument at l k ts o j e i known.is nth ((known.marked (o.outer + j)).0 (ap (λ n. has primed (o.outer + n)) (sym (zero-add j)) ∙ marked)) v.1)
       ]
+    ]
     from_argument (Wrong f) j e nth w = in_part at l (term.Use k ts) (part false e) f (plain_at (listed ts) j e nth) w
 
 pub read_use : (ops : List Operator) (n : ℕ) (b : Bool) (at : Place) (l : Level) (m : Meaning) (k : ℕ) (ts : Terms) (e : Term) (o : Operator) (primed : List Bool) (old first second new : Note) → Placed at l m ≡ e → m ≡ term.Use k ts → slice_get ops k ≡ Some o → ((j : ℕ) → IsTrue (has primed j) ↔ IsPrimed ops o.body j) → MentionsBelow n e → Adds (LimitFinds at m) old first → Adds (NamedFinds ops b k) first second → Adds (ArgumentFinds primed o.outer (listed ts)) second new → IsRead ops n (part b e) (arguments_from primed o.outer b 0 (listed ts)) old new
@@ -342,15 +342,15 @@ read_use ops n b at l m k ts e o primed old first second new q is known marks be
       kept = own.kept;
       all = λ x h. elim (all_use ops b at l k ts o primed x used_here h) [ inl u ↦ inl (own.told x u) | inr u ↦ inr u ];
       sound = λ x h. elim (own.sound x h) [
-        inl u ↦ inl u
+        | inl u ↦ inl u
         | inr u ↦ inr (elim u [
-            inl v ↦ limit_finds ops b at l (term.Use k ts) x v
-            | inr v ↦ elim v [ inl w ↦ named_finds ops b at l k ts x w | inr w ↦ argument_finds ops b at l k ts o primed x used_here w ]
-          ])
+          | inl v ↦ limit_finds ops b at l (term.Use k ts) x v
+          | inr v ↦ elim v [ inl w ↦ named_finds ops b at l k ts x w | inr w ↦ argument_finds ops b at l k ts o primed x used_here w ]
+        ])
       ];
       rest = λ x h. pushed_finds ops b at l k ts o primed x used_here h;
       below = λ p c. arguments_below p c;
-      falls = omega (arith, arguments_fall primed o.outer b false 0 (listed ts), part_falls false at l (term.Use k ts))
+      falls = omega (arith, arguments_fall primed o.outer b false 0 (listed ts), part_falls false at l (term.Use k ts));
     }
   where
     arguments_below : (p : Part) → Contains (arguments_from primed o.outer b 0 (listed ts)) p → MentionsBelow n p.term

@@ -97,16 +97,16 @@ all_under b (term.Fairness v e) = two b v e
 mapped : (f : Part → Part) (ps : List Part) (p : Part) → Contains ps p → Contains (map f ps) (f p)
 mapped f [] p c = absurd (contains_nothing p c)
 mapped f (q ∷ ps) p c = elim (contains_cons q ps p c) [
-    inl e ↦ let P : Part → Type 0 = λ y. Contains (f q ∷ map f ps) (f y) in subst P e (contains_head (f q) (map f ps))
-    | inr k ↦ contains_tail (f q) (map f ps) (f p) (mapped f ps p k)
-  ]
+  | inl e ↦ let P : Part → Type 0 = λ y. Contains (f q ∷ map f ps) (f y) in subst P e (contains_head (f q) (map f ps))
+  | inr k ↦ contains_tail (f q) (map f ps) (f p) (mapped f ps p k)
+]
 
 unmapped : (f : Part → Part) (ps : List Part) (q : Part) → Contains (map f ps) q → (p : Part) × Contains ps p × (q ≡ f p)
 unmapped f [] q c = absurd (contains_nothing q c)
 unmapped f (p ∷ ps) q c = elim (contains_cons (f p) (map f ps) q c) [
-    inl e ↦ (p, contains_head p ps, sym e)
-    | inr k ↦ let u : (y : Part) × Contains ps y × (q ≡ f y) = unmapped f ps q k in (u.0, contains_tail p ps u.0 u.1, u.2)
-  ]
+  | inl e ↦ (p, contains_head p ps, sym e)
+  | inr k ↦ let u : (y : Part) × Contains ps y × (q ≡ f y) = unmapped f ps q k in (u.0, contains_tail p ps u.0 u.1, u.2)
+]
 
 pub part_under : (b : Bool) (m : Meaning) (p : Part) → Contains (parts false m) p → Contains (parts b m) (part (b || p.primed) p.term)
 part_under b m p c = let P : List Part → Type 0 = λ ps. Contains ps (part (b || p.primed) p.term) in subst P (sym (all_under b m)) (mapped (under b) (parts false m) p c)

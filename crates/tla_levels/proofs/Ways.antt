@@ -25,36 +25,38 @@ says_nothing n (Wrong f) a b c h = let q : None ≡ Some f = sym c ∙ h in absu
 
 pub begins : (ops : List Operator) (known : ℕ) (p : Part) (stack : List Part) (n : Note) → stack ≡ p ∷ [] → n.occurs ≡ [] → n.primed ≡ [] → n.fault ≡ None → MentionsBelow known p.term → IsOnTheWay ops known p stack n
 begins ops known p stack n q a b c below = subst (λ (ps : List Part). IsOnTheWay ops known p ps n) (sym q) record {
-    all = λ x h. inr (p, contains_head p [], h);
-    sound = λ x h. absurd (says_nothing n x a b c h);
-    rest = λ x h. let P : Part → Type 0 = λ y. Finds ops y x in subst P (sym (alone p h.0 h.1)) h.2;
-    below = λ y k. let P : Part → Type 0 = λ z. MentionsBelow known z.term in subst P (alone p y k) below
-  }
+  all = λ x h. inr (p, contains_head p [], h);
+  sound = λ x h. absurd (says_nothing n x a b c h);
+  rest = λ x h. let P : Part → Type 0 = λ y. Finds ops y x in subst P (sym (alone p h.0 h.1)) h.2;
+  below = λ y k. let P : Part → Type 0 = λ z. MentionsBelow known z.term in subst P (alone p y k) below;
+}
 
 pub goes_on : (ops : List Operator) (known : ℕ) (e p : Part) (stack left after : List Part) (old new : Note) → stack ≡ left ++ p ∷ [] → Reads ops known p left after old new → IsOnTheWay ops known e stack old → IsOnTheWay ops known e after new
 goes_on ops known e p stack left after old new popped (pushed, q, step) way = subst (λ (ps : List Part). IsOnTheWay ops known e ps new) (sym q) record {
-    all = λ x h. elim (way.all x h) [
-      inl u ↦ inl (step.kept x u)
-      | inr u ↦ elim (in_stack u.0 u.1) [
-          inl c ↦ inr (u.0, Contains-append_left left pushed u.0 c, u.2)
-          | inr k ↦ elim (step.all x (let P : Part → Type 0 = λ y. Finds ops y x in subst P (sym k) u.2)) [
-              inl v ↦ inl v
-              | inr v ↦ inr (v.0, Contains-append_right left pushed v.0 v.1, v.2)
-            ]
-        ]
-    ];
-    sound = λ x h. elim (step.sound x h) [ inl u ↦ way.sound x u | inr u ↦ way.rest x (p, at_top, u) ];
-    rest = λ x h. elim (Contains-append_cases left pushed h.0 h.1) [
-      inl c ↦ way.rest x (h.0, below_top h.0 c, h.2)
-      | inr c ↦ way.rest x (p, at_top, step.rest x (h.0, c, h.2))
-    ];
-    below = λ y c. elim (Contains-append_cases left pushed y c) [ inl k ↦ way.below y (below_top y k) | inr k ↦ step.below y k ]
-  }
+  all = λ x h. elim (way.all x h) [
+    | inl u ↦ inl (step.kept x u)
+    | inr u ↦ elim (in_stack u.0 u.1) [
+      | inl c ↦ inr (u.0, Contains-append_left left pushed u.0 c, u.2)
+      | inr k ↦ elim (step.all x (let P : Part → Type 0 = λ y. Finds ops y x in subst P (sym k) u.2)) [
+        | inl v ↦ inl v
+        | inr v ↦ inr (v.0, Contains-append_right left pushed v.0 v.1, v.2)
+      ]
+    ]
+  ];
+  sound = λ x h. elim (step.sound x h) [ inl u ↦ way.sound x u | inr u ↦ way.rest x (p, at_top, u) ];
+  rest = λ x h. elim (Contains-append_cases left pushed h.0 h.1) [
+    | inl c ↦ way.rest x (h.0, below_top h.0 c, h.2)
+    | inr c ↦ way.rest x (p, at_top, step.rest x (h.0, c, h.2))
+  ];
+  below = λ y c. elim (Contains-append_cases left pushed y c) [ inl k ↦ way.below y (below_top y k) | inr k ↦ step.below y k ];
+}
   where
     in_stack : (y : Part) → Contains stack y → Contains left y ⊎ (p ≡ y)
     in_stack y c = let P : List Part → Type 0 = λ ps. Contains ps y in Contains-push_cases left p y (subst P popped c)
+
     at_top : Contains stack p
     at_top = let P : List Part → Type 0 = λ ps. Contains ps p in subst P (sym popped) (Contains-push left p)
+
     below_top : (y : Part) → Contains left y → Contains stack y
     below_top y c = let P : List Part → Type 0 = λ ps. Contains ps y in subst P (sym popped) (Contains-append_left left (p ∷ []) y c)
 
@@ -67,16 +69,16 @@ gets_less ops known p stack left after old new popped (pushed, q, step) =
 
 fault_told : (ops : List Operator) (known : ℕ) (e : Term) (n : Note) (o : Option LevelFault) → n.fault ≡ o → IsOnTheWay ops known (part false e) [] n → MatchOption o ((f : LevelFault) → ¬ IsFault ops e f) (IsFirst (IsFault ops e))
 fault_told ops known e n None q way = λ f w. elim (way.all (Wrong f) w) [
-    inl r ↦ let k : None ≡ Some r.0 = sym q ∙ r.1 in absurd (cc)
-    | inr r ↦ contains_nothing r.0 r.1
-  ]
+  | inl r ↦ let k : None ≡ Some r.0 = sym q ∙ r.1 in absurd (cc)
+  | inr r ↦ contains_nothing r.0 r.1
+]
 fault_told ops known e n (Some g) q way = record {
-    is_such = way.sound (Wrong g) q;
-    none_before = λ h w. elim (way.all (Wrong h) w) [
-      inl r ↦ let k : Some r.0 ≡ Some g = sym r.1 ∙ q in let same : r.0 ≡ g = cc in ap (λ y. is_before h y) (sym same) ∙ r.2
-      | inr r ↦ absurd (contains_nothing r.0 r.1)
-    ]
-  }
+  is_such = way.sound (Wrong g) q;
+  none_before = λ h w. elim (way.all (Wrong h) w) [
+    | inl r ↦ let k : Some r.0 ≡ Some g = sym r.1 ∙ q in let same : r.0 ≡ g = cc in ap (λ y. is_before h y) (sym same) ∙ r.2
+    | inr r ↦ absurd (contains_nothing r.0 r.1)
+  ];
+}
 
 pub is_told : (ops : List Operator) (known : ℕ) (e : Term) (stack : List Part) (n : Note) → stack ≡ [] → IsOnTheWay ops known (part false e) stack n → IsTold ops e n
 is_told ops known e stack n q way_there =
@@ -84,5 +86,5 @@ is_told ops known e stack n q way_there =
     record {
       occurs = λ i. ((λ h. way.sound (Standing i) h), (λ w. elim (way.all (Standing i) w) [ inl h ↦ h | inr r ↦ absurd (contains_nothing r.0 r.1) ]));
       primed = λ i. ((λ h. elim (way.sound (Under i) h) [ inl w ↦ w | inr r ↦ let k : false ≡ true = r.0 in absurd (cc) ]), (λ w. elim (way.all (Under i) (inl w)) [ inl h ↦ h | inr r ↦ absurd (contains_nothing r.0 r.1) ]));
-      fault = fault_told ops known e n n.fault refl way
+      fault = fault_told ops known e n n.fault refl way;
     }

@@ -16,9 +16,12 @@ use Rattle.tla_levels.specs.Parts.{listed}
 -- through.
 pub data IsFair (ops : List Operator) : Term → Type 0 where
   weak_or_strong : (at : Place) (l : Level) (v e : Term) → IsFair ops (Placed at l (term.Fairness v e))
-  for_all : (at : Place) (l : Level) (bs : Bounds) (e : Term) → IsFair ops e → IsFair ops (Placed at l (term.Quantified quantifier.ForAll bs e))
-  both : (at : Place) (l : Level) (ts : Terms) → ((e : Term) → Contains (listed ts) e → IsFair ops e) → IsFair ops (Placed at l (term.All ts))
-  named : (at : Place) (l : Level) (k : ℕ) (o : Operator) → slice_get ops k ≡ Some o → IsFair ops o.body → IsFair ops (Placed at l (term.Use k term.NoTerms))
+  for_all : (at : Place) (l : Level) (bs : Bounds) (e : Term) → IsFair ops e
+      → IsFair ops (Placed at l (term.Quantified quantifier.ForAll bs e))
+  both : (at : Place) (l : Level) (ts : Terms) → ((e : Term) → Contains (listed ts) e → IsFair ops e)
+      → IsFair ops (Placed at l (term.All ts))
+  named : (at : Place) (l : Level) (k : ℕ) (o : Operator) → slice_get ops k ≡ Some o → IsFair ops o.body
+      → IsFair ops (Placed at l (term.Use k term.NoTerms))
 
 -- what conjuncts add to the conjuncts of Init, and to the actions that are always taken
 pub record Parts : Type 0 where
@@ -35,8 +38,10 @@ both_parts p q = parts (p.inits ++ q.inits) (p.steps ++ q.steps)
 abbrev mutual
   pub Gives : List Operator → Term → Parts → Type 0
   Gives ops (Placed at levels.Temporal (term.All ts)) p =
-      (IsFair ops (Placed at levels.Temporal (term.All ts)) × (p ≡ parts [] [])) ⊎ (¬ IsFair ops (Placed at levels.Temporal (term.All ts)) × GivesEach ops ts p)
-  Gives ops (Placed at levels.Temporal (term.Prefix prefix.Always (Placed q l (term.BoxAction a v)))) p = (is_above (level_of a) levels.Action ≡ false) × (p ≡ parts [] (a ∷ []))
+      (IsFair ops (Placed at levels.Temporal (term.All ts)) × (p ≡ parts [] []))
+      ⊎ (¬ IsFair ops (Placed at levels.Temporal (term.All ts)) × GivesEach ops ts p)
+  Gives ops (Placed at levels.Temporal (term.Prefix prefix.Always (Placed q l (term.BoxAction a v)))) p =
+      (is_above (level_of a) levels.Action ≡ false) × (p ≡ parts [] (a ∷ []))
   Gives ops (Placed at levels.Temporal m) p = IsFair ops (Placed at levels.Temporal m) × (p ≡ parts [] [])
   Gives ops (Placed at l m) p = (is_above l levels.State ≡ false) × (p ≡ parts (Placed at l m ∷ []) [])
 

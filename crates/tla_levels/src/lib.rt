@@ -16,7 +16,7 @@ mod slots;
 
 pub use fault::LevelFault;
 pub use note::Note;
-pub use noting::{note_of, notes};
+pub use noting::{assumption_fault, note_of, notes};
 pub use ordered::{mentions_below, uses_smaller};
 pub use shape::{Shape, specification};
 pub use slots::Slots;

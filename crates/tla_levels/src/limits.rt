@@ -10,7 +10,9 @@ ghost use Rattle.tla_levels.specs.Views.{first_place, held_all, other_limits};
 use crate::fault::{LevelFault, held};
 use crate::levels::of_step;
 use tla_ast::{InfixOperator, PrefixOperator};
-use tla_terms::{Bounds, Changes, Fields, Level, Operand, Operands, Step, Steps, Term, TermNode, Terms};
+use tla_terms::{
+    Bounds, Changes, Fields, Level, Operand, Operands, Step, Steps, Term, TermNode, Terms,
+};
 use trace_base::Place;
 
 fn level_here(term: &Term) -> Level

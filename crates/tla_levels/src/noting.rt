@@ -1,14 +1,17 @@
 //! The notes of definitions, in the order of their numbers.
 
-ghost use Rattle.std.specs.Prelude.{◌≡◌, ◌≤◌, IfOk, length, vec_len};
+ghost use Rattle.std.specs.Prelude.{◌≡◌, ◌≤◌, IfOk, MatchOption, length, vec_len};
+ghost use Rattle.tla_levels.specs.declared.fault.LevelFault.{LevelFault as Fault};
+ghost use Rattle.tla_levels.specs.Faults.{IsAssumptionFault, IsFirst};
 ghost use Rattle.tla_levels.specs.Notes.{AreNotes, IsNote};
 ghost use Rattle.tla_levels.specs.Slots.{MentionsBelow, UsesSmaller};
 
 use crate::fairness::is_fair;
+use crate::fault::{LevelFault, held};
 use crate::note::Note;
 use crate::reading::read_text;
 use std::alloc::Global;
-use tla_terms::{Operator, Term};
+use tla_terms::{Level, Operator, Term};
 use trace_base::NoMemory;
 
 /// The note of a text, where the definitions that it uses have their notes.
@@ -36,6 +39,22 @@ pub fn note_of(
         fault,
         fair,
     })
+}
+
+/// The first fault of an assumption: what is wrong in its term, and that it is no constant.
+pub fn assumption_fault(
+    alloc: Global,
+    table: &[Operator],
+    notes: &[Note],
+    term: &Term,
+) -> Result<Option<LevelFault>, NoMemory>
+    requires noted { AreNotes table.now notes.now }
+    requires known { length notes.now ≤ length table.now }
+    requires below { MentionsBelow (length notes.now) term.now }
+    ensures { IfOk result (λ o. MatchOption o ((f : Fault) → ¬ IsAssumptionFault table.now term.now f) (IsFirst (IsAssumptionFault table.now term.now))) }
+{
+    let note = note_of(alloc, table, notes, term)?;
+    Ok(held(note.fault, term.at, Level::Constant, term.level))
 }
 
 /// The notes of a table's definitions, by their numbers.

@@ -19,11 +19,7 @@ pub struct Pending<'a> {
 }
 
 /// Puts a term on the stack.
-pub fn push<'a>(
-    stack: &mut Vec<Pending<'a>>,
-    primed: bool,
-    term: &'a Term,
-) -> Result<(), NoMemory>
+pub fn push<'a>(stack: &mut Vec<Pending<'a>>, primed: bool, term: &'a Term) -> Result<(), NoMemory>
     ensures { OnOk result (waiting stack.new.items ≡ waiting stack.old.items ++ part primed term.now ∷ []) }
 {
     stack.push(Pending { term, primed })?;
@@ -160,11 +156,7 @@ fn push_values<'a>(
     Ok(())
 }
 
-fn push_arms<'a>(
-    stack: &mut Vec<Pending<'a>>,
-    primed: bool,
-    arms: &'a Arms,
-) -> Result<(), NoMemory>
+fn push_arms<'a>(stack: &mut Vec<Pending<'a>>, primed: bool, arms: &'a Arms) -> Result<(), NoMemory>
     ensures { OnOk result (waiting stack.new.items ≡ waiting stack.old.items ++ parts_of primed (arm_list arms.now)) }
 {
     let items = arms.items();
@@ -202,11 +194,7 @@ fn is_prime(step: &Step) -> bool
     }
 }
 
-fn push_step<'a>(
-    stack: &mut Vec<Pending<'a>>,
-    primed: bool,
-    step: &'a Step,
-) -> Result<(), NoMemory>
+fn push_step<'a>(stack: &mut Vec<Pending<'a>>, primed: bool, step: &'a Step) -> Result<(), NoMemory>
     ensures { OnOk result (waiting stack.new.items ≡ waiting stack.old.items ++ step_parts primed (step_view step.now)) }
 {
     match step {
@@ -352,7 +340,9 @@ pub fn push_parts<'a>(
         TermNode::Case(arms, None) => push_arms(stack, primed, arms),
         TermNode::Case(arms, Some(other)) => push_case(stack, primed, arms, other),
         TermNode::BoxAction(action, subscript) => push_two(stack, primed, action, subscript, true),
-        TermNode::AngleAction(action, subscript) => push_two(stack, primed, action, subscript, true),
+        TermNode::AngleAction(action, subscript) => push_two(
+            stack, primed, action, subscript, true,
+        ),
         TermNode::Fairness(subscript, action) => push_two(stack, primed, subscript, action, primed),
     }
 }

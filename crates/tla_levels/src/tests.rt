@@ -131,7 +131,12 @@ fn chains(alloc: Global) -> Result<bool, AllocError> {
 }
 
 /// `f[a].h'`, with places 20, 30 and 50 of its steps.
-fn steps(alloc: Global, base: Level, index: Level, fault: Option<LevelFault>) -> Result<bool, AllocError> {
+fn steps(
+    alloc: Global,
+    base: Level,
+    index: Level,
+    fault: Option<LevelFault>,
+) -> Result<bool, AllocError> {
     let mut steps = Steps::new(alloc);
     let mut indices = Terms::new(alloc);
     indices.push(leaf(25, index))?;
@@ -160,35 +165,51 @@ fn text(alloc: Global) -> Result<Text, AllocError> {
 
 fn step_rows(alloc: Global) -> Result<bool, AllocError> {
     let (one, two, three) = (Level::State, Level::Action, Level::Temporal);
-    Ok(steps(alloc, three, one, high(three, two, 20))?
-        && steps(alloc, one, three, high(three, two, 20))?
-        && steps(alloc, two, one, high(two, one, 50))?
-        && steps(alloc, one, one, None)?)
+    Ok(
+        steps(alloc, three, one, high(three, two, 20))?
+            && steps(alloc, one, three, high(three, two, 20))?
+            && steps(alloc, two, one, high(two, one, 50))?
+            && steps(alloc, one, one, None)?,
+    )
 }
 
 fn listed_rows(alloc: Global) -> Result<bool, AllocError> {
     let (one, three) = (Level::State, Level::Temporal);
     let fault = high(three, Level::Action, 50);
-    Ok(says(alloc, TermNode::SetOf(terms(alloc, one, three)?), fault)?
-        && says(alloc, TermNode::Tuple(terms(alloc, three, one)?), fault)?
-        && says(
-            alloc,
-            TermNode::Standard(StandardOperator::Append, terms(alloc, one, three)?),
-            fault,
-        )?
-        && says(alloc, TermNode::All(terms(alloc, one, three)?), None)?
-        && says(alloc, TermNode::Any(terms(alloc, three, three)?), None)?)
+    Ok(
+        says(alloc, TermNode::SetOf(terms(alloc, one, three)?), fault)?
+            && says(alloc, TermNode::Tuple(terms(alloc, three, one)?), fault)?
+            && says(
+                alloc,
+                TermNode::Standard(StandardOperator::Append, terms(alloc, one, three)?),
+                fault,
+            )?
+            && says(alloc, TermNode::All(terms(alloc, one, three)?), None)?
+            && says(alloc, TermNode::Any(terms(alloc, three, three)?), None)?,
+    )
 }
 
 fn paired_rows(alloc: Global) -> Result<bool, AllocError> {
     let (one, two, three) = (Level::State, Level::Action, Level::Temporal);
     let fault = high(three, two, 50);
     let low = boxed(alloc, 60, one)?;
-    let filter = says(alloc, TermNode::Filter(low, boxed(alloc, 70, three)?), fault)?;
+    let filter = says(
+        alloc,
+        TermNode::Filter(low, boxed(alloc, 70, three)?),
+        fault,
+    )?;
     let low = boxed(alloc, 60, one)?;
-    let choose = says(alloc, TermNode::Choose(low, boxed(alloc, 70, three)?), fault)?;
+    let choose = says(
+        alloc,
+        TermNode::Choose(low, boxed(alloc, 70, three)?),
+        fault,
+    )?;
     let low = boxed(alloc, 70, one)?;
-    let functions = says(alloc, TermNode::FunctionSet(boxed(alloc, 60, three)?, low), fault)?;
+    let functions = says(
+        alloc,
+        TermNode::FunctionSet(boxed(alloc, 60, three)?, low),
+        fault,
+    )?;
     Ok(filter && choose && functions)
 }
 
@@ -226,12 +247,20 @@ fn bound_rows(alloc: Global) -> Result<bool, AllocError> {
     let fault = high(three, Level::Action, 50);
     let set = says(
         alloc,
-        TermNode::Quantified(Quantifier::ForAll, bounds(alloc, three)?, boxed(alloc, 70, one)?),
+        TermNode::Quantified(
+            Quantifier::ForAll,
+            bounds(alloc, three)?,
+            boxed(alloc, 70, one)?,
+        ),
         fault,
     )?;
     let body = says(
         alloc,
-        TermNode::Quantified(Quantifier::Exists, bounds(alloc, one)?, boxed(alloc, 70, three)?),
+        TermNode::Quantified(
+            Quantifier::Exists,
+            bounds(alloc, one)?,
+            boxed(alloc, 70, three)?,
+        ),
         None,
     )?;
     let map = says(
@@ -276,12 +305,14 @@ fn except(alloc: Global, base: Level, index: Level, value: Level) -> Result<Term
 fn record_rows(alloc: Global) -> Result<bool, AllocError> {
     let (one, three) = (Level::State, Level::Temporal);
     let fault = high(three, Level::Action, 50);
-    Ok(says(alloc, TermNode::Record(fields(alloc)?), fault)?
-        && says(alloc, TermNode::RecordSet(fields(alloc)?), fault)?
-        && says(alloc, except(alloc, three, one, one)?, fault)?
-        && says(alloc, except(alloc, one, three, one)?, fault)?
-        && says(alloc, except(alloc, one, one, three)?, fault)?
-        && says(alloc, except(alloc, one, one, one)?, None)?)
+    Ok(
+        says(alloc, TermNode::Record(fields(alloc)?), fault)?
+            && says(alloc, TermNode::RecordSet(fields(alloc)?), fault)?
+            && says(alloc, except(alloc, three, one, one)?, fault)?
+            && says(alloc, except(alloc, one, three, one)?, fault)?
+            && says(alloc, except(alloc, one, one, three)?, fault)?
+            && says(alloc, except(alloc, one, one, one)?, None)?,
+    )
 }
 
 fn free_rows(alloc: Global) -> Result<bool, AllocError> {
@@ -300,8 +331,16 @@ fn free_rows(alloc: Global) -> Result<bool, AllocError> {
         test: leaf(60, three),
         value: leaf(70, three),
     })?;
-    let case = says(alloc, TermNode::Case(arms, Some(boxed(alloc, 80, three)?)), None)?;
-    let inside = says(alloc, TermNode::Parenthesized(boxed(alloc, 60, three)?), None)?;
+    let case = says(
+        alloc,
+        TermNode::Case(arms, Some(boxed(alloc, 80, three)?)),
+        None,
+    )?;
+    let inside = says(
+        alloc,
+        TermNode::Parenthesized(boxed(alloc, 60, three)?),
+        None,
+    )?;
     let behind = says(
         alloc,
         TermNode::Scoped(DefIds::new(alloc), boxed(alloc, 60, three)?),
@@ -421,7 +460,11 @@ fn through_calls(alloc: Global) -> Result<bool, AllocError> {
 fn other_rows(alloc: Global) -> Result<bool, AllocError> {
     let mut table = Vec::new(alloc);
     let operand = pack(alloc, slot(12, 0))?;
-    let body = placed(11, Level::Action, TermNode::Prefix(PrefixOperator::Unchanged, operand));
+    let body = placed(
+        11,
+        Level::Action,
+        TermNode::Prefix(PrefixOperator::Unchanged, operand),
+    );
     define(alloc, &mut table, 0, 1, body)?;
     let unchanged = is_told(alloc, &mut table)?;
     let subscript = pack(alloc, slot(12, 0))?;
@@ -501,7 +544,11 @@ fn step(alloc: Global, col: u32) -> Result<Term, AllocError> {
         boxed(alloc, 90, Level::State)?,
     );
     let action = pack(alloc, placed(81, Level::Action, node))?;
-    Ok(placed(80, Level::Temporal, TermNode::Prefix(PrefixOperator::Always, action)))
+    Ok(placed(
+        80,
+        Level::Temporal,
+        TermNode::Prefix(PrefixOperator::Always, action),
+    ))
 }
 
 fn fairness(alloc: Global) -> Result<Term, AllocError> {
@@ -521,7 +568,11 @@ fn conjunction(alloc: Global, items: Vec<Term>) -> Result<Term, AllocError> {
 }
 
 /// How many conjuncts of Init the body of a specification gives and where its action stands, or none.
-fn shape_of(alloc: Global, table: &[Operator], body: &Term) -> Result<Option<(usize, u32)>, AllocError> {
+fn shape_of(
+    alloc: Global,
+    table: &[Operator],
+    body: &Term,
+) -> Result<Option<(usize, u32)>, AllocError> {
     if !uses_smaller(alloc, table)? || !mentions_below(alloc, table.len(), body)? {
         return Ok(None);
     }
@@ -561,7 +612,11 @@ fn bad_shapes(alloc: Global) -> Result<bool, AllocError> {
     let none = shape_of(alloc, &[], &conjunction(alloc, items)?)?;
     let items = vec![in alloc; step(alloc, 20)?, fairness(alloc)?]?;
     let no_init = shape_of(alloc, &[], &conjunction(alloc, items)?)?;
-    let items = vec![in alloc; leaf(10, Level::State), leaf(15, Level::Action), step(alloc, 20)?]?;
+    let items = vec![in alloc;
+        leaf(10, Level::State),
+        leaf(15, Level::Action),
+        step(alloc, 20)?,
+    ]?;
     let action = shape_of(alloc, &[], &conjunction(alloc, items)?)?;
     let inside = TermNode::Parenthesized(pack(alloc, fairness(alloc)?)?);
     let inside = placed(40, Level::Temporal, inside);
@@ -572,7 +627,15 @@ fn bad_shapes(alloc: Global) -> Result<bool, AllocError> {
     let items = vec![in alloc; leaf(10, Level::State), inside]?;
     let taken = shape_of(alloc, &[], &conjunction(alloc, items)?)?;
     let alone = shape_of(alloc, &[], &leaf(10, Level::State))?;
-    Ok(two.is_none() && none.is_none() && no_init.is_none() && action.is_none() && fair.is_none() && taken.is_none() && alone.is_none())
+    Ok(
+        two.is_none()
+            && none.is_none()
+            && no_init.is_none()
+            && action.is_none()
+            && fair.is_none()
+            && taken.is_none()
+            && alone.is_none(),
+    )
 }
 
 #[test]
@@ -601,7 +664,11 @@ fn long_terms(alloc: Global) -> Result<bool, AllocError> {
             value: leaf(9, Level::State),
         })?;
     }
-    let node = TermNode::Infix(InfixOperator::Plus, operands, boxed(alloc, 10, Level::Temporal)?);
+    let node = TermNode::Infix(
+        InfixOperator::Plus,
+        operands,
+        boxed(alloc, 10, Level::Temporal)?,
+    );
     Ok(row && says(alloc, node, high(Level::Temporal, Level::Action, 50))?)
 }
 

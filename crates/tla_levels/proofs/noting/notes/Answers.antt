@@ -16,6 +16,7 @@ note_of-requires-clause-below c =
     body_below c.args.table.now c.loop-operator.operator-index (length c.deref.result.now) c.operator-item.result c.requires (item_at c.args.table.now c.loop-operator.operator-index c.operator-item.result c.loop-operator-test.true ∙ ap Some (sym c.operator-item.is)) (ap length c.deref.ensures.value ∙ c.loop-operator.invariant.1)
 
 pub loop-operator-preserved : goal.loop-operator-preserved
-loop-operator-preserved c =
-    (notes_more c.args.table.now c.loop-operator.notes.items c.push.new.self.items c.loop-operator.operator-index c.operator-item.result c.in_ok-note.note c.loop-operator.invariant.0 c.loop-operator.invariant.1 c.in_ok-push.ensures.items (item_at c.args.table.now c.loop-operator.operator-index c.operator-item.result c.loop-operator-test.true ∙ ap Some (sym c.operator-item.is)) c.in_ok-note.ensures,
-     omega (arith, ap length c.in_ok-push.ensures.items, length_push c.loop-operator.notes.items c.in_ok-note.note, c.loop-operator.invariant.1))
+loop-operator-preserved c = (
+  notes_more c.args.table.now c.loop-operator.notes.items c.push.new.self.items c.loop-operator.operator-index c.operator-item.result c.in_ok-note.note c.loop-operator.invariant.0 c.loop-operator.invariant.1 c.in_ok-push.ensures.items (item_at c.args.table.now c.loop-operator.operator-index c.operator-item.result c.loop-operator-test.true ∙ ap Some (sym c.operator-item.is)) c.in_ok-note.ensures,
+  omega (arith, ap length c.in_ok-push.ensures.items, length_push c.loop-operator.notes.items c.in_ok-note.note, c.loop-operator.invariant.1),
+)

@@ -25,6 +25,5 @@ loop-pending-preserved c =
     let p = c.in-Some.pending in
     goes_on c.args.table.now (length c.args.notes.now) (part false c.args.term.now) (part p.primed p.term.now) (waiting c.loop-pending.stack.items) (waiting c.pop.new.self.items) (waiting c.read.new.stack.items) c.loop-pending.note c.read.new.note (ap waiting c.in-Some.ensures.items ∙ waiting-push c.pop.new.self.items p) c.in_ok-read.ensures c.loop-pending.invariant
 
-
 pub returns : goal.returns
 returns c = is_told c.args.table.now (length c.args.notes.now) c.args.term.now (waiting c.loop-pending.stack.items) c.loop-pending.note (ap waiting (popped_nothing c.loop-pending.stack.items c.pop.new.self.items _ c.in_default.ensures.items c.in_default.ensures.rest c.in_default.ensures.cases.0)) c.loop-pending.invariant

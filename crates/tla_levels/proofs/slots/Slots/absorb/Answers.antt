@@ -14,6 +14,6 @@ returns c =
     let count : length c.args.other.now ≡ c.count-marks.result = sym c.count-marks.ensures in
     let end : c.loop-slot.slot ≡ c.if-below-marks.end = omega arith in
     elim c.if-below-marks.branch [
-      then-below-marks w ↦ let lt = w.if-below-marks.true in let e = w.end-is in absorbs_all c.loop-slot.slot c.args.below c.args.self.now c.args.other.now c.loop-slot.self (omega arith) (inl (omega arith)) c.loop-slot.invariant
+      | then-below-marks w ↦ let lt = w.if-below-marks.true in let e = w.end-is in absorbs_all c.loop-slot.slot c.args.below c.args.self.now c.args.other.now c.loop-slot.self (omega arith) (inl (omega arith)) c.loop-slot.invariant
       | else-below-marks w ↦ let ge = w.if-below-marks.false in let e = w.end-is in absorbs_all c.loop-slot.slot c.args.below c.args.self.now c.args.other.now c.loop-slot.self (omega arith) (inr (omega arith)) c.loop-slot.invariant
     ]
