@@ -5,3 +5,4 @@ pub mod PrintLemmas
 pub mod ReadBack
 pub mod ReadLemmas
 pub mod ReadSteps
+pub mod SpellLemmas

@@ -41,7 +41,9 @@ abbrev mutual
   prints (integer z) = number (of_integer z)
   prints (string s) = json.string s
   prints (set vs) = marked (codes "$set") (array (print_members vs))
-  prints (function ps) = if are_numbered 1 ps then array (print_values ps) else (if are_named ps then object (print_fields ps) else marked (codes "$fun") (array (print_pairs ps)))
+  prints (function ps) =
+      if are_numbered 1 ps then array (print_values ps)
+      else (if are_named ps then object (print_fields ps) else marked (codes "$fun") (array (print_pairs ps)))
 
   pub print_members : Vals → Items
   print_members no_vals = no_items

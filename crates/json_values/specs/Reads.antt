@@ -37,7 +37,8 @@ abbrev mutual
 
   -- or it has one key, which says what its content is
   pub ReadsForm : Members → Val → Type 0
-  ReadsForm (member k d no_members) v = ((k ≡ codes "$set") × ReadsSet d v) ⊎ ((k ≡ codes "$fun") × ReadsFunction d v) ⊎ ((k ≡ codes "$model") × ReadsModel d v)
+  ReadsForm (member k d no_members) v =
+      ((k ≡ codes "$set") × ReadsSet d v) ⊎ ((k ≡ codes "$fun") × ReadsFunction d v) ⊎ ((k ≡ codes "$model") × ReadsModel d v)
   ReadsForm _ v = ⊥
 
   pub ReadsSet : Data → Val → Type 0
@@ -75,6 +76,10 @@ abbrev mutual
 -- the record with these members
 abbrev pub ReadsRecord : Members → Val → Type 0
 ReadsRecord ms v = (fs : List (List ℕ × Val)) × ReadsFields ms fs × IsMappingOf (fields_as_pairs fs) v
+
+-- data stand for one value at most
+abbrev pub ReadsOneValue : Type 0
+ReadsOneValue = (d : Data) (v w : Val) → Reads d v → Reads d w → v ≡ w
 
 -- what is found where something that meets P is sought: it, and none where there is none
 abbrev pub Finds : {A : Type 0} → (A → Type 0) → Option A → Type 0

@@ -5,10 +5,12 @@ mod laws;
 mod making;
 mod printing;
 mod reading;
+mod spelling;
 
-pub use laws::prints_read_back;
+pub use laws::json_laws;
 pub use printing::to_json;
 pub use reading::from_json;
+pub use spelling::push_json;
 
 #[cfg(test)]
 mod tests;

@@ -111,7 +111,7 @@ fn function_json(alloc: Global, value: &Value) -> Result<Json, AllocError>
 }
 
 /// The keys of a function, ascending.
-fn keys_of(alloc: Global, value: &Value) -> Result<Vec<Value>, AllocError>
+pub fn keys_of(alloc: Global, value: &Value) -> Result<Vec<Value>, AllocError>
     requires { IsFunction value.now }
     ensures { IfOk result (λ keys. keys.items ≡ keys_in value.now) }
 {
@@ -135,7 +135,7 @@ fn key_at(value: &Value, i: usize) -> Result<Value, AllocError>
 }
 
 /// The value of a function at its key at `i` in ascending order, from 0.
-fn value_at(value: &Value, i: usize) -> &Value
+pub fn value_at(value: &Value, i: usize) -> &Value
     requires { i < length (pairs_in value.now) }
     ensures { slice_get (values_in value.now) i ≡ Some result.now }
 {
@@ -163,7 +163,8 @@ fn values_json(alloc: Global, value: &Value) -> Result<Vec<Json>, AllocError>
 fn keyed_json(alloc: Global, keys: &[Value], value: &Value) -> Result<Json, AllocError>
     requires { keys.now ≡ keys_in value.now }
     ensures { let pairs = pairs_of (pairs_in value.now) in
-        IfOk result (λ json. view json ≡ (if are_named pairs then object (print_fields pairs) else marked (codes "$fun") (array (print_pairs pairs)))) }
+        IfOk result (λ json.
+        view json ≡ (if are_named pairs then object (print_fields pairs) else marked (codes "$fun") (array (print_pairs pairs)))) }
 {
     if all_named(keys) {
         let members = fields_json(alloc, keys, value)?;
@@ -174,7 +175,7 @@ fn keyed_json(alloc: Global, keys: &[Value], value: &Value) -> Result<Json, Allo
 }
 
 /// Whether each key is a string that does not begin with `$`.
-fn all_named(keys: &[Value]) -> bool
+pub fn all_named(keys: &[Value]) -> bool
     ensures { result ≡ list_all is_name keys.now }
 {
     keys.iter().all(|key| is_field_name(key))
@@ -190,7 +191,7 @@ fn is_field_name(key: &Value) -> bool
 }
 
 /// The text of a string, and none of all else.
-fn text_of_key(key: &Value) -> &str
+pub fn text_of_key(key: &Value) -> &str
     ensures { result.now ≡ name_of key.now }
 {
     match key.kind() {

@@ -2,7 +2,21 @@ ghost use Rattle.std.specs.Prelude.{◌≡◌, IfOk, codes, length, option_map};
 ghost use Rattle.serde_json.specs.View.{view, items_view, members_view, number_view};
 ghost use Rattle.serde_json.specs.Data.{array, object, member, no_members};
 ghost use Rattle.tla_values.specs.Data.{Val, model, string};
-ghost use Rattle.json_values.specs.Reads.{Finds, Reads, is_marked, ReadsEach, ReadsFields, ReadsForm, ReadsRecord, ReadsFunction, ReadsModel, ReadsNumber, ReadsPair, ReadsPairs, ReadsSet};
+ghost use Rattle.json_values.specs.Reads.{
+  Finds,
+  Reads,
+  is_marked,
+  ReadsEach,
+  ReadsFields,
+  ReadsForm,
+  ReadsRecord,
+  ReadsFunction,
+  ReadsModel,
+  ReadsNumber,
+  ReadsPair,
+  ReadsPairs,
+  ReadsSet,
+};
 
 use crate::making::{make_mapping, make_record, make_sequence, make_set};
 use serde_json::{Map, Number, Value as Json};

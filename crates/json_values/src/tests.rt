@@ -1,4 +1,4 @@
-use crate::{from_json, to_json};
+use crate::{from_json, push_json, to_json};
 use serde_json::Value as Json;
 use std::alloc::{AllocError, Global};
 use std::test::Fail;
@@ -91,7 +91,8 @@ fn is_none(read: Result<Option<Value>, AllocError>) -> bool {
 fn is_spelled(alloc: Global, text: &str, printed: &str) -> bool {
     match Json::from_str(alloc, text) {
         Ok(json) => match from_json(alloc, &json) {
-            Ok(Some(value)) => is_printed(alloc, &value, printed),
+            Ok(Some(value)) => is_printed(alloc, &value, printed)
+                && is_pushed(alloc, &value, printed),
             Ok(None) => false,
             Err(_) => false,
         },
@@ -105,6 +106,15 @@ fn is_printed(alloc: Global, value: &Value, printed: &str) -> bool {
             Ok(text) => text.as_str() == printed,
             Err(_) => false,
         },
+        Err(_) => false,
+    }
+}
+
+/// Whether this text is what is pushed of the value.
+fn is_pushed(alloc: Global, value: &Value, pushed: &str) -> bool {
+    let mut text = String::new(alloc);
+    match push_json(alloc, &mut text, value) {
+        Ok(()) => text.as_str() == pushed,
         Err(_) => false,
     }
 }
