@@ -14,8 +14,7 @@ event_code = code_by (ℕ × List Val) (coded× coded_ℕ values_code) (λ e. (e
 
 abbrev line_code : Coded Line
 line_code =
-    code_by ((ℕ × ℕ) × (ℤ × (Option Event × (List Update × List See))))
-    (coded× (coded× coded_ℕ coded_ℕ) (coded× coded_ℤ (coded× (coded_option event_code) (coded× updates_code sees_code))))
+    code_by ((ℕ × ℕ) × (ℤ × (Option Event × (List Update × List See)))) (coded× (coded× coded_ℕ coded_ℕ) (coded× coded_ℤ (coded× (coded_option event_code) (coded× updates_code sees_code))))
     (λ l. ((l.at.file, l.at.line), (l.clock, (l.event, (l.updates, l.sees)))))
     (λ c. record { at = record { file = c.0.0; line = c.0.1 }; clock = c.1.0; event = c.1.1.0; updates = c.1.1.1.0; sees = c.1.1.1.1 }) (λ _. refl)
 

@@ -9,6 +9,4 @@ abbrev pub values_code : Coded (List Val)
 values_code = coded_list val_code
 
 abbrev pub path_code : Coded KeyPath
-path_code =
-    code_by (ℕ × List Val) (coded× coded_ℕ values_code)
-    (λ p. (p.variable.0, p.keys)) (λ c. record { variable = record { 0 = c.0 }; keys = c.1 }) (λ _. refl)
+path_code = code_by (ℕ × List Val) (coded× coded_ℕ values_code) (λ p. (p.variable.0, p.keys)) (λ c. record { variable = record { 0 = c.0 }; keys = c.1 }) (λ _. refl)
