@@ -93,7 +93,7 @@ meaning_marks (means n) rest = Replaces ∷ name_mark n ∷ rest
 
 abbrev pub given_of : Meaning → Given
 given_of (is v) = Constant (literal (lit v))
-given_of (means n) = Replaced n.text
+given_of (means n) = Replaced n.text n.at
 
 -- at most 32 braces stand inside each other
 abbrev pub IsShallow : Meaning → Type 0

@@ -90,7 +90,7 @@ sign_step a c Replaces = Ok (expects.Replacement a, c)
 sign_step a c m = Err Syntax
 
 abbrev pub replacement_step : Assigned → Config → Mark → Next
-replacement_step a c (Name text at) = Ok (expects.Statement further.Assignment, replaced c a (Replaced text))
+replacement_step a c (Name text at) = Ok (expects.Statement further.Assignment, replaced c a (Replaced text at))
 replacement_step a c m = Err Syntax
 
 -- a name that is assigned

@@ -122,11 +122,11 @@ fn replacement(assigned: Assigned, mark: Mark, config: &mut Config) -> Result<Ex
     ensures { Goes (replacement_step assigned config.old mark) result config.new }
 {
     match mark {
-        Mark::Name(name, _) => {
+        Mark::Name(name, at) => {
             config.givens.push(GivenAt {
                 name: assigned.name,
                 at: assigned.at,
-                given: Given::Replaced(name),
+                given: Given::Replaced(name, at),
             })?;
             Ok(Expects::Statement(Further::Assignment))
         }

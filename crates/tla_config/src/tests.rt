@@ -35,7 +35,7 @@ fn write_given(out: &mut String, given: &Given) -> Result<(), AllocError> {
             write!(out, "=")?;
             write_literal(out, literal)
         }
-        Given::Replaced(name) => write!(out, "<-{}", name.as_str()),
+        Given::Replaced(name, at) => write!(out, "<-{} {}", name.as_str(), at.col),
     }
 }
 
@@ -100,7 +100,7 @@ const ROWS: [Row; 40] = [
     },
     Row {
         text: b"\\* c\nNEXT N (* d (* e *) *) CONSTANTS\n\tA <- B x = - 7 y = {} INIT I\r\n",
-        gives: "f: INIT I; NEXT N; A 3:9 <-B; x 3:16 =-7; y 3:24 ={}; ",
+        gives: "f: INIT I; NEXT N; A 3:9 <-B 14; x 3:16 =-7; y 3:24 ={}; ",
     },
     Row {
         text: b"INIT Init",
