@@ -1,5 +1,5 @@
 -- The values of members, one behind the other.
-use Rattle.std.proofs.Common.{◌≡◌, ℕ, zero, suc, ◌+◌, ◌<◌, List, [], ◌∷◌, ◌++◌, length, take, map, Option, Some, None, Result, Ok, Err, IfOk, ap, sym, ◌∙◌, subst, refl, arith}
+use Rattle.std.proofs.Common.{◌≡◌, ℕ, zero, suc, ◌+◌, ◌<◌, List, [], ◌∷◌, ◌++◌, length, take, map, Option, Some, None, Result, Ok, Err, IfOk, sym, ◌∙◌, subst, refl, arith}
 use Rattle.std.specs.Prelude.{get_or}
 use Rattle.std.specs.declared.alloc.AllocError.{AllocError}
 use Rattle.tla_values.specs.Data.{Val}

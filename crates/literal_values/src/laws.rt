@@ -2,5 +2,5 @@ ghost use Rattle.literal_values.specs.Spells.{SpellsOneValue};
 
 /// That no literal spells two values.
 pub fn literal_laws()
-    ensures one_value { SpellsOneValue }
+    ensures { SpellsOneValue }
 {}

@@ -1,6 +1,6 @@
-use Rattle.std.proofs.Common.{◌≡◌, ◌≤◌, List, suc, map, sym, ap, ◌∙◌, subst, arith}
+use Rattle.std.proofs.Common.{◌≡◌, ◌≤◌, List, map, sym, ap, subst, arith}
 use Rattle.tla_values.specs.Data.{Val}
-use Rattle.tla_ast.specs.Lits.{Lit, depth, depth_of, lits_of, set}
+use Rattle.tla_ast.specs.Lits.{depth, depth_of, lits_of}
 use Rattle.tla_ast.specs.Literals.{lit_of}
 use Rattle.tla_ast.specs.Shallower.{member_deep}
 use Rattle.literal_values.specs.Spells.{AreValuesOf}
