@@ -89,11 +89,11 @@ impl Literals {
     }
 }
 
-/// What a configuration gives for a name: its value, or the definition that replaces it, by its name and the place of that name.
+/// What a configuration gives for a name: its value, or the definition that replaces it.
 #[derive(Drop)]
 pub enum Given {
     Constant(Literal),
-    Replaced(Text, Place),
+    Replaced(Text),
 }
 
 /// A name, where it stands, and what is given for it.

@@ -1,0 +1,61 @@
+//! From what a configuration spells to values.
+
+ghost use Rattle.std.specs.Prelude.{IfOk, MatchOption, option_map};
+ghost use Rattle.tla_values.specs.Data.{Val};
+ghost use Rattle.tla_values.specs.Sets.{IsSetOf};
+ghost use Rattle.tla_ast.specs.Lits.{lits_of};
+ghost use Rattle.tla_ast.specs.Literals.{lit_of};
+ghost use Rattle.literal_values.specs.Spells.{Finds, IsValueOf, AreValuesOf};
+
+use std::alloc::{AllocError, Global};
+use tla_ast::{Literal, Literals};
+use tla_values::{Value, ValueFault};
+use trace_base::NoMemory;
+
+/// The set of these values, or none where it is past the limits of values.
+fn set_of(alloc: Global, values: Vec<Value>) -> Result<Option<Value>, NoMemory>
+    ensures { IfOk result (Finds (IsSetOf values.items)) }
+{
+    Value::laws();
+    match Value::make_set(alloc, values) {
+        Ok(value) => Ok(Some(value)),
+        Err(ValueFault::NoMemory) => Err(AllocError),
+        Err(ValueFault::KeyTwice) => Ok(None),
+        Err(ValueFault::TooLarge) => Ok(None),
+        Err(ValueFault::TooDeep) => Ok(None),
+    }
+}
+
+/// The value that a configuration spells, or none where a set in it is past the limits of values.
+///
+/// Members of a set that are spelled twice count once.
+#[cycle(value)]
+pub fn literal_value(alloc: Global, literal: &Literal) -> Result<Option<Value>, NoMemory>
+    ensures { IfOk result (Finds (IsValueOf (lit_of literal.now))) }
+{
+    match literal {
+        Literal::Number(number) => Ok(Some(Value::int(*number))),
+        Literal::Str(text) => Ok(Some(Value::string(alloc, text.copy()?)?)),
+        Literal::Truth(truth) => Ok(Some(Value::boolean(*truth))),
+        Literal::Model(name) => Ok(Some(Value::model(alloc, name.copy()?)?)),
+        Literal::Set(members) => match member_values(alloc, members)? {
+            Some(values) => set_of(alloc, values),
+            None => Ok(None),
+        },
+    }
+}
+
+/// The values of the members, in their order, or none where one has none.
+#[cycle(value)]
+fn member_values(alloc: Global, members: &Literals) -> Result<Option<Vec<Value>>, NoMemory>
+    ensures { IfOk result (λ o. Finds (AreValuesOf (lits_of members.now)) (option_map (λ vs. vs.items) o)) }
+{
+    let mut values = Vec::with_capacity(alloc, members.len())?;
+    for member in members.items() {
+        match literal_value(alloc, member)? {
+            Some(value) => values.push(value)?,
+            None => return Ok(None),
+        }
+    }
+    Ok(Some(values))
+}
