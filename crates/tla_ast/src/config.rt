@@ -89,11 +89,11 @@ impl Literals {
     }
 }
 
-/// What a configuration gives for a name: its value, or the definition that replaces it.
+/// What a configuration gives for a name: its value, or the definition that replaces it, by its name and the place of that name.
 #[derive(Drop)]
 pub enum Given {
     Constant(Literal),
-    Replaced(Text),
+    Replaced(Text, Place),
 }
 
 /// A name, where it stands, and what is given for it.
