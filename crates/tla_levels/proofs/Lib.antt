@@ -1,0 +1,14 @@
+mod Adds
+mod Assumptions
+mod Below
+mod Conjuncts
+mod Fair
+mod Lists
+mod Marks
+mod Noted
+mod Order
+mod Shapes
+mod Texts
+mod Under
+mod Ways
+mod Weights

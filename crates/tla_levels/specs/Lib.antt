@@ -1,0 +1,13 @@
+pub mod Conjuncts
+pub mod Fairness
+pub mod Faults
+pub mod Findings
+pub mod Limits
+pub mod Marks
+pub mod Notes
+pub mod Parts
+pub mod Shape
+pub mod Slots
+pub mod Special
+pub mod Views
+pub mod Weights
