@@ -1,6 +1,0 @@
-use Rattle.std.proofs.Common.{◌≡◌, length}
-use Rattle.tla_levels.specs.Notes.{AreNotes}
-use Rattle.tla_levels.proofs.noting.notes.Given as goal
-
-abbrev pub invariant-loop-operator : goal.invariant-loop-operator
-invariant-loop-operator l = AreNotes l.table l.notes.items × (length l.notes.items ≡ l.operator-index)
