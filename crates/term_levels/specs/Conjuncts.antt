@@ -12,7 +12,7 @@ use Rattle.term_levels.specs.declared.gathering.Conjunct.TheVariants as conjunct
 use Rattle.term_levels.specs.declared.shape.Shape.{Shape}
 use Rattle.term_parts.specs.Limits.{is_above}
 use Rattle.term_parts.specs.Parts.{listed}
-use Rattle.term_levels.specs.Shape.{IsFair, Contribution, Gives, both_contributions, contribution}
+use Rattle.term_levels.specs.Shape.{rows, IsFair, Contribution, Gives, both_contributions, contribution}
 use Rattle.term_parts.specs.Slots.{MentionsBelow}
 
 -- the action of `[A]_v`
