@@ -229,12 +229,16 @@ fn choices(alloc: Global) -> Result<bool, AllocError> {
 
 fn nested(alloc: Global) -> Result<bool, AllocError> {
     let inside = TermNode::Parenthesized(one(alloc)?);
+    row(alloc, &inside, 1, None)
+}
+
+fn behind_let(alloc: Global) -> Result<bool, AllocError> {
     let behind = TermNode::Scoped(DefIds::new(alloc), one(alloc)?);
-    Ok(
-        row(alloc, &inside, 1, None)?
-            && row(alloc, &behind, 1, None)?
-            && row(alloc, &TermNode::Slot(0), 0, None)?,
-    )
+    row(alloc, &behind, 1, None)
+}
+
+fn without_parts(alloc: Global) -> Result<bool, AllocError> {
+    row(alloc, &TermNode::Slot(0), 0, None)
 }
 
 #[test]
@@ -252,6 +256,8 @@ fn each_row_has_its_parts_and_limits(rt: HostRuntime) {
     assert!(rt; changed(alloc) == Ok(true));
     assert!(rt; choices(alloc) == Ok(true));
     assert!(rt; nested(alloc) == Ok(true));
+    assert!(rt; behind_let(alloc) == Ok(true));
+    assert!(rt; without_parts(alloc) == Ok(true));
 }
 
 /// Which of the parts of `[A]_v` stand under a prime, and how many terms are on the stack with those of a list.
