@@ -135,7 +135,25 @@ fn through_calls(alloc: Global) -> Result<bool, AllocError> {
     Ok(free && says(alloc, &table, at_argument(50))?)
 }
 
-/// `UNCHANGED p` and `<<p>>_x`, each as the body of a definition that is called on a variable.
+/// `F(p) == p'` on a variable.
+fn direct(alloc: Global) -> Result<bool, AllocError> {
+    let mut table = Vec::new(alloc);
+    define(
+        alloc,
+        &mut table,
+        0,
+        primed(alloc, 12, slot(11, Level::Constant))?,
+    )?;
+    define(
+        alloc,
+        &mut table,
+        0,
+        called(alloc, 0, slot(50, Level::State))?,
+    )?;
+    says(alloc, &table, at_argument(50))
+}
+
+/// `UNCHANGED p` as the body of a definition that is called on a variable.
 fn unchanged(alloc: Global) -> Result<bool, AllocError> {
     let mut table = Vec::new(alloc);
     let operand = pack(alloc, slot(12, Level::Constant))?;
@@ -222,6 +240,7 @@ fn of_two(alloc: Global, col: u32, fault: Option<LevelFault>) -> Result<bool, Al
 #[test]
 fn the_first_fault_of_a_text_is_told(rt: HostRuntime) {
     let alloc = rt.alloc();
+    assert!(rt; direct(alloc) == Ok(true));
     assert!(rt; through_calls(alloc) == Ok(true));
     assert!(rt; unchanged(alloc) == Ok(true));
     assert!(rt; unused(alloc) == Ok(true));

@@ -1,4 +1,4 @@
--- For the prover: the terms that are read in a way of their own.
+-- The terms that are read in a way of their own: slots, uses of definitions, and LETs.
 use Rattle.std.specs.Prelude.{◌≡◌, ◌<◌, ℕ, Contains}
 use Rattle.tla_terms.specs.Terms as term
 use Rattle.tla_terms.specs.Terms.{Term, Meaning}
