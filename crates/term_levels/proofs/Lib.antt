@@ -1,0 +1,10 @@
+mod Adds
+mod Arguments
+mod Assumptions
+mod Conjuncts
+mod Fair
+mod Noted
+mod Order
+mod Shapes
+mod Texts
+mod Ways

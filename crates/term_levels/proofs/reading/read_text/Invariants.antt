@@ -1,0 +1,12 @@
+use Rattle.term_parts.specs.Waiting.{waiting}
+use Rattle.term_levels.specs.Findings.{IsOnTheWay}
+use Rattle.term_parts.specs.Parts.{part}
+use Rattle.term_parts.specs.Weights.{total}
+use Rattle.std.proofs.Common.{false, length}
+use Rattle.term_levels.proofs.reading.read_text.Given as goal
+
+abbrev pub invariant-loop-pending : goal.invariant-loop-pending
+invariant-loop-pending l = IsOnTheWay l.table (length l.notes) (part false l.term) (waiting l.stack.items) l.note
+
+abbrev pub decreases-loop-pending : goal.decreases-loop-pending
+decreases-loop-pending l = total (waiting l.stack.items)

@@ -1,0 +1,6 @@
+mod Below
+pub mod Contained
+pub mod Lists
+pub mod Marks
+pub mod Under
+pub mod Weights

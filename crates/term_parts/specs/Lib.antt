@@ -1,0 +1,9 @@
+pub mod Chains
+pub mod FaultOrder
+pub mod Limits
+pub mod Marks
+pub mod Parts
+pub mod Slots
+pub mod Special
+pub mod Waiting
+pub mod Weights
