@@ -1,0 +1,5 @@
+pub mod Finding
+pub mod Lists
+pub mod OrderLaws
+pub mod Walking
+pub mod Weighing
