@@ -197,7 +197,7 @@ task_within uses marks order task tasks s =
 
 module _ (uses : Table) (marks : List Mark) (order : List ℕ) (old : List Task) (a : ℕ) (used : List ℕ) (is : used ≡ used_by uses a) (tasks : List Task) (come : tasks ≡ (old ++ Leave a ∷ []) ++ map Enter used) where
   -- the next one first
-  turned : reverse tasks ≡ map Enter (reverse used) ++ Leave a ∷ reverse old
+  pub turned : reverse tasks ≡ map Enter (reverse used) ++ Leave a ∷ reverse old
   turned = ap reverse come ∙ reverse-append (old ++ Leave a ∷ []) (map Enter used) ∙ ap (λ (w : List Task). w ++ reverse (old ++ Leave a ∷ [])) (reverse-map Enter used)
       ∙ ap (λ (w : List Task). map Enter (reverse used) ++ w) (reverse-push old (Leave a))
 

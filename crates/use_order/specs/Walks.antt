@@ -1,11 +1,11 @@
 -- For the prover: the walk through the definitions while their order is built.
-use Rattle.std.specs.Prelude.{◌≡◌, ◌≢◌, ◌⊎◌, ℕ, ◌+◌, ◌<◌, Bool, true, false, List, [], ◌∷◌, length, map, AllPairs, Contains}
-use Rattle.std.specs.List.{slice_index_or}
+use Rattle.std.specs.Prelude.{◌≡◌, ◌≢◌, ◌⊎◌, ℕ, ◌+◌, ◌-◌, ◌<◌, Bool, true, false, List, [], ◌∷◌, ◌++◌, length, map, AllPairs, Contains}
+use Rattle.std.specs.List.{slice_index_or, range_with_len}
 use Rattle.use_order.specs.declared.walk.Mark.{Mark}
 use Rattle.use_order.specs.declared.walk.Mark.TheVariants.{New, Open, Done}
 use Rattle.use_order.specs.declared.walk.Task.{Task}
 use Rattle.use_order.specs.declared.walk.Task.TheVariants.{Enter, Leave}
-use Rattle.use_order.specs.Uses.{Table, Uses, Leads}
+use Rattle.use_order.specs.Uses.{Table, Uses, Leads, numbers_below}
 use Rattle.use_order.specs.Weights.{weight}
 
 abbrev pub number_of : Task → ℕ
@@ -65,3 +65,13 @@ is_new Done = false
 -- how many tasks are still to be taken, at most
 abbrev pub left_to_take : Table → List Mark → List Task → ℕ
 left_to_take uses marks tasks = length tasks + weight is_new marks uses
+
+-- the definitions from the k-th of n on are to be entered
+abbrev pub tasks_from : ℕ → ℕ → List Task
+tasks_from n k = map Enter (range_with_len k (n - k))
+
+-- The walk through n definitions that stand in order already: those below the k-th are done, and it is to be entered, or it
+-- is open and some of those below are to be entered.
+abbrev pub InTurn : ℕ → List ℕ → List Task → Type 0
+InTurn n order tasks = (k : ℕ) × (order ≡ numbers_below k)
+    × ((tasks ≡ tasks_from n k) ⊎ ((xs : List ℕ) × ((b : ℕ) → Contains xs b → b < k) × (tasks ≡ map Enter xs ++ Leave k ∷ tasks_from n (k + 1))))

@@ -1,6 +1,6 @@
-ghost use Rattle.std.specs.Prelude.{◌≡◌, ◌∷◌, ◌++◌, [], ◌<◌, ◌≤◌, ◌↔◌, IfOk, IsNone, MatchOption, OnOk, length, map, reverse, slice_set, MatchBool};
-ghost use Rattle.use_order.specs.Uses.{IsOrder, IsWithin, SomeUsesItself, table_of};
-ghost use Rattle.use_order.specs.Walks.{Stands, left_to_take, number_of};
+ghost use Rattle.std.specs.Prelude.{◌≡◌, ◌∷◌, ◌++◌, [], ◌<◌, ◌≤◌, ◌↔◌, IfOk, IsNone, IsSomeAnd, MatchOption, OnOk, length, map, reverse, slice_set, MatchBool};
+ghost use Rattle.use_order.specs.Uses.{AreInOrder, IsOrder, IsWithin, SomeUsesItself, numbers_below, table_of};
+ghost use Rattle.use_order.specs.Walks.{InTurn, Stands, left_to_take};
 
 use crate::table::used_of;
 use std::alloc::{AllocError, Global};
@@ -39,6 +39,7 @@ pub fn order(alloc: Global, uses: &[Vec<usize>]) -> Result<Option<Vec<usize>>, N
     requires within { IsWithin (table_of uses.now) }
     ensures ordered { IfOk result (λ found. MatchOption found (SomeUsesItself (table_of uses.now)) (λ order. IsOrder (table_of uses.now) order.items)) }
     ensures exact { IfOk result (λ found. IsNone found ↔ SomeUsesItself (table_of uses.now)) }
+    ensures kept { IfOk result (λ found. AreInOrder (table_of uses.now) → IsSomeAnd found (λ order. order.items ≡ numbers_below (length uses.now))) }
 {
     let mut walk = begin(alloc, uses)?;
     while let Some(task) = walk.tasks.pop() {
@@ -51,7 +52,8 @@ pub fn order(alloc: Global, uses: &[Vec<usize>]) -> Result<Option<Vec<usize>>, N
 
 /// Each definition is to be entered, the first one next.
 fn begin(alloc: Global, uses: &[Vec<usize>]) -> Result<Walk, AllocError>
-    ensures { IfOk result (λ walk. Stands (table_of uses.now) walk.marks.items walk.order.items (reverse walk.tasks.items)) }
+    ensures stands { IfOk result (λ walk. Stands (table_of uses.now) walk.marks.items walk.order.items (reverse walk.tasks.items)) }
+    ensures in_turn { IfOk result (λ walk. InTurn (length uses.now) walk.order.items (reverse walk.tasks.items)) }
 {
     let marks = vec![in alloc; Mark::New; uses.len()]?;
     let mut tasks = Vec::new(alloc);
@@ -70,6 +72,7 @@ fn step(walk: &mut Walk, uses: &[Vec<usize>], task: Task) -> Result<bool, AllocE
     requires within { IsWithin (table_of uses.now) }
     requires stands { Stands (table_of uses.now) walk.old.marks.items walk.old.order.items (task ∷ reverse walk.old.tasks.items) }
     ensures stands { IfOk result (λ back. MatchBool back (SomeUsesItself (table_of uses.now)) (Stands (table_of uses.now) walk.new.marks.items walk.new.order.items (reverse walk.new.tasks.items))) }
+    ensures in_turn { OnOk result (AreInOrder (table_of uses.now) → InTurn (length uses.now) walk.old.order.items (task ∷ reverse walk.old.tasks.items) → InTurn (length uses.now) walk.new.order.items (reverse walk.new.tasks.items)) }
     ensures falls { OnOk result (left_to_take (table_of uses.now) walk.new.marks.items walk.new.tasks.items ≤ left_to_take (table_of uses.now) walk.old.marks.items walk.old.tasks.items) }
 {
     match task {
