@@ -1,9 +1,9 @@
 -- Each number that is taken keeps what is reached.
-use Rattle.std.proofs.Common.{◌≡◌, ◌≢◌, ◌⊎◌, inl, inr, ℕ, ◌<◌, Bool, true, false, List, [], ◌∷◌, ◌++◌, length, replicate, get_or, set, ap, sym, ◌∙◌, subst, refl, arith, get_or-set_same, get_or-set_other, length-append}
+use Rattle.std.proofs.Common.{◌≡◌, ◌⊎◌, inl, inr, ℕ, ◌<◌, Bool, true, false, List, [], ◌∷◌, ◌++◌, length, replicate, get_or, set, ap, sym, ◌∙◌, subst, refl, arith, get_or-set_same, get_or-set_other, length-append}
 use Rattle.std.specs.List.{Contains}
 use Rattle.std.proofs.lemmas.List.{length-set, length-replicate, get_or-replicate, get_or_past}
 use Rattle.std.proofs.lemmas.List.Elements.{Contains-append_left, Contains-append_right, Contains-append_cases, Contains-push, Contains-push_cases}
-use Rattle.use_order.specs.Uses.{Table, Uses, used_by, Leads, IsWithin, UsesItself}
+use Rattle.use_order.specs.Uses.{Table, Uses, used_by, Leads, IsWithin}
 use Rattle.use_order.specs.Uses.Leads.{direct, through}
 use Rattle.use_order.specs.Reaching.{IsReached, Reaches, is_not, left_to_reach}
 use Rattle.use_order.proofs.Lists.{same_or_not, within_or_past, none_in}
@@ -47,7 +47,7 @@ module _ (uses : Table) (definition : ℕ) (inside : IsWithin uses) where
     reached_led = λ a h. absurd (none a h);
     waiting_led = λ a h. direct definition a h;
     first = λ a u. inr u;
-    closed = λ a b h u. absurd (none a h)
+    closed = λ a b h u. absurd (none a h);
   }
 
   pub begins : (n : ℕ) (reached : List Bool) (waiting : List ℕ) → n ≡ length uses → reached ≡ replicate n false → waiting ≡ used_by uses definition → Reaches uses definition reached waiting
@@ -72,7 +72,7 @@ module _ (uses : Table) (definition : ℕ) (inside : IsWithin uses) where
           reached_led = r.reached_led;
           waiting_led = λ b h. r.waiting_led b (Contains-append_left waiting (a ∷ []) b h);
           first = λ b u. less b (r.first b u);
-          closed = λ b c h u. less c (r.closed b c h u)
+          closed = λ b c h u. less c (r.closed b c h u);
         }
 
     -- what it uses waits, and it is reached
@@ -94,7 +94,7 @@ module _ (uses : Table) (definition : ℕ) (inside : IsWithin uses) where
           closed = λ b c h u. elim (was_reached reached a b h) [
             | inl g ↦ more c (r.closed b c g u)
             | inr e ↦ inr (Contains-append_right waiting used c (subst (λ (w : ℕ). Uses uses w c) (sym e) u))
-          ]
+          ];
         }
 
   module _ (reached : List Bool) (r : Reaches uses definition reached []) where

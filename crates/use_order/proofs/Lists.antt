@@ -1,7 +1,7 @@
 -- Elements of lists, one after another, and from the back.
-use Rattle.std.proofs.Common.{◌≡◌, ◌≢◌, ◌⊎◌, inl, inr, ℕ, zero, suc, ◌+◌, ◌<◌, ◌≤◌, List, [], ◌∷◌, ◌++◌, length, map, reverse, get_or, ap, sym, ◌∙◌, subst, refl, arith, append_assoc, length-append}
+use Rattle.std.proofs.Common.{◌≡◌, ◌≢◌, ◌⊎◌, inl, inr, ℕ, zero, suc, ◌<◌, ◌≤◌, List, [], ◌∷◌, ◌++◌, length, map, reverse, ap, sym, ◌∙◌, subst, refl, arith, length-append}
 use Rattle.std.specs.List.{Contains, AllPairs, range_with_len}
-use Rattle.std.proofs.lemmas.List.{reverse-append, get_or_past}
+use Rattle.std.proofs.lemmas.List.{reverse-append}
 use Rattle.std.proofs.lemmas.List.Elements.{Contains-append_left, Contains-append_right, Contains-append_cases, Contains-push}
 use Rattle.std.proofs.lemmas.List.FromFn.{length-range_with_len, get_or-range_with_len}
 
@@ -53,13 +53,13 @@ module _ {X : Type 0} where
   no_more (x ∷ xs) ys once among =
       let cut = cut_at ys x (among x (head_in x xs)) in
       let others : (v : X) → Contains xs v → Contains (cut.0 ++ cut.1) v = λ v h.
-        elim (Contains-append_cases cut.0 (x ∷ cut.1) v (subst (λ (w : List X). Contains w v) cut.2 (among v (tail_in x xs v h)))) [
-          | inl a ↦ Contains-append_left cut.0 cut.1 v a
-          | inr b ↦ elim (cons_cases x cut.1 v b) [
-            | inl e ↦ absurd (earlier (λ a b. a ≢ b) x xs v once h e)
-            | inr g ↦ Contains-append_right cut.0 cut.1 v g
-          ]
-        ] in
+      elim (Contains-append_cases cut.0 (x ∷ cut.1) v (subst (λ (w : List X). Contains w v) cut.2 (among v (tail_in x xs v h)))) [
+        | inl a ↦ Contains-append_left cut.0 cut.1 v a
+        | inr b ↦ elim (cons_cases x cut.1 v b) [
+          | inl e ↦ absurd (earlier (λ a b. a ≢ b) x xs v once h e)
+          | inr g ↦ Contains-append_right cut.0 cut.1 v g
+        ]
+      ] in
       let fewer : length xs ≤ length (cut.0 ++ cut.1) = no_more xs (cut.0 ++ cut.1) (of_rest (λ a b. a ≢ b) x xs once) others in
       omega (arith, fewer, length-append cut.0 cut.1, length-append cut.0 (x ∷ cut.1), ap length cut.2)
 

@@ -1,10 +1,10 @@
 -- Where there is an order, no definition uses itself, and all are in the order.
-use Rattle.std.proofs.Common.{◌≡◌, ◌≢◌, ◌⊎◌, inl, inr, ℕ, ◌<◌, ◌≤◌, List, [], ◌∷◌, ◌++◌, length, ap, sym, ◌∙◌, subst, refl, arith, append_assoc}
+use Rattle.std.proofs.Common.{◌≡◌, ◌≢◌, inl, inr, ℕ, ◌<◌, ◌≤◌, List, [], ◌∷◌, ◌++◌, length, ap, sym, ◌∙◌, subst, arith, append_assoc}
 use Rattle.std.specs.List.{Contains, AllPairs, range_with_len}
 use Rattle.std.proofs.lemmas.List.{get_or_past}
 use Rattle.std.proofs.lemmas.List.Elements.{Contains-append_left}
 use Rattle.std.proofs.lemmas.List.FromFn.{length-range_with_len}
-use Rattle.use_order.specs.Uses.{Table, Uses, used_by, Leads, IsOrder, NoneUsesItself, HasAll}
+use Rattle.use_order.specs.Uses.{Table, Uses, Leads, IsOrder, NoneUsesItself, HasAll}
 use Rattle.use_order.specs.Uses.Leads.{direct, through}
 use Rattle.use_order.proofs.Lists.{within_or_past, none_in, cut_at, not_twice, no_more, below_in, in_below, below_once}
 

@@ -1,12 +1,12 @@
 -- Definitions that stand in order already are taken in turn.
-use Rattle.std.proofs.Common.{◌≡◌, ◌≢◌, ◌⊎◌, inl, inr, ℕ, zero, suc, ◌+◌, ◌-◌, ◌<◌, ◌≤◌, List, [], ◌∷◌, ◌++◌, length, map, reverse, get_or, ap, sym, ◌∙◌, subst, refl, arith}
+use Rattle.std.proofs.Common.{◌≡◌, inl, inr, ℕ, zero, suc, ◌+◌, ◌-◌, ◌<◌, ◌≤◌, List, [], ◌∷◌, ◌++◌, length, map, reverse, get_or, ap, sym, ◌∙◌, subst, refl, arith}
 use Rattle.std.specs.List.{Contains, range_with_len}
 use Rattle.std.proofs.lemmas.List.FromFn.{length-range_with_len}
 use Rattle.use_order.specs.declared.walk.Mark.{Mark}
-use Rattle.use_order.specs.declared.walk.Mark.TheVariants.{New, Open, Done}
+use Rattle.use_order.specs.declared.walk.Mark.TheVariants.{New, Done}
 use Rattle.use_order.specs.declared.walk.Task.{Task}
 use Rattle.use_order.specs.declared.walk.Task.TheVariants.{Enter, Leave}
-use Rattle.use_order.specs.Uses.{Table, Uses, used_by, Leads, AreInOrder, IsOrder, SomeUsesItself, numbers_below}
+use Rattle.use_order.specs.Uses.{Table, used_by, Leads, AreInOrder, IsOrder, SomeUsesItself, numbers_below}
 use Rattle.use_order.specs.Uses.Leads.{direct, through}
 use Rattle.use_order.specs.Walks.{InTurn, Stands, Tells, open_in, tasks_from}
 use Rattle.use_order.proofs.Lists.{head_in, tail_in, below_in, in_below, reversed_in}
@@ -61,9 +61,15 @@ module _ (n : ℕ) (order : List ℕ) (tasks : List Task) (a : ℕ) where
   -- one that is not is opened
   pub turns_in : (Contains order a → ⊥) → (xs : List ℕ) → ((b : ℕ) → Contains xs b → b < a) → InTurn n order (Enter a ∷ tasks) → InTurn n order (map Enter xs ++ Leave a ∷ tasks)
   turns_in fresh xs down (k, f, inl e) =
-      let next = entering_next n k a tasks e in
-      (k, f, inr (xs, λ b g. subst (λ (w : ℕ). b < w) next.0 (down b g),
-        ap (λ (w : ℕ). map Enter xs ++ Leave w ∷ tasks) next.0 ∙ ap (λ (w : List Task). map Enter xs ++ Leave k ∷ w) next.1))
+      let next = entering_next n k a tasks e in (
+        k,
+        f,
+        inr (
+          xs,
+          λ b g. subst (λ (w : ℕ). b < w) next.0 (down b g),
+          ap (λ (w : ℕ). map Enter xs ++ Leave w ∷ tasks) next.0 ∙ ap (λ (w : List Task). map Enter xs ++ Leave k ∷ w) next.1,
+        ),
+      )
   turns_in fresh xs down (k, f, inr ([], low, e)) = cc
   turns_in fresh xs down (k, f, inr (y ∷ ys, low, e)) =
       let same : y ≡ a = cc in

@@ -1,6 +1,6 @@
 -- Each task keeps what stands in the walk.
-use Rattle.std.proofs.Common.{◌≡◌, ◌≢◌, ◌⊎◌, inl, inr, ℕ, zero, suc, ◌+◌, ◌-◌, ◌<◌, ◌≤◌, List, [], ◌∷◌, ◌++◌, length, map, reverse, replicate, get_or, length-append, set, ap, sym, ◌∙◌, subst, refl, arith, get_or-set_same, get_or-set_other}
-use Rattle.std.specs.List.{Contains, AllPairs, range_with_len}
+use Rattle.std.proofs.Common.{◌≡◌, ◌≢◌, ◌⊎◌, inl, inr, ℕ, suc, ◌+◌, ◌-◌, ◌<◌, ◌≤◌, List, [], ◌∷◌, ◌++◌, length, map, reverse, replicate, get_or, length-append, set, ap, sym, ◌∙◌, subst, refl, arith, get_or-set_same, get_or-set_other}
+use Rattle.std.specs.List.{Contains, range_with_len}
 use Rattle.std.proofs.lemmas.List.{length-set, length-map, length-replicate, get_or-replicate, get_or_past, reverse-append}
 use Rattle.std.proofs.lemmas.List.Elements.{Contains-append_left, Contains-append_right, Contains-append_cases, Contains-push, Contains-push_cases, Contains-get_or}
 use Rattle.std.proofs.lemmas.List.Quantifiers.{all_pairs_push}
@@ -9,7 +9,7 @@ use Rattle.use_order.specs.declared.walk.Mark.TheVariants.{New, Open, Done}
 use Rattle.use_order.specs.declared.walk.Task.{Task}
 use Rattle.use_order.specs.declared.walk.Task.TheVariants.{Enter, Leave}
 use Rattle.use_order.specs.Uses.{Table, Uses, used_by, Leads, IsWithin, IsOrder, SomeUsesItself}
-use Rattle.use_order.specs.Uses.Leads.{direct, through}
+use Rattle.use_order.specs.Uses.Leads.{direct}
 use Rattle.use_order.specs.Walks.{number_of, open_in, Tells, AreOnce, Closed, Waits, Led, Stands, is_new, left_to_take}
 use Rattle.use_order.proofs.Lists.{same_or_not, within_or_past, cons_cases, head_in, tail_in, none_in, nil_of, below_in, in_below, reverse-push, reverse-map, reversed_in, in_reversed}
 use Rattle.use_order.proofs.OrderLaws.{leads_on}
@@ -35,10 +35,13 @@ module _ (uses : Table) where
 
   closed_push : (order : List ℕ) (P : ℕ → Type 0) (a : ℕ) → Closed uses P order → ((b : ℕ) → Uses uses a b → P b ⊎ Contains order b) → Closed uses P (order ++ a ∷ [])
   closed_push [] P a c f = (λ b u. elim (f b u) [ inl p ↦ p | inr h ↦ absurd (none_in b h) ], tt)
-  closed_push (x ∷ xs) P a c f = (c.0, closed_push xs (λ b. P b ⊎ (x ≡ b)) a c.1 (λ b u. elim (f b u) [
-    | inl p ↦ inl (inl p)
-    | inr h ↦ elim (cons_cases x xs b h) [ inl e ↦ inl (inr e) | inr g ↦ inr g ]
-  ]))
+  closed_push (x ∷ xs) P a c f = (
+    c.0,
+    closed_push xs (λ b. P b ⊎ (x ≡ b)) a c.1 (λ b u. elim (f b u) [
+      | inl p ↦ inl (inl p)
+      | inr h ↦ elim (cons_cases x xs b h) [ inl e ↦ inl (inr e) | inr g ↦ inr g ]
+    ]),
+  )
 
   closed_cut : (order before after : List ℕ) (P : ℕ → Type 0) (a b : ℕ) → Closed uses P order → order ≡ before ++ a ∷ after → Uses uses a b → P b ⊎ Contains before b
   closed_cut [] [] after P a b c e u = cc
@@ -62,11 +65,13 @@ module _ (uses : Table) where
 
   led_entering : (xs : List ℕ) (a : ℕ) (tasks : List Task) → ((b : ℕ) → Contains xs b → Uses uses a b) → Led uses (Leave a ∷ tasks) → Led uses (map Enter xs ++ Leave a ∷ tasks)
   led_entering [] a tasks f l = l
-  led_entering (x ∷ xs) a tasks f l =
-      (λ c h. elim (cons_cases a (open_in tasks) c (subst (λ (w : List ℕ). Contains w c) (open_entering xs (Leave a ∷ tasks)) h)) [
-        | inl e ↦ subst (λ (w : ℕ). Leads uses w x) e (direct a x (f x (head_in x xs)))
-        | inr g ↦ leads_on uses c a (l.0 c g) x (f x (head_in x xs))
-      ], led_entering xs a tasks (λ b h. f b (tail_in x xs b h)) l)
+  led_entering (x ∷ xs) a tasks f l = (
+    λ c h. elim (cons_cases a (open_in tasks) c (subst (λ (w : List ℕ). Contains w c) (open_entering xs (Leave a ∷ tasks)) h)) [
+      | inl e ↦ subst (λ (w : ℕ). Leads uses w x) e (direct a x (f x (head_in x xs)))
+      | inr g ↦ leads_on uses c a (l.0 c g) x (f x (head_in x xs))
+    ],
+    led_entering xs a tasks (λ b h. f b (tail_in x xs b h)) l,
+  )
 
 -- another definition's mark tells the same when a is opened
 tells_opened : (order path : List ℕ) (a x : ℕ) → x ≢ a → (m : Mark) → Tells order path x m → Tells order (a ∷ path) x m
@@ -104,7 +109,7 @@ module _ (uses : Table) (marks : List Mark) (order : List ℕ) (tasks : List Tas
         all = λ x l. elim (s.all x l) [
           | inl h ↦ inl h
           | inr h ↦ elim (cons_cases a (map number_of tasks) x h) [ inl q ↦ inl (here x q) | inr g ↦ inr g ]
-        ]
+        ];
       }
 
   -- one that is open uses itself
@@ -132,14 +137,14 @@ module _ (uses : Table) (marks : List Mark) (order : List ℕ) (tasks : List Tas
         once = all_pairs_push (λ x y. x ≢ y) order a s.once (λ k d l e. fresh (subst (λ (w : ℕ). Contains order w) e (Contains-get_or order k d l)));
         closed = closed_push uses order (λ _. ⊥) a s.closed (λ b u. inr (s.waits.0 b u));
         waits = waits_more uses tasks (λ x. Contains order x ⊎ (a ≡ x)) (λ x. Contains (order ++ a ∷ []) x)
-          (λ x h. elim h [ inl p ↦ Contains-append_left order (a ∷ []) x p | inr q ↦ here x q ]) s.waits.1;
+            (λ x h. elim h [ inl p ↦ Contains-append_left order (a ∷ []) x p | inr q ↦ here x q ]) s.waits.1;
         led = s.led.1;
         tasks_within = λ x h. s.tasks_within x (tail_in a (map number_of tasks) x h);
         order_within = λ x h. elim (Contains-push_cases order a x h) [ inl g ↦ s.order_within x g | inr q ↦ subst (λ (w : ℕ). w < length uses) q small ];
         all = λ x l. elim (s.all x l) [
           | inl h ↦ inl (Contains-append_left order (a ∷ []) x h)
           | inr h ↦ elim (cons_cases a (map number_of tasks) x h) [ inl q ↦ inl (here x q) | inr g ↦ inr g ]
-        ]
+        ];
       }
 
   pub enters : Stands uses marks order (Enter a ∷ tasks) → get_or marks a New ≡ New → IsWithin uses → (xs : List ℕ) → ((b : ℕ) → Contains xs b → Uses uses a b) → ((b : ℕ) → Uses uses a b → Contains xs b)
@@ -165,7 +170,7 @@ module _ (uses : Table) (marks : List Mark) (order : List ℕ) (tasks : List Tas
         once = s.once;
         closed = s.closed;
         waits = waits_entering uses xs (λ b. Contains order b) (Leave a ∷ tasks)
-          (λ b u. inr (listed b u), waits_more uses tasks (λ x. Contains order x ⊎ (a ≡ x)) (λ x. (Contains order x ⊎ Contains xs x) ⊎ (a ≡ x)) (λ x. either inl) s.waits);
+            (λ b u. inr (listed b u), waits_more uses tasks (λ x. Contains order x ⊎ (a ≡ x)) (λ x. (Contains order x ⊎ Contains xs x) ⊎ (a ≡ x)) (λ x. either inl) s.waits);
         led = led_entering uses xs a tasks used s.led;
         tasks_within = λ x h. elim (Contains-append_cases xs (a ∷ later) x (subst (λ (w : List ℕ). Contains w x) numbers h)) [
           | inl g ↦ inside a x (used x g)
@@ -175,7 +180,7 @@ module _ (uses : Table) (marks : List Mark) (order : List ℕ) (tasks : List Tas
         all = λ x l. elim (s.all x l) [
           | inl h ↦ inl h
           | inr h ↦ inr (subst (λ (w : List ℕ). Contains w x) (sym numbers) (Contains-append_right xs (a ∷ later) x h))
-        ]
+        ];
       }
 
 -- with no task left, the order is whole
@@ -183,7 +188,7 @@ pub whole : (uses : Table) (marks : List Mark) (order : List ℕ) → Stands use
 whole uses marks order s = record {
   all = λ a. (λ l. elim (s.all a l) [ inl h ↦ h | inr h ↦ absurd (none_in a h) ], s.order_within a);
   once = s.once;
-  used_before = λ a b before after e u. elim (closed_cut uses order before after (λ _. ⊥) a b s.closed e u) [ inl h ↦ absurd h | inr h ↦ h ]
+  used_before = λ a b before after e u. elim (closed_cut uses order before after (λ _. ⊥) a b s.closed e u) [ inl h ↦ absurd h | inr h ↦ h ];
 }
 
 -- with no task left, the order is whole
@@ -215,7 +220,7 @@ module _ (uses : Table) (marks : List Mark) (order : List ℕ) (old : List Task)
   enter_falls sizes small e opened f =
       let falls = weight_falls is_new marks uses a Open New (ap is_new e) refl small sizes in
       let here : left_to_take uses (set marks a Open) tasks ≤ left_to_take uses marks old =
-        omega (arith, falls, ap length come, ap length is, length-append (old ++ Leave a ∷ []) (map Enter used), length-append old (Leave a ∷ []), length-map used Enter) in
+      omega (arith, falls, ap length come, ap length is, length-append (old ++ Leave a ∷ []) (map Enter used), length-append old (Leave a ∷ []), length-map used Enter) in
       subst (λ (w : List Mark). left_to_take uses w tasks ≤ left_to_take uses marks old) (sym f) here
 
 module _ (uses : Table) (marks : List Mark) (order : List ℕ) (old : List Task) (a : ℕ) (left : List Mark) (longer : List ℕ) (tasks : List Task)
@@ -267,7 +272,7 @@ at_first uses n e =
       led = first_led uses xs;
       tasks_within = λ a h. let l : a < n = in_below n a (subst (λ (w : List ℕ). Contains w a) (numbers_of_first xs) h) in omega (arith, l, e);
       order_within = λ a h. absurd (none_in a h);
-      all = λ a l. inr (subst (λ (w : List ℕ). Contains w a) (sym (numbers_of_first xs)) (below_in n a (omega (arith, l, e))))
+      all = λ a l. inr (subst (λ (w : List ℕ). Contains w a) (sym (numbers_of_first xs)) (below_in n a (omega (arith, l, e))));
     }
 
 pub begun : (uses : Table) (n d : ℕ) (marks : List Mark) (order : List ℕ) (tasks : List Task) → n ≡ length uses → d ≤ 0 → marks ≡ replicate n New → order ≡ []
@@ -286,5 +291,5 @@ one_before d n p q old new e f =
     let more : n - (d - 1) ≡ suc (n - d) = omega (arith, p, q) in
     let next : (d - 1) + 1 ≡ d = omega (arith, p) in
     let longer : range_with_len (d - 1) (n - (d - 1)) ≡ (d - 1) ∷ range_with_len d (n - d) =
-      ap (λ (w : ℕ). range_with_len (d - 1) w) more ∙ ap (λ (w : ℕ). (d - 1) ∷ range_with_len w (n - d)) next in
+    ap (λ (w : ℕ). range_with_len (d - 1) w) more ∙ ap (λ (w : ℕ). (d - 1) ∷ range_with_len w (n - d)) next in
     ap reverse f ∙ reverse-push old (Enter (d - 1)) ∙ ap (λ (w : List Task). Enter (d - 1) ∷ w) e ∙ sym (ap (map Enter) longer)

@@ -1,5 +1,5 @@
 -- Which definitions use which, and in which orders they may be resolved. Definitions have numbers from 0.
-use Rattle.std.specs.Prelude.{◌≡◌, ◌≢◌, ℕ, ◌+◌, ◌<◌, ◌↔◌, List, [], ◌∷◌, ◌++◌, length, map, AllPairs, Contains, Option, Vec, MatchOption}
+use Rattle.std.specs.Prelude.{◌≡◌, ◌≢◌, ℕ, ◌<◌, ◌↔◌, List, [], ◌∷◌, ◌++◌, length, map, AllPairs, Contains, Vec}
 use Rattle.std.specs.List.{slice_index_or, range_with_len}
 use Rattle.std.specs.declared.alloc.Global.{Global}
 

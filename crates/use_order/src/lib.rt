@@ -10,3 +10,5 @@ pub use laws::order_laws;
 pub use reach::uses_itself;
 pub use walk::order;
 
+#[cfg(test)]
+mod tests;

@@ -6,11 +6,7 @@ use std::alloc::{AllocError, Global};
 use trace_base::NoMemory;
 
 /// Whether the definition uses itself, directly or through others. A number of no definition uses nothing.
-pub fn uses_itself(
-    alloc: Global,
-    uses: &[Vec<usize>],
-    definition: usize,
-) -> Result<bool, NoMemory>
+pub fn uses_itself(alloc: Global, uses: &[Vec<usize>], definition: usize) -> Result<bool, NoMemory>
     requires within { IsWithin (table_of uses.now) }
     ensures { IfOk result (λ found. IsTrue found ↔ UsesItself (table_of uses.now) definition) }
 {

@@ -7,7 +7,7 @@ use std::alloc::{AllocError, Global};
 use trace_base::NoMemory;
 
 /// How far the walk is with a definition.
-#[derive(Clone, Copy, Debug)]
+#[derive(Clone, Copy)]
 enum Mark {
     /// It was not entered.
     New,
@@ -18,7 +18,7 @@ enum Mark {
 }
 
 /// What is to be done with a definition.
-#[derive(Clone, Copy, Debug)]
+#[derive(Clone, Copy)]
 enum Task {
     /// What it uses is to be entered, and then it is to be left.
     Enter(usize),

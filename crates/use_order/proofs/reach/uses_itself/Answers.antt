@@ -1,4 +1,4 @@
-use Rattle.std.proofs.Common.{◌≡◌, ◌<◌, ◌++◌, ℕ, Bool, true, false, List, [], ◌∷◌, length, replicate, get_or, set, ap, sym, ◌∙◌, subst, refl, arith}
+use Rattle.std.proofs.Common.{◌≡◌, ◌<◌, ◌++◌, ℕ, true, false, List, length, replicate, get_or, set, ap, sym, ◌∙◌, subst, refl, arith}
 use Rattle.std.proofs.lemmas.List.{length-map, get_or_read_under}
 use Rattle.use_order.specs.Uses.{used_by, table_of}
 use Rattle.use_order.specs.Reaching.{IsReached, Reaches}
@@ -12,7 +12,7 @@ loop-next-init c =
     let n = length c.args.uses.now in
     let filled : c.in_ok-reached.reached.items ≡ replicate n false = c.in_ok-reached.ensures.items_if_clones_equal (λ y h. h) in
     let waits : c.extend_from_slice.new.self.items ≡ used_by uses c.args.definition =
-      c.in_ok-extend_from_slice.ensures.items ∙ ap (λ (w : List ℕ). w ++ c.used_of.result.now) c.new-waiting.ensures.items ∙ c.used_of.ensures in
+    c.in_ok-extend_from_slice.ensures.items ∙ ap (λ (w : List ℕ). w ++ c.used_of.result.now) c.new-waiting.ensures.items ∙ c.used_of.ensures in
     begins uses c.args.definition c.requires.within n c.in_ok-reached.reached.items c.extend_from_slice.new.self.items (sym (length-map c.args.uses.now (λ v. v.items))) filled waits
 
 pub index-requires : goal.index-requires
@@ -45,7 +45,7 @@ loop-next-smaller-in-Continue-branch-3 c =
     let small : a < length reached = omega (arith, taken_within uses c.args.definition c.requires.within reached c.pop.new.self.items a r, r.sizes) in
     let fresh : get_or reached a false ≡ false = sym (get_or_read_under reached a (length reached) c.index.result.now false c.index.ensures small refl) ∙ c.if-not-index.true in
     let waits : c.extend_from_slice-then-not-index.new.self.items ≡ c.pop.new.self.items ++ used_by uses a =
-      c.in_ok-extend_from_slice-2.ensures.items ∙ ap (λ (w : List ℕ). c.pop.new.self.items ++ w) c.used_of-then-not-index.ensures in
+    c.in_ok-extend_from_slice-2.ensures.items ∙ ap (λ (w : List ℕ). c.pop.new.self.items ++ w) c.used_of-then-not-index.ensures in
     fewer_to_reach uses reached c.pop.new.self.items c.loop-next.waiting.items c.extend_from_slice-then-not-index.new.self.items a r.sizes small fresh c.in-Some.ensures.items waits
 
 pub loop-next-preserved-in-Continue-branch-3 : goal.loop-next-preserved-in-Continue-branch-3
@@ -55,7 +55,7 @@ loop-next-preserved-in-Continue-branch-3 c =
     let a = c.in-Some.next in
     let r = subst (λ (w : List ℕ). Reaches uses c.args.definition reached w) c.in-Some.ensures.items c.loop-next.invariant in
     let waits : c.extend_from_slice-then-not-index.new.self.items ≡ c.pop.new.self.items ++ used_by uses a =
-      c.in_ok-extend_from_slice-2.ensures.items ∙ ap (λ (w : List ℕ). c.pop.new.self.items ++ w) c.used_of-then-not-index.ensures in
+    c.in_ok-extend_from_slice-2.ensures.items ∙ ap (λ (w : List ℕ). c.pop.new.self.items ++ w) c.used_of-then-not-index.ensures in
     subst (λ (w : List ℕ). Reaches uses c.args.definition (set reached a true) w) (sym waits) (reaches uses c.args.definition c.requires.within reached c.pop.new.self.items a r)
 
 pub loop-next-preserved : goal.loop-next-preserved

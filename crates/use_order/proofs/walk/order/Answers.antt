@@ -1,4 +1,4 @@
-use Rattle.std.proofs.Common.{◌≡◌, ◌∷◌, true, false, Bool, List, length, reverse, ap, sym, ◌∙◌, subst, arith}
+use Rattle.std.proofs.Common.{◌≡◌, ◌∷◌, Bool, List, length, reverse, ap, sym, ◌∙◌, subst, arith}
 use Rattle.std.proofs.lemmas.List.{length-map}
 use Rattle.std.specs.Bool.{MatchBool}
 use Rattle.use_order.specs.declared.walk.Task.{Task}
@@ -37,7 +37,7 @@ returns-then-branch-clause-kept c =
     let uses = table_of c.args.uses.now in
     let walk = c.step.new.walk in
     let back : SomeUsesItself uses =
-      subst (λ (b : Bool). MatchBool b (SomeUsesItself uses) (Stands uses walk.marks.items walk.order.items (reverse walk.tasks.items))) c.if-branch.true c.in_ok-step.ensures.stands in
+    subst (λ (b : Bool). MatchBool b (SomeUsesItself uses) (Stands uses walk.marks.items walk.order.items (reverse walk.tasks.items))) c.if-branch.true c.in_ok-step.ensures.stands in
     λ up. none_in_order uses up back
 
 pub loop-task-preserved : goal.loop-task-preserved
@@ -47,5 +47,5 @@ loop-task-preserved c =
     let popped : reverse c.loop-task.walk.tasks.items ≡ c.in-Some.task ∷ reverse c.pop.new.self.items = ap reverse c.in-Some.ensures.items ∙ reverse-push c.pop.new.self.items c.in-Some.task in
     record {
       stands = subst (λ (b : Bool). MatchBool b (SomeUsesItself uses) (Stands uses walk.marks.items walk.order.items (reverse walk.tasks.items))) c.if-branch.false c.in_ok-step.ensures.stands;
-      in_turn = λ up. c.in_ok-step.ensures.in_turn up (subst (λ (w : List Task). InTurn (length c.args.uses.now) c.loop-task.walk.order.items w) popped (c.loop-task.invariant.in_turn up))
+      in_turn = λ up. c.in_ok-step.ensures.in_turn up (subst (λ (w : List Task). InTurn (length c.args.uses.now) c.loop-task.walk.order.items w) popped (c.loop-task.invariant.in_turn up));
     }

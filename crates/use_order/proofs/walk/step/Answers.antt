@@ -1,4 +1,4 @@
-use Rattle.std.proofs.Common.{◌≡◌, ◌<◌, ◌∷◌, length, reverse, get_or, sym, ◌∙◌, subst, refl, arith}
+use Rattle.std.proofs.Common.{◌≡◌, ◌∷◌, length, reverse, get_or, sym, ◌∙◌, subst, refl, arith}
 use Rattle.std.proofs.lemmas.List.{length-map, get_or_read_under}
 use Rattle.use_order.specs.declared.walk.Mark.TheVariants.{New, Open, Done}
 use Rattle.use_order.specs.declared.walk.Task.{Task}
