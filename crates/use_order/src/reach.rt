@@ -5,7 +5,8 @@ use crate::table::used_of;
 use std::alloc::{AllocError, Global};
 use trace_base::NoMemory;
 
-/// Whether the definition uses itself, directly or through others. A number of no definition uses nothing.
+/// Whether the definition uses itself, directly or through others. One that only leads to such a one does
+/// not, and a number of no definition uses nothing.
 pub fn uses_itself(alloc: Global, uses: &[Vec<usize>], definition: usize) -> Result<bool, NoMemory>
     requires within { IsWithin (table_of uses.now) }
     ensures { IfOk result (λ found. IsTrue found ↔ UsesItself (table_of uses.now) definition) }

@@ -34,7 +34,9 @@ struct Walk {
     tasks: Vec<Task>,
 }
 
-/// The definitions in an order in which what one uses stands before it, or nothing where one uses itself.
+/// The definitions in an order in which what one uses stands before it, or nothing where one uses itself,
+/// which no definition may (Lamport, *Specifying Systems*). Of several orders any may be given, but the
+/// numbers stay as they are where they are in such an order already.
 pub fn order(alloc: Global, uses: &[Vec<usize>]) -> Result<Option<Vec<usize>>, NoMemory>
     requires within { IsWithin (table_of uses.now) }
     ensures ordered { IfOk result (λ found. MatchOption found (SomeUsesItself (table_of uses.now)) (λ order. IsOrder (table_of uses.now) order.items)) }
