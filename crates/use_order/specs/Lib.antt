@@ -1,0 +1,4 @@
+pub mod Reaching
+pub mod Uses
+pub mod Walks
+pub mod Weights
