@@ -1,0 +1,6 @@
+pub mod Below
+pub mod EntryPlaces
+pub mod FirstLemmas
+pub mod LevelLoops
+pub mod MentionLoops
+pub mod ScopeLemmas

@@ -1,0 +1,6 @@
+pub mod FirstOperands
+pub mod Mentions
+pub mod Placed
+pub mod Reaching
+pub mod Scopes
+pub mod Standing
