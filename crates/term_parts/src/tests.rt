@@ -113,14 +113,20 @@ fn path(alloc: Global) -> Result<Steps, AllocError> {
     Ok(steps)
 }
 
-/// `f[a, b]'`, whose index stands at column 20, and `f'`.
+/// `f[a, b]'`, whose index stands at column 20.
+fn indexed(alloc: Global) -> Result<bool, AllocError> {
+    let node = TermNode::Postfix(one(alloc)?, path(alloc)?, Step::Prime);
+    row(alloc, &node, 3, high(Level::Action, 20))
+}
+
+/// `f'`
+fn primed(alloc: Global) -> Result<bool, AllocError> {
+    let node = TermNode::Postfix(one(alloc)?, Steps::new(alloc), Step::Prime);
+    row(alloc, &node, 1, high(Level::State, 50))
+}
+
 fn postfixes(alloc: Global) -> Result<bool, AllocError> {
-    let indexed = TermNode::Postfix(one(alloc)?, path(alloc)?, Step::Prime);
-    let primed = TermNode::Postfix(one(alloc)?, Steps::new(alloc), Step::Prime);
-    Ok(
-        row(alloc, &indexed, 3, high(Level::Action, 20))?
-            && row(alloc, &primed, 1, high(Level::State, 50))?,
-    )
+    Ok(indexed(alloc)? && primed(alloc)?)
 }
 
 fn lists(alloc: Global) -> Result<bool, AllocError> {
