@@ -313,7 +313,10 @@ fn shape_of(
     }
     let notes = notes(alloc, table)?;
     match specification(alloc, table, &notes, body)? {
-        Some(shape) => Ok(Some((shape.inits.len(), shape.next.at.col))),
+        Some(shape) => {
+            let next = shape.next;
+            Ok(Some((shape.inits.len(), next.at.col)))
+        }
         None => Ok(None),
     }
 }

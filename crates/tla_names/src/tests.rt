@@ -350,7 +350,7 @@ fn operator(alloc: Global, params: usize, level: Level) -> Result<Operator, Allo
 }
 
 /// What comes of a tree under the parameters `o` and `p`.
-fn told(alloc: Global, tree: &Expr) -> Result<Told, AllocError> {
+fn outcome_of(alloc: Global, tree: &Expr) -> Result<Told, AllocError> {
     let names = program(alloc)?;
     let params = words(alloc, "o,p")?;
     let mut table = Operators::new(alloc);
@@ -371,7 +371,7 @@ struct Row(usize, &'static str, u8, usize);
 
 fn is_told(alloc: Global, node: Node, row: &Row) -> Result<bool, AllocError> {
     let tree = Expr { at: place(7), node };
-    let told = told(alloc, &tree)?;
+    let told = outcome_of(alloc, &tree)?;
     Ok(told.kind == row.1 && told.level == row.2 && told.number == row.3)
 }
 
@@ -512,7 +512,7 @@ fn long_if(alloc: Global, count: u32, last: &str) -> Result<Expr, AllocError> {
 
 #[test]
 fn a_long_tree_has_its_term(rt: HostRuntime) -> Result<(), Fail> {
-    let term = told(rt.alloc(), &long_if(rt.alloc(), 10_000, "C")?)?;
+    let term = outcome_of(rt.alloc(), &long_if(rt.alloc(), 10_000, "C")?)?;
     assert!(rt; term.kind == "if" && term.level == 1);
     Ok(())
 }
