@@ -1,0 +1,14 @@
+pub mod Takes
+pub mod Reading
+pub mod Closing
+pub mod ListReads
+pub mod Within
+pub mod Rows
+pub mod Opening
+pub mod Defining
+pub mod AroundLemmas
+pub mod Whole
+pub mod FreeParts
+pub mod ComplaintParts
+pub mod MeansParts
+pub mod ByNamesLaws

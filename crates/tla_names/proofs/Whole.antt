@@ -1,0 +1,72 @@
+-- A tree under parameters.
+use Rattle.std.proofs.Common.{◌≡◌, ◌∙◌, sym, ap, subst, List, []}
+use Rattle.std.specs.Prelude.{ℕ, None, Result, Ok, Err, IfOk, IfErr, OnOk}
+use Rattle.tla_ast.specs.Trees.{Tree}
+use Rattle.tla_terms.specs.declared.operator.Operator.{Operator}
+use Rattle.tla_terms.specs.Terms.{Term}
+use Rattle.tla_names.specs.declared.fault.NameFault.{NameFault}
+use Rattle.tla_scopes.specs.declared.meant.Entry.{Entry}
+use Rattle.tla_scopes.specs.declared.scope.Local.{Local}
+use Rattle.tla_names.specs.Around.{Around, takes}
+use Rattle.tla_names.specs.Complaints.{Takes, with_names, complaint}
+use Rattle.tla_names.specs.Means.{Means}
+use Rattle.tla_names.specs.Outcomes.{takes_in, takes_of, Complains, Grows, Always}
+use Rattle.tla_names.specs.Reads.{ResolvesTo, ResolvesBody}
+use Rattle.tla_scopes.specs.Scopes.{bind}
+use Rattle.tla_names.proofs.Takes.{takes_bind}
+use Rattle.tla_names.proofs.Within.{names_refused}
+
+pub body_is : (w v u : Around) (depth : ℕ) (ps : List (List ℕ)) (t : Tree) (e : Term) → v ≡ record { here = record { names = w.here.names; scope = bind w.here.scope ps }; table = w.table } → ResolvesTo v u depth t e → ResolvesBody w u ps t e
+body_is w v u depth ps t e b r =
+    let k : ResolvesTo (record { here = record { names = w.here.names; scope = bind w.here.scope ps }; table = w.table }) u depth t e =
+    subst (λ (x : Around). ResolvesTo x u depth t e) b r in
+    record {
+      grown = k.grown;
+      means = k.means;
+      fine = ap (λ (g : Takes). complaint g t) (sym (takes_bind w.here.names w.here.scope ps)) ∙ k.fine;
+    }
+
+-- nothing is bound around, but for the parameters
+
+pub whole_means : (w u : Around) (names : List Entry) (table : List Operator) (ps : List (List ℕ)) (t : Tree) (e : Term) → w.here.names ≡ names → w.here.scope ≡ [] → table ≡ u.table → ResolvesBody w u ps t e → Always table (λ all. Means names all (bind [] ps) t e)
+whole_means w u names table ps t e n s k r = λ all g.
+    subst (λ (x : List Entry). Means x all (bind [] ps) t e) n (subst (λ (x : List Local). Means w.here.names all (bind x ps) t e) s (r.means all (subst (λ (x : List Operator). Grows x all) k g)))
+
+takes_are : (w : Around) (names : List Entry) → w.here.names ≡ names → w.here.scope ≡ [] → takes w.here ≡ takes_of names
+takes_are w names n s = ap (λ (x : List Entry). takes_in x w.here.scope) n ∙ ap (λ (x : List Local). takes_in names x) s
+
+pub whole_fine : (w u : Around) (names : List Entry) (ps : List (List ℕ)) (t : Tree) (e : Term) → w.here.names ≡ names → w.here.scope ≡ [] → ResolvesBody w u ps t e → complaint (with_names (takes_of names) ps) t ≡ None
+whole_fine w u names ps t e n s r = ap (λ (g : Takes). complaint (with_names g ps) t) (sym (takes_are w names n s)) ∙ r.fine
+
+pub whole_refused : (w : Around) (names : List Entry) (ps : List (List ℕ)) (t : Tree) (f : NameFault) → w.here.names ≡ names → w.here.scope ≡ [] → Complains (complaint (with_names (takes w.here) ps) t) f → Complains (complaint (with_names (takes_of names) ps) t) f
+whole_refused w names ps t f n s c = subst (λ (g : Takes). Complains (complaint (with_names g ps) t) f) (takes_are w names n s) c
+
+pub whole_grown : (w u : Around) (old new : List Operator) (ps : List (List ℕ)) (t : Tree) (e : Term) → w.table ≡ old → new ≡ u.table → ResolvesBody w u ps t e → Grows old new
+whole_grown w u old new ps t e o n r = subst (λ (x : List Operator). Grows x new) o (subst (λ (x : List Operator). Grows w.table x) (sym n) r.grown)
+
+pub bodies_are : (w v u : Around) (depth : ℕ) (ps : List (List ℕ)) (t : Tree) (r : Result Term NameFault) → v ≡ record { here = record { names = w.here.names; scope = bind w.here.scope ps }; table = w.table } → IfOk r (λ e. ResolvesTo v u depth t e) → IfOk r (λ e. ResolvesBody w u ps t e)
+bodies_are w v u depth ps t (Ok e) b k = body_is w v u depth ps t e b k
+bodies_are w v u depth ps t (Err f) b k = tt
+
+pub bodies_refused : (w v : Around) (ps : List (List ℕ)) (t : Tree) (r : Result Term NameFault) → v ≡ record { here = record { names = w.here.names; scope = bind w.here.scope ps }; table = w.table } → IfErr r (Complains (complaint (takes v.here) t)) → IfErr r (Complains (complaint (with_names (takes w.here) ps) t))
+bodies_refused w v ps t (Ok e) b k = tt
+bodies_refused w v ps t (Err f) b k = names_refused w v ps t f b k
+
+pub all_means : (w u : Around) (names : List Entry) (table : List Operator) (ps : List (List ℕ)) (t : Tree) (r : Result Term NameFault) → w.here.names ≡ names → w.here.scope ≡ [] → table ≡ u.table → IfOk r (λ e. ResolvesBody w u ps t e) → IfOk r (λ e. Always table (λ all. Means names all (bind [] ps) t e))
+all_means w u names table ps t (Ok e) n s k b = whole_means w u names table ps t e n s k b
+all_means w u names table ps t (Err f) n s k b = tt
+
+pub all_fine : (w u : Around) (names : List Entry) (ps : List (List ℕ)) (t : Tree) (r : Result Term NameFault) → w.here.names ≡ names → w.here.scope ≡ [] → IfOk r (λ e. ResolvesBody w u ps t e) → OnOk r (complaint (with_names (takes_of names) ps) t ≡ None)
+all_fine w u names ps t (Ok e) n s b = whole_fine w u names ps t e n s b
+all_fine w u names ps t (Err f) n s b = tt
+
+pub all_grown : (w u : Around) (old new : List Operator) (ps : List (List ℕ)) (t : Tree) (r : Result Term NameFault) → w.table ≡ old → new ≡ u.table → IfOk r (λ e. ResolvesBody w u ps t e) → OnOk r (Grows old new)
+all_grown w u old new ps t (Ok e) o n b = whole_grown w u old new ps t e o n b
+all_grown w u old new ps t (Err f) o n b = tt
+
+pub all_refused : (w : Around) (names : List Entry) (ps : List (List ℕ)) (t : Tree) (r : Result Term NameFault) → w.here.names ≡ names → w.here.scope ≡ [] → IfErr r (Complains (complaint (with_names (takes w.here) ps) t)) → IfErr r (Complains (complaint (with_names (takes_of names) ps) t))
+all_refused w names ps t (Ok e) n s c = tt
+all_refused w names ps t (Err f) n s c = whole_refused w names ps t f n s c
+
+pub within_params : (w v : Around) (ns ps : List (List ℕ)) → ns ≡ ps → v ≡ record { here = record { names = w.here.names; scope = bind w.here.scope ns }; table = w.table } → v ≡ record { here = record { names = w.here.names; scope = bind w.here.scope ps }; table = w.table }
+within_params w v ns ps e b = b ∙ ap (λ (x : List (List ℕ)). record { here = record { names = w.here.names; scope = bind w.here.scope x }; table = w.table }) e

@@ -1,0 +1,125 @@
+-- The first name of a tree, in the order of the text, that means nothing or has another number of arguments than it takes. A definition of a LET
+-- that uses itself is told at its name, before all names of its body.
+use Rattle.std.specs.Prelude.{ℕ, suc, ◌==◌, if◌then◌else◌, List, [], ◌∷◌, length, Option, Some, None}
+use Rattle.std.specs.Str.{bytes_eq}
+use Rattle.trace_base.specs.declared.place.Place.{Place}
+use Rattle.tla_ast.specs.Trees.{Tree, Number, Str, Truth, Builtin, Name, Call, At, Parenthesized, Junction, Prefix, Infix, Postfix, SetOf, Filter, Map, Tuple, Function, FunctionSet, Record, RecordSet, Except, Quantified, Choose, If, Case, CaseOther, Let, BoxAction, AngleAction, Fairness, Trees, NoTrees, MoreTrees, Operands, First, Next, Step, Prime, Index, Field, Steps, NoSteps, MoreSteps, Bounds, NoBounds, MoreBounds, Fields, NoFields, MoreFields, Changes, NoChanges, MoreChanges, Arms, NoArms, MoreArms, Definitions, NoDefinitions, MoreDefinitions}
+use Rattle.tla_names.specs.declared.fault.NameFault.{NameFault}
+use Rattle.tla_names.specs.declared.fault.NameFault.TheVariants.{UnknownName, WrongArity, Recursion}
+use Rattle.tla_scopes.specs.Scopes.{at_sign}
+use Rattle.tla_scopes.specs.Mentions.{mentions, is_one_of}
+
+-- how many arguments each name takes, if it has a meaning
+abbrev pub Takes : Type 0
+Takes = List ℕ → Option ℕ
+
+-- an inner name hides an outer one
+abbrev pub with_name : Takes → List ℕ → ℕ → Takes
+with_name g n k m = if bytes_eq n m then Some k else g m
+
+-- the earlier of two, if it is there
+abbrev pub or_else : {A : Type 0} → Option A → Option A → Option A
+or_else (Some x) b = Some x
+or_else None b = b
+
+-- what is wrong with a name that stands there with so many arguments, and takes as many as are given, if it means something
+abbrev pub counted : List ℕ → Place → ℕ → Option ℕ → Option NameFault
+counted n at found None = Some (UnknownName n at)
+counted n at found (Some needed) = if found == needed then None else Some (WrongArity n found needed at)
+
+abbrev pub with_names : Takes → List (List ℕ) → Takes
+with_names g [] = g
+with_names g (n ∷ ns) = with_names (with_name g n 0) ns
+
+-- how many trees there are
+abbrev pub number_of : Trees → ℕ
+number_of NoTrees = 0
+number_of (MoreTrees es e) = suc (number_of es)
+
+abbrev pub with_bounds : Takes → Bounds → Takes
+with_bounds g NoBounds = g
+with_bounds g (MoreBounds bs ns e) = with_names (with_bounds g bs) ns
+
+abbrev pub with_definitions : Takes → Definitions → Takes
+with_definitions g NoDefinitions = g
+with_definitions g (MoreDefinitions ds n at ps e) = with_name (with_definitions g ds) n (length ps)
+
+-- a definition may not use itself; a parameter of its name hides it
+abbrev pub itself : List ℕ → Place → List (List ℕ) → Tree → Option NameFault
+itself n at ps e = if is_one_of n ps then None else (if mentions n e then Some (Recursion n at) else None)
+
+abbrev mutual
+  pub complaint : Takes → Tree → Option NameFault
+  complaint g (Number at z) = None
+  complaint g (Str at s) = None
+  complaint g (Truth at b) = None
+  complaint g (Builtin at b) = None
+  complaint g (Name at n) = counted n at 0 (g n)
+  complaint g (Call at n es) = or_else (counted n at (number_of es) (g n)) (complaints g es)
+  complaint g (At at) = counted at_sign at 0 (g at_sign)
+  complaint g (Parenthesized at e) = complaint g e
+  complaint g (Junction at b es) = complaints g es
+  complaint g (Prefix at o e) = complaint g e
+  complaint g (Infix at o os e) = or_else (operands_complaint g os) (complaint g e)
+  complaint g (Postfix at e ss s) = or_else (complaint g e) (or_else (steps_complaint g ss) (step_complaint g s))
+  complaint g (SetOf at es) = complaints g es
+  complaint g (Filter at n s e) = or_else (complaint g s) (complaint (with_name g n 0) e)
+  complaint g (Map at e bs) = or_else (complaint (with_bounds g bs) e) (bounds_complaint g bs)
+  complaint g (Tuple at es) = complaints g es
+  complaint g (Function at bs e) = or_else (bounds_complaint g bs) (complaint (with_bounds g bs) e)
+  complaint g (FunctionSet at s e) = or_else (complaint g s) (complaint g e)
+  complaint g (Record at fs) = fields_complaint g fs
+  complaint g (RecordSet at fs) = fields_complaint g fs
+  complaint g (Except at e cs) = or_else (complaint g e) (changes_complaint g cs)
+  complaint g (Quantified at q bs e) = or_else (bounds_complaint g bs) (complaint (with_bounds g bs) e)
+  complaint g (Choose at n s e) = or_else (complaint g s) (complaint (with_name g n 0) e)
+  complaint g (If at p e f) = or_else (complaint g p) (or_else (complaint g e) (complaint g f))
+  complaint g (Case at arms) = arms_complaint g arms
+  complaint g (CaseOther at arms e) = or_else (arms_complaint g arms) (complaint g e)
+  complaint g (Let at ds e) = or_else (definitions_complaint g ds) (complaint (with_definitions g ds) e)
+  complaint g (BoxAction at e v) = or_else (complaint g e) (complaint g v)
+  complaint g (AngleAction at e v) = or_else (complaint g e) (complaint g v)
+  complaint g (Fairness at v e) = or_else (complaint g v) (complaint g e)
+
+  pub complaints : Takes → Trees → Option NameFault
+  complaints g NoTrees = None
+  complaints g (MoreTrees es e) = or_else (complaints g es) (complaint g e)
+
+  pub operands_complaint : Takes → Operands → Option NameFault
+  operands_complaint g (First e) = complaint g e
+  operands_complaint g (Next os at e) = or_else (operands_complaint g os) (complaint g e)
+
+  pub step_complaint : Takes → Step → Option NameFault
+  step_complaint g Prime = None
+  step_complaint g (Index es) = complaints g es
+  step_complaint g (Field h) = None
+
+  pub steps_complaint : Takes → Steps → Option NameFault
+  steps_complaint g NoSteps = None
+  steps_complaint g (MoreSteps ss at s) = or_else (steps_complaint g ss) (step_complaint g s)
+
+  -- a set of bounds does not see the names that they bind
+  pub bounds_complaint : Takes → Bounds → Option NameFault
+  bounds_complaint g NoBounds = None
+  bounds_complaint g (MoreBounds bs ns e) = or_else (bounds_complaint g bs) (complaint g e)
+
+  pub fields_complaint : Takes → Fields → Option NameFault
+  fields_complaint g NoFields = None
+  fields_complaint g (MoreFields fs n e) = or_else (fields_complaint g fs) (complaint g e)
+
+  -- `@` is bound in the new value, and not in the path
+  pub changes_complaint : Takes → Changes → Option NameFault
+  changes_complaint g NoChanges = None
+  changes_complaint g (MoreChanges cs path e) =
+      or_else (changes_complaint g cs) (or_else (steps_complaint g path) (complaint (with_name g at_sign 0) e))
+
+  pub arms_complaint : Takes → Arms → Option NameFault
+  arms_complaint g NoArms = None
+  arms_complaint g (MoreArms arms p e) = or_else (arms_complaint g arms) (or_else (complaint g p) (complaint g e))
+
+  -- A definition sees those before it and itself. Behind `itself` no name of its body means the definition, so that its name need not be
+  -- there.
+  pub definitions_complaint : Takes → Definitions → Option NameFault
+  definitions_complaint g NoDefinitions = None
+  definitions_complaint g (MoreDefinitions ds n at ps e) =
+      or_else (definitions_complaint g ds) (or_else (itself n at ps e) (complaint (with_names (with_definitions g ds) ps) e))

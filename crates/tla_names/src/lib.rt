@@ -1,0 +1,18 @@
+//! From syntax trees to terms: what a tree means, or the first of its names that means nothing.
+#![tactic(auto)]
+
+mod build;
+mod fault;
+mod laws;
+mod lookup;
+mod pending;
+mod resolve;
+mod tree;
+mod walk;
+
+pub use fault::NameFault;
+pub use laws::laws_of_names;
+pub use tree::resolve_tree;
+
+#[cfg(test)]
+mod tests;

@@ -1,0 +1,56 @@
+//! What a tree means among the names of a program.
+
+ghost use Rattle.std.specs.Prelude.{◌≡◌, [], IfOk, IfErr, OnOk, length};
+ghost use Rattle.tla_names.specs.Around.{takes};
+ghost use Rattle.tla_names.specs.Complaints.{complaint, with_names};
+ghost use Rattle.tla_names.specs.Means.{Means};
+ghost use Rattle.tla_names.specs.Outcomes.{Always, Complains, Grows, takes_of};
+ghost use Rattle.tla_scopes.specs.Standing.{AreIn};
+ghost use Rattle.tla_names.specs.Reads.{ResolvesBody};
+ghost use Rattle.tla_scopes.specs.Scopes.{bind};
+
+use crate::fault::NameFault;
+use crate::resolve::resolve_to;
+use crate::walk::Walk;
+use std::alloc::Global;
+use std::mem::replace;
+use tla_ast::Expr;
+use tla_scopes::ProgramNames;
+use tla_terms::{Operators, Term};
+use trace_base::{Names, NoMemory};
+
+/// What a tree means under parameters, with nothing else bound.
+fn resolve_in(
+    alloc: Global,
+    walk: &mut Walk<'_>,
+    params: &Names,
+    tree: &Expr,
+) -> Result<Term, NameFault>
+    ensures fine { IfOk result (λ e. ResolvesBody walk.old walk.new params.now tree.now e) }
+    ensures refused { IfErr result (Complains (complaint (with_names (takes walk.old.here) params.now) tree.now)) }
+{
+    walk.bind(params.items())?;
+    resolve_to(alloc, walk, 0, tree)
+}
+
+/// What a tree means under parameters, over a table of definitions that grows by those of its LETs, or the first name of it that means nothing.
+/// On a refusal nothing is said of the table.
+pub fn resolve_tree(
+    alloc: Global,
+    names: &ProgramNames,
+    params: &Names,
+    table: &mut Operators,
+    tree: &Expr,
+) -> Result<Term, NameFault>
+    requires { AreIn (length table.old) names.now }
+    ensures grown { OnOk result (Grows table.old table.new) }
+    ensures means { IfOk result (λ e. Always table.new (λ all. Means names.now all (bind [] params.now) tree.now e)) }
+    ensures fine { OnOk result (complaint (with_names (takes_of names.now) params.now) tree.now ≡ None) }
+    ensures refused { IfErr result (Complains (complaint (with_names (takes_of names.now) params.now) tree.now)) }
+{
+    let before = replace(table, Operators::new(alloc));
+    let mut walk = Walk::new(alloc, names, before);
+    let outcome = resolve_in(alloc, &mut walk, params, tree);
+    *table = walk.into_table();
+    outcome
+}

@@ -1,0 +1,160 @@
+//! What stands around a tree while it is resolved.
+
+ghost use Rattle.std.specs.Prelude.{◌≡◌, [], ◌∷◌, ◌++◌, IfOk, IfErr, OnOk, length, take};
+ghost use Rattle.tla_terms.specs.TermViews.{node_view};
+ghost use Rattle.tla_terms.specs.Terms.{Placed};
+ghost use Rattle.tla_terms.specs.Levels.{level_for};
+ghost use Rattle.tla_names.specs.Complaints.{counted};
+ghost use Rattle.tla_names.specs.Means.{local_operator};
+ghost use Rattle.tla_names.specs.Outcomes.{Complains, IsSought, takes_in};
+ghost use Rattle.tla_scopes.specs.Standing.{IsIn, AreIn};
+ghost use Rattle.tla_scopes.specs.Scopes.{bind, bind_bounds, slots};
+
+use crate::fault::NameFault;
+use crate::lookup::sought;
+use std::alloc::Global;
+use std::marker::Model;
+use tla_ast::Bounds;
+use tla_scopes::{Local, Meant, ProgramNames, Scope, level_for};
+use tla_terms::{DefId, Operator, Operators, Term, TermNode};
+use trace_base::{NoMemory, Place, Text};
+
+/// The names of the program, those that are bound around the place, and the table of definitions so far. Each definition that a name means stands
+/// in the table.
+#[derive(Drop)]
+pub struct Walk<'a> {
+    names: &'a ProgramNames,
+    scope: Scope,
+    table: Operators,
+}
+
+impl<'a> Model for Walk<'a> {
+    ghost use Rattle.tla_names.specs.Around.{Around, IsAround};
+    ghost use Rattle.std.specs.Coded.{codes};
+    ghost use Rattle.tla_values.specs.Tree.{val_code};
+    ghost use Rattle.tla_terms.specs.OperatorsCode.{operators_code};
+
+    ghost Value = { Around };
+
+    ghost coded = { Prim.hlevel (codes, val_code, operators_code) };
+
+    ghost view = { λ w. record { here = record { names = w.names.now; scope = w.scope }; table = w.table } };
+
+    ghost invariant = { λ w. IsAround w.names.now w.scope w.table };
+}
+
+impl<'a> Walk<'a> {
+    ghost use Rattle.tla_names.specs.Around.{takes};
+    ghost use Rattle.tla_scopes.specs.declared.scope.Local.TheVariants.{Defined};
+
+    /// Over these names with nothing bound.
+    pub fn new(alloc: Global, names: &'a ProgramNames, table: Operators) -> Walk<'a>
+        requires { AreIn (length table) names.now }
+        ensures names { result.here.names ≡ names.entry.now }
+        ensures scope { result.here.scope ≡ [] }
+        ensures table { result.table ≡ table }
+    {
+        Walk {
+            names,
+            scope: Scope::new(alloc),
+            table,
+        }
+    }
+
+    /// The table of definitions.
+    pub fn into_table(self) -> Operators
+        ensures { result ≡ self.entry.table }
+    {
+        let Walk {
+            names: _,
+            scope: _,
+            table,
+        } = self;
+        table
+    }
+
+    /// How many names are bound around.
+    pub fn depth(&self) -> usize
+        ensures { result ≡ length self.now.here.scope }
+    {
+        self.scope.len()
+    }
+
+    /// Lets go of all but the first names, so many of them.
+    #[tactic(auto, using(crate::proofs::AroundLemmas::around_cut))]
+    pub fn cut(&mut self, depth: usize)
+        ensures { self.new ≡ record self.old { here = record self.old.here { scope = take depth self.old.here.scope } } }
+    {
+        self.scope.cut(depth);
+    }
+
+    /// Binds names, each behind those before it.
+    #[tactic(auto, using(crate::proofs::AroundLemmas::around_slots))]
+    pub fn bind(&mut self, names: &[Text]) -> Result<(), NoMemory>
+        ensures { OnOk result (self.new ≡ record self.old { here = record self.old.here { scope = bind self.old.here.scope names.now } }) }
+    {
+        self.scope.bind(names)
+    }
+
+    /// Binds the names of bounds.
+    #[tactic(auto, using(crate::proofs::AroundLemmas::around_slots))]
+    pub fn bind_bounds(&mut self, bounds: &Bounds) -> Result<(), NoMemory>
+        ensures { OnOk result (self.new ≡ record self.old { here = record self.old.here { scope = bind_bounds self.old.here.scope bounds.now } }) }
+    {
+        self.scope.bind_bounds(bounds)
+    }
+
+    /// Binds a name.
+    #[tactic(auto, using(crate::proofs::AroundLemmas::around_bound))]
+    pub fn bind_name(&mut self, name: &Text) -> Result<(), NoMemory>
+        ensures { OnOk result (self.new ≡ record self.old { here = record self.old.here { scope = bind self.old.here.scope (name.now ∷ []) } }) }
+    {
+        self.scope.push(Local::Bound(name.copy()?))
+    }
+
+    /// Adds a definition of a LET to the table, and binds its name.
+    #[tactic(auto, using(crate::proofs::AroundLemmas::around_more, crate::proofs::AroundLemmas::around_defined))]
+    pub fn define(
+        &mut self,
+        alloc: Global,
+        name: &Text,
+        params: usize,
+        body: Term,
+    ) -> Result<DefId, NoMemory>
+        ensures number { IfOk result (λ k. k.0 ≡ length self.old.table) }
+        ensures names { OnOk result (self.new.here.names ≡ self.old.here.names) }
+        ensures scope { IfOk result (λ k. self.new.here.scope ≡ self.old.here.scope ++ Defined name.now k params ∷ []) }
+        ensures table { OnOk result (self.new.table ≡ self.old.table ++ local_operator (slots self.old.here.scope) params body ∷ []) }
+    {
+        let number = DefId(self.table.len());
+        let outer = self.scope.slots();
+        self.table.push(Operator {
+            name: Text::from_text(alloc, "")?,
+            outer,
+            params,
+            level: body.level,
+            body,
+        })?;
+        self.scope
+            .push(Local::Defined(name.copy()?, number, params))?;
+        Ok(number)
+    }
+
+    /// What a name means that is used with so many arguments, or why it means nothing there.
+    #[tactic(auto, using(crate::proofs::AroundLemmas::sought_in))]
+    pub fn sought(&self, name: &Text, at: Place, found: usize) -> Result<Meant, NameFault>
+        ensures means { IfOk result (λ m. IsSought self.now.here.names self.now.here.scope name.now found m) }
+        ensures within { IfOk result (λ m. IsIn (length self.now.table) m) }
+        ensures refused { IfErr result (Complains (counted name.now at found (takes self.now.here name.now))) }
+    {
+        sought(self.names, &self.scope, name, at, found)
+    }
+
+    /// The term of this meaning at a place.
+    pub fn placed(&self, at: Place, node: TermNode) -> Term
+        ensures { result ≡ Placed at (level_for self.now.table (node_view node)) (node_view node) }
+    {
+        let level = level_for(&self.table, &node);
+        Term { at, level, node }
+    }
+}
