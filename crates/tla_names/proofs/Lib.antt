@@ -8,7 +8,3 @@ pub mod Opening
 pub mod Defining
 pub mod AroundLemmas
 pub mod Whole
-pub mod FreeParts
-pub mod ComplaintParts
-pub mod MeansParts
-pub mod ByNamesLaws

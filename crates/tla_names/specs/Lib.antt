@@ -1,5 +1,4 @@
 pub mod Around
-pub mod ByNames
 pub mod Complaints
 pub mod Means
 pub mod Outcomes

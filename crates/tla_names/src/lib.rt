@@ -3,7 +3,6 @@
 
 mod build;
 mod fault;
-mod laws;
 mod lookup;
 mod pending;
 mod resolve;
@@ -11,7 +10,6 @@ mod tree;
 mod walk;
 
 pub use fault::NameFault;
-pub use laws::laws_of_names;
 pub use tree::resolve_tree;
 
 #[cfg(test)]

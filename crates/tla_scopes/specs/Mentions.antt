@@ -1,7 +1,9 @@
--- Whether a name occurs in a tree where nothing in the tree binds it: the free names of an expression, as Lamport has them.
+-- Whether a name occurs in a tree where nothing in the tree binds it: the free names of an expression, as Lamport has them. `@` is a name of its own,
+-- which the new value of a change binds.
 use Rattle.std.specs.Prelude.{ℕ, Bool, true, false, not, ◌&&◌, ◌||◌, List, [], ◌∷◌}
 use Rattle.std.specs.List.{list_any}
 use Rattle.std.specs.Str.{bytes_eq}
+use Rattle.tla_scopes.specs.Scopes.{at_sign}
 use Rattle.tla_ast.specs.Trees.{Tree, Number, Str, Truth, Builtin, Name, Call, At, Parenthesized, Junction, Prefix, Infix, Postfix, SetOf, Filter, Map, Tuple, Function, FunctionSet, Record, RecordSet, Except, Quantified, Choose, If, Case, CaseOther, Let, BoxAction, AngleAction, Fairness, Trees, NoTrees, MoreTrees, Operands, First, Next, Step, Prime, Index, Field, Steps, NoSteps, MoreSteps, Bounds, NoBounds, MoreBounds, Fields, NoFields, MoreFields, Changes, NoChanges, MoreChanges, Arms, NoArms, MoreArms, Definitions, NoDefinitions, MoreDefinitions}
 
 abbrev pub is_one_of : List ℕ → List (List ℕ) → Bool
@@ -20,6 +22,7 @@ abbrev mutual
   pub mentions : List ℕ → Tree → Bool
   mentions n (Name at m) = bytes_eq m n
   mentions n (Call at m es) = bytes_eq m n || mentions_each n es
+  mentions n (At at) = bytes_eq at_sign n
   mentions n (Parenthesized at e) = mentions n e
   mentions n (Junction at b es) = mentions_each n es
   mentions n (Prefix at o e) = mentions n e
@@ -71,7 +74,7 @@ abbrev mutual
 
   pub mentions_changes : List ℕ → Changes → Bool
   mentions_changes n NoChanges = false
-  mentions_changes n (MoreChanges cs path e) = mentions_changes n cs || mentions_steps n path || mentions n e
+  mentions_changes n (MoreChanges cs path e) = mentions_changes n cs || mentions_steps n path || (not (bytes_eq at_sign n) && mentions n e)
 
   pub mentions_arms : List ℕ → Arms → Bool
   mentions_arms n NoArms = false

@@ -1,10 +1,12 @@
 //! Names that occur in trees where nothing in them binds them.
 
 ghost use Rattle.std.specs.Prelude.{◌≡◌, false};
+ghost use Rattle.std.specs.Str.{bytes_eq};
 ghost use Rattle.tla_ast.specs.TreeViews.{step_view};
 ghost use Rattle.tla_scopes.specs.FirstOperands.{first_of};
 ghost use Rattle.tla_scopes.specs.Mentions.{is_one_of, binds, defines, mentions, mentions_each, mentions_operands, mentions_step, mentions_steps, mentions_bounds, mentions_fields, mentions_changes, mentions_arms, mentions_definitions};
 ghost use Rattle.tla_scopes.specs.Reaching.{reaches_right};
+ghost use Rattle.tla_scopes.specs.Scopes.{at_sign};
 
 use crate::operands::others_of;
 use crate::reach::reaches_right;
@@ -47,6 +49,13 @@ fn defines(definitions: &Definitions, name: &Text) -> bool
         }
     }
     false
+}
+
+/// Whether the name is the character `@`, which stands for an old value in the new value of a change.
+fn is_at_sign(name: &Text) -> bool
+    ensures { result ≡ bytes_eq at_sign name.now }
+{
+    "@" == name.as_str()
 }
 
 /// Whether the name occurs in the tree where nothing in the tree binds it.
@@ -121,7 +130,7 @@ fn mentions_row(name: &Text, tree: &Expr) -> bool
             }
             mentions_each(name, arguments)
         }
-        Node::At => false,
+        Node::At => is_at_sign(name),
         Node::Parenthesized(inner) => mentions(name, inner),
         Node::Junction(_, items) => mentions_each(name, items),
         Node::Prefix(_, operand) => mentions(name, operand),
@@ -305,6 +314,9 @@ fn mentions_changes(name: &Text, changes: &Changes) -> bool
     for change in changes.items() {
         if mentions_steps(name, &change.path) {
             return true;
+        }
+        if is_at_sign(name) {
+            continue;
         }
         if mentions(name, &change.value) {
             return true;

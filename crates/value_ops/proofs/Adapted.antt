@@ -161,7 +161,7 @@ stop_at i ps p e h f s g = ap (λ qs. no_set_from i qs) (first_drop ps i p h f) 
     stopped (string s) qs k = refl
     stopped (function s) qs k = refl
 
-pub integer_keys : (ps : List Val) (y : ℕ) → y ≤ 255 → length ps ≡ y → no_set_from 0 ps ≡ None → ((p : Val) → Contains ps p → IsValue p) → AreKeysAndParts (ints_from (pos 1) y) ps
+pub integer_keys : (ps : List Val) (y : ℕ) → y ≤ 100000 → length ps ≡ y → no_set_from 0 ps ≡ None → ((p : Val) → Contains ps p → IsValue p) → AreKeysAndParts (ints_from (pos 1) y) ps
 integer_keys ps y few l e valid = record {
   as_many = l ∙ sym (length-ints (pos 1) y);
   few = omega (arith, length-ints (pos 1) y, few);
@@ -175,7 +175,7 @@ integer_keys ps y few l e valid = record {
   sets = all_are_sets 0 ps e;
 }
   where
-    small : (z : ℤ) → pos 0 ≤ℤ z → z ≤ℤ pos 255 → IsInner (integer z)
+    small : (z : ℤ) → pos 0 ≤ℤ z → z ≤ℤ pos 100000 → IsInner (integer z)
     small z a b = record { valid = record { canonical = omega (arith, ints, a, b); shallow = omega arith }; shallow = omega arith }
 
 zip_ints : (vs : List Val) (y : ℤ) (m : ℕ) → y ≡ pos m → zip (ints_from y (length vs)) vs ≡ numbered_from m vs
@@ -230,7 +230,7 @@ length-strings : (ns : List (List ℕ)) → length (map string ns) ≡ length ns
 length-strings [] = refl
 length-strings (n ∷ ns) = ap suc (length-strings ns)
 
-pub string_keys : (ns : List (List ℕ)) (ps : List Val) → length ps ≤ 255 → length ns ≡ length ps → AreDifferent ns → no_set_from 0 ps ≡ None → ((p : Val) → Contains ps p → IsValue p) → ((k : Val) → Contains (map string ns) k → IsValue k) → AreKeysAndParts (map string ns) ps
+pub string_keys : (ns : List (List ℕ)) (ps : List Val) → length ps ≤ 100000 → length ns ≡ length ps → AreDifferent ns → no_set_from 0 ps ≡ None → ((p : Val) → Contains ps p → IsValue p) → ((k : Val) → Contains (map string ns) k → IsValue k) → AreKeysAndParts (map string ns) ps
 string_keys ns ps few l d e valid values = record {
   as_many = sym l ∙ sym (length-strings ns);
   few = omega (arith, length-strings ns, l, few);

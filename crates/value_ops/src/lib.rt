@@ -14,7 +14,7 @@ mod tests;
 pub use functions::{apply_at, domain, except_one, merge, single};
 pub use integers::{add, at_most, div, division_law, less, modulo, mul, negate, power, sub};
 pub use listings::{big_union, interval};
-pub use products::{depth_law, function_set, powerset, product, record_set};
+pub use products::{depth_law, function_set, powerset, product, record_set, records, tuples};
 pub use sequences::{append, concat, head, len_of, subseq, tail};
 pub use sets::{cardinality, intersect, minus, union};
 

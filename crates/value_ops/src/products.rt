@@ -126,8 +126,9 @@ pub fn product(alloc: Global, parts: &[Value]) -> Result<Value, OpFault>
     }
 }
 
-fn tuples(alloc: Global, parts: &[Value]) -> Result<Value, OpFault>
-    requires few { length parts.now ≤ 255 }
+/// The same where all the parts are known to be sets, of which there may be as many as a tuple may have values.
+pub fn tuples(alloc: Global, parts: &[Value]) -> Result<Value, OpFault>
+    requires few { length parts.now ≤ 100000 }
     requires sets { no_set_from 0 parts.now ≡ None }
     ensures { GivesSet (InProduct parts.now) result }
 {
@@ -149,8 +150,9 @@ pub fn record_set(alloc: Global, names: &[Text], parts: &[Value]) -> Result<Valu
     }
 }
 
-fn records(alloc: Global, names: &[Text], parts: &[Value]) -> Result<Value, OpFault>
-    requires few { length parts.now ≤ 255 }
+/// The same where all the parts are known to be sets, of which there may be as many as a record may have fields.
+pub fn records(alloc: Global, names: &[Text], parts: &[Value]) -> Result<Value, OpFault>
+    requires few { length parts.now ≤ 100000 }
     requires as_many { length names.now ≡ length parts.now }
     requires different { AreDifferent names.now }
     requires sets { no_set_from 0 parts.now ≡ None }
