@@ -13,6 +13,7 @@ use Rattle.tla_ast.specs.declared.expr.Field.{Field}
 use Rattle.tla_ast.specs.declared.expr.Change.{Change}
 use Rattle.tla_ast.specs.declared.expr.Arm.{Arm}
 use Rattle.tla_ast.specs.declared.expr.Definition.{Definition}
+use Rattle.tla_scopes.specs.Scopes.{at_sign}
 use Rattle.tla_scopes.specs.Mentions.{is_one_of, binds, defines, mentions, mentions_each, mentions_operands, mentions_step, mentions_steps, mentions_bounds, mentions_fields, mentions_changes, mentions_arms, mentions_definitions}
 use Rattle.tla_scopes.proofs.LevelLoops.{cut_at, cut_end}
 
@@ -122,21 +123,37 @@ pub Fields_found : (n : List ℕ) (items : List Field) (i : ℕ) (x : Field) →
 Fields_found n items i x lt e h q =
     ap (λ (l : tree.Fields). mentions_fields n l) (sym (ap (λ ts. fields_from h.so_far ts) (sym (cut_at items i x lt e)) ∙ h.whole)) ∙ Fields_stays n (tree.MoreFields h.so_far x.name x.value) (drop (i + 1) items) (second (mentions_fields n h.so_far) (mentions n x.value) q)
 
+-- whether the new value of a change mentions the name, which hides `@`
+abbrev new_value : List ℕ → Change → Bool
+new_value n x = not (bytes_eq at_sign n) && mentions n x.value
+
+none_hidden : (a b : Bool) → a ≡ true → (not a && b) ≡ false
+none_hidden true b p = refl
+none_hidden false b p = absurd (cc)
+
+none_in : (a b : Bool) → b ≡ false → (not a && b) ≡ false
+none_in true b q = refl
+none_in false b q = q
+
+one_in : (a b : Bool) → a ≡ false → b ≡ true → (not a && b) ≡ true
+one_in true b p q = absurd (cc)
+one_in false b p q = q
+
 Changes_stays : (n : List ℕ) (l : tree.Changes) (xs : List Change) → mentions_changes n l ≡ true → mentions_changes n (changes_from l xs) ≡ true
 Changes_stays n l [] t = t
-Changes_stays n l (x ∷ xs) t = Changes_stays n (tree.MoreChanges l x.path x.value) xs (first (mentions_changes n l || mentions_steps n x.path) (mentions n x.value) (first (mentions_changes n l) (mentions_steps n x.path) t))
+Changes_stays n l (x ∷ xs) t = Changes_stays n (tree.MoreChanges l x.path x.value) xs (first (mentions_changes n l || mentions_steps n x.path) (new_value n x) (first (mentions_changes n l) (mentions_steps n x.path) t))
 
 pub record ChangesSoFar (n : List ℕ) (items : List Change) (i : ℕ) : Type 0 where
   pub so_far : tree.Changes
   pub whole : changes_from so_far (drop i items) ≡ changes_of items
   pub none : mentions_changes n so_far ≡ false
 
-pub Changes_on : (n : List ℕ) (items : List Change) (i : ℕ) (x : Change) → i < length items → x ≡ get_or items i x → ChangesSoFar n items i → mentions_steps n x.path ≡ false → mentions n x.value ≡ false → ChangesSoFar n items (i + 1)
+Changes_on : (n : List ℕ) (items : List Change) (i : ℕ) (x : Change) → i < length items → x ≡ get_or items i x → ChangesSoFar n items i → mentions_steps n x.path ≡ false → new_value n x ≡ false → ChangesSoFar n items (i + 1)
 Changes_on n items i x lt e h q0 q1 =
     record {
       so_far = tree.MoreChanges h.so_far x.path x.value;
       whole = ap (λ ts. changes_from h.so_far ts) (sym (cut_at items i x lt e)) ∙ h.whole;
-      none = neither (mentions_changes n h.so_far || mentions_steps n x.path) (mentions n x.value) (neither (mentions_changes n h.so_far) (mentions_steps n x.path) h.none q0) q1;
+      none = neither (mentions_changes n h.so_far || mentions_steps n x.path) (new_value n x) (neither (mentions_changes n h.so_far) (mentions_steps n x.path) h.none q0) q1;
     }
 
 pub Changes_end : (n : List ℕ) (items : List Change) (i : ℕ) → length items ≤ i → ChangesSoFar n items i → mentions_changes n (changes_of items) ≡ false
@@ -144,11 +161,21 @@ Changes_end n items i le h = ap (λ (l : tree.Changes). mentions_changes n l) (s
 
 pub Changes_found0 : (n : List ℕ) (items : List Change) (i : ℕ) (x : Change) → i < length items → x ≡ get_or items i x → ChangesSoFar n items i → mentions_steps n x.path ≡ true → mentions_changes n (changes_of items) ≡ true
 Changes_found0 n items i x lt e h q =
-    ap (λ (l : tree.Changes). mentions_changes n l) (sym (ap (λ ts. changes_from h.so_far ts) (sym (cut_at items i x lt e)) ∙ h.whole)) ∙ Changes_stays n (tree.MoreChanges h.so_far x.path x.value) (drop (i + 1) items) (first ((mentions_changes n h.so_far || mentions_steps n x.path)) (mentions n x.value) (second (mentions_changes n h.so_far) (mentions_steps n x.path) q))
+    ap (λ (l : tree.Changes). mentions_changes n l) (sym (ap (λ ts. changes_from h.so_far ts) (sym (cut_at items i x lt e)) ∙ h.whole)) ∙ Changes_stays n (tree.MoreChanges h.so_far x.path x.value) (drop (i + 1) items) (first ((mentions_changes n h.so_far || mentions_steps n x.path)) (new_value n x) (second (mentions_changes n h.so_far) (mentions_steps n x.path) q))
 
-pub Changes_found1 : (n : List ℕ) (items : List Change) (i : ℕ) (x : Change) → i < length items → x ≡ get_or items i x → ChangesSoFar n items i → mentions n x.value ≡ true → mentions_changes n (changes_of items) ≡ true
+Changes_found1 : (n : List ℕ) (items : List Change) (i : ℕ) (x : Change) → i < length items → x ≡ get_or items i x → ChangesSoFar n items i → new_value n x ≡ true → mentions_changes n (changes_of items) ≡ true
 Changes_found1 n items i x lt e h q =
-    ap (λ (l : tree.Changes). mentions_changes n l) (sym (ap (λ ts. changes_from h.so_far ts) (sym (cut_at items i x lt e)) ∙ h.whole)) ∙ Changes_stays n (tree.MoreChanges h.so_far x.path x.value) (drop (i + 1) items) (second ((mentions_changes n h.so_far || mentions_steps n x.path)) (mentions n x.value) q)
+    ap (λ (l : tree.Changes). mentions_changes n l) (sym (ap (λ ts. changes_from h.so_far ts) (sym (cut_at items i x lt e)) ∙ h.whole)) ∙ Changes_stays n (tree.MoreChanges h.so_far x.path x.value) (drop (i + 1) items) (second ((mentions_changes n h.so_far || mentions_steps n x.path)) (new_value n x) q)
+
+-- the value of a change does not see the name `@`
+pub Changes_hidden : (n : List ℕ) (items : List Change) (i : ℕ) (x : Change) → i < length items → x ≡ get_or items i x → ChangesSoFar n items i → mentions_steps n x.path ≡ false → bytes_eq at_sign n ≡ true → ChangesSoFar n items (i + 1)
+Changes_hidden n items i x lt e h q0 q1 = Changes_on n items i x lt e h q0 (none_hidden (bytes_eq at_sign n) (mentions n x.value) q1)
+
+pub Changes_none : (n : List ℕ) (items : List Change) (i : ℕ) (x : Change) → i < length items → x ≡ get_or items i x → ChangesSoFar n items i → mentions_steps n x.path ≡ false → mentions n x.value ≡ false → ChangesSoFar n items (i + 1)
+Changes_none n items i x lt e h q0 q1 = Changes_on n items i x lt e h q0 (none_in (bytes_eq at_sign n) (mentions n x.value) q1)
+
+pub Changes_seen : (n : List ℕ) (items : List Change) (i : ℕ) (x : Change) → i < length items → x ≡ get_or items i x → ChangesSoFar n items i → bytes_eq at_sign n ≡ false → mentions n x.value ≡ true → mentions_changes n (changes_of items) ≡ true
+Changes_seen n items i x lt e h q0 q1 = Changes_found1 n items i x lt e h (one_in (bytes_eq at_sign n) (mentions n x.value) q0 q1)
 
 Arms_stays : (n : List ℕ) (l : tree.Arms) (xs : List Arm) → mentions_arms n l ≡ true → mentions_arms n (arms_from l xs) ≡ true
 Arms_stays n l [] t = t

@@ -113,11 +113,15 @@ mentions_changes-mentions-requires t c =
 
 pub mentions_changes-returns-then-mentions : goal.mentions_changes-returns-then-mentions
 mentions_changes-returns-then-mentions t c =
-    sym (ap (λ (l : tree.Changes). mentions_changes c.args.name.now l) (sym c.items-change-items.ensures) ∙ loops.Changes_found1 c.args.name.now c.items-change-items.result.now c.loop-change.change-index c.change-item.result c.loop-change-test.true c.change-item.is c.loop-change.invariant (sym c.mentions.ensures ∙ c.if-mentions.true))
+    sym (ap (λ (l : tree.Changes). mentions_changes c.args.name.now l) (sym c.items-change-items.ensures) ∙ loops.Changes_seen c.args.name.now c.items-change-items.result.now c.loop-change.change-index c.change-item.result c.loop-change-test.true c.change-item.is c.loop-change.invariant (sym c.is_at_sign.ensures ∙ c.if-is_at_sign.false) (sym c.mentions.ensures ∙ c.if-mentions.true))
+
+pub mentions_changes-loop-change-preserved-then-is_at_sign : goal.mentions_changes-loop-change-preserved-then-is_at_sign
+mentions_changes-loop-change-preserved-then-is_at_sign t c =
+    loops.Changes_hidden c.args.name.now c.items-change-items.result.now c.loop-change.change-index c.change-item.result c.loop-change-test.true c.change-item.is c.loop-change.invariant (sym c.mentions_steps.ensures ∙ c.if-mentions_steps.false) (sym c.is_at_sign.ensures ∙ c.if-is_at_sign.true)
 
 pub mentions_changes-loop-change-preserved : goal.mentions_changes-loop-change-preserved
 mentions_changes-loop-change-preserved t c =
-    loops.Changes_on c.args.name.now c.items-change-items.result.now c.loop-change.change-index c.change-item.result c.loop-change-test.true c.change-item.is c.loop-change.invariant (sym c.mentions_steps.ensures ∙ c.if-mentions_steps.false) (sym c.mentions.ensures ∙ c.if-mentions.false)
+    loops.Changes_none c.args.name.now c.items-change-items.result.now c.loop-change.change-index c.change-item.result c.loop-change-test.true c.change-item.is c.loop-change.invariant (sym c.mentions_steps.ensures ∙ c.if-mentions_steps.false) (sym c.mentions.ensures ∙ c.if-mentions.false)
 
 pub mentions_changes-loop-change-init : goal.mentions_changes-loop-change-init
 mentions_changes-loop-change-init t c = record { so_far = tree.NoChanges; whole = refl; none = refl }
