@@ -1,6 +1,6 @@
 -- What names mean stands in the table.
-use Rattle.std.proofs.Common.{◌≡◌, ◌∙◌, sym, refl, subst, List, [], ◌∷◌, ◌++◌, length, ◌<◌, ◌≤◌, arith}
-use Rattle.std.specs.Prelude.{ℕ, zero, suc, ◌+◌, Bool, true, false, if◌then◌else◌, Option, Some, None, Result, Ok, Err, OnOk, OnErr, take}
+use Rattle.std.proofs.Common.{◌≡◌, ◌∙◌, sym, ap, refl, subst, inl, inr, List, [], ◌∷◌, ◌++◌, length, ◌<◌, ◌≤◌, arith}
+use Rattle.std.specs.Prelude.{◌⊎◌, slice_get, ℕ, zero, suc, ◌+◌, Bool, true, false, if◌then◌else◌, Option, Some, None, Result, Ok, Err, OnOk, OnErr, take}
 use Rattle.std.specs.Str.{bytes_eq}
 use Rattle.tla_terms.specs.declared.ids.DefId.{DefId}
 use Rattle.tla_terms.specs.declared.operator.Operator.{Operator}
@@ -13,6 +13,7 @@ use Rattle.tla_scopes.specs.declared.meant.Entry.{Entry}
 use Rattle.tla_scopes.specs.Standing.{IsIn, AreIn, LocalsIn, AddsSlots}
 use Rattle.tla_scopes.specs.Scopes.{later, named, bound_from, bound, among}
 use Rattle.tla_scopes.proofs.ScopeLemmas.{one_slot}
+use Rattle.term_parts.specs.Slots.{MentionsBelow, UsesSmaller}
 use Rattle.tla_names.specs.Around.{IsAround}
 use Rattle.tla_names.specs.Outcomes.{IsSought}
 
@@ -21,10 +22,10 @@ meant_of (Some x) = x.meant
 meant_of None = meant.Slot 0
 
 pub around_slots : (names : List Entry) (a b : List Local) (table : List Operator) → AddsSlots a b → IsAround names a table → IsAround names b table
-around_slots names a b table s h = record { program = h.program; around = s (length table) h.around }
+around_slots names a b table s h = record { program = h.program; around = s (length table) h.around; smaller = h.smaller }
 
 pub around_bound : (names : List Entry) (sc : List Local) (table : List Operator) (m : List ℕ) → IsAround names sc table → IsAround names (sc ++ Bound m ∷ []) table
-around_bound names sc table m h = record { program = h.program; around = one_slot (length table) sc m h.around }
+around_bound names sc table m h = record { program = h.program; around = one_slot (length table) sc m h.around; smaller = h.smaller }
 
 -- a name was pushed, or not
 pub pushed_bound : {A E : Type 0} (names : List Entry) (sc new : List Local) (table : List Operator) (m : List ℕ) (r : Result A E) → OnOk r (new ≡ sc ++ Bound m ∷ []) → OnErr r (new ≡ sc) → IsAround names sc table → IsAround names new table
@@ -50,12 +51,15 @@ among_in n [] m x h e = absurd (cc)
 among_in n (y ∷ es) m x h e =
     first_among n (bytes_eq y.name m) y.is x (among es m) (h 0 y (omega arith)) (among_in n es m x (λ k d lt. h (suc k) d (omega (arith, lt)))) e
 
-pub sought_in : (names : List Entry) (sc : List Local) (table : List Operator) (m : List ℕ) (k : ℕ) (x : Meant) → IsAround names sc table → IsSought names sc m k x → IsIn (length table) x
-sought_in names sc table m k x h s = by_scope (bound sc m) refl s
+pub meant_in : (n : ℕ) (names : List Entry) (sc : List Local) (m : List ℕ) (x : Named) → AreIn n names → LocalsIn n sc → later (among names m) (bound sc m) ≡ Some x → IsIn n x.meant
+meant_in n names sc m x program around s = by_scope (bound sc m) refl s
   where
-    by_scope : (o : Option Named) → bound sc m ≡ o → later (among names m) o ≡ Some (named k x) → IsIn (length table) x
-    by_scope (Some y) p q = bound_in (length table) 0 sc m (named k x) h.around (p ∙ q)
-    by_scope None p q = among_in (length table) names m (named k x) h.program q
+    by_scope : (o : Option Named) → bound sc m ≡ o → later (among names m) o ≡ Some x → IsIn n x.meant
+    by_scope (Some y) p q = bound_in n 0 sc m x around (p ∙ q)
+    by_scope None p q = among_in n names m x program q
+
+pub sought_in : (names : List Entry) (sc : List Local) (table : List Operator) (m : List ℕ) (k : ℕ) (x : Meant) → IsAround names sc table → IsSought names sc m k x → IsIn (length table) x
+sought_in names sc table m k x h s = meant_in (length table) names sc m (named k x) h.program h.around s
 
 -- One more definition.
 
@@ -76,23 +80,37 @@ longer : (table : List Operator) (o : Operator) → length (table ++ o ∷ []) �
 longer [] o = refl
 longer (x ∷ table) o = let r : length (table ++ o ∷ []) ≡ length table + 1 = longer table o in omega (arith, r)
 
-pub around_more : (names : List Entry) (sc : List Local) (table : List Operator) (o : Operator) → IsAround names sc table → IsAround names sc (table ++ o ∷ [])
-around_more names sc table o h =
+-- what stands in a longer table
+pushed_at : (xs : List Operator) (x : Operator) (k : ℕ) (p : Operator) → slice_get (xs ++ x ∷ []) k ≡ Some p → (slice_get xs k ≡ Some p) ⊎ ((k ≡ length xs) × (x ≡ p))
+pushed_at [] x zero p e = inr (refl, cc)
+pushed_at [] x (suc k) p e = absurd (cc)
+pushed_at (y ∷ xs) x zero p e = inl e
+pushed_at (y ∷ xs) x (suc k) p e = elim (pushed_at xs x k p e) [ inl a ↦ inl a | inr b ↦ inr (ap suc b.0, b.1) ]
+
+smaller_pushed : (table : List Operator) (o : Operator) → UsesSmaller table → MentionsBelow (length table) o.body → UsesSmaller (table ++ o ∷ [])
+smaller_pushed table o h below k p e = elim (pushed_at table o k p e) [
+  | inl a ↦ h k p a
+  | inr b ↦ subst (λ (i : ℕ). MentionsBelow i p.body) (sym b.0) (subst (λ (q : Operator). MentionsBelow (length table) q.body) b.1 below)
+]
+
+pub around_more : (names : List Entry) (sc : List Local) (table : List Operator) (o : Operator) → MentionsBelow (length table) o.body → IsAround names sc table → IsAround names sc (table ++ o ∷ [])
+around_more names sc table o below h =
     let le : length table ≤ length (table ++ o ∷ []) = omega (arith, longer table o) in
     record {
       program = λ k d lt. in_more (length table) (length (table ++ o ∷ [])) _ le (h.program k d lt);
       around = more_locals (length table) (length (table ++ o ∷ [])) sc le h.around;
+      smaller = smaller_pushed table o h.smaller below;
     }
 
-defined_in : (n : ℕ) (sc : List Local) (m : List ℕ) (k : DefId) (p : ℕ) → k.0 < n → LocalsIn n sc → LocalsIn n (sc ++ Defined m k p ∷ [])
+pub defined_in : (n : ℕ) (sc : List Local) (m : List ℕ) (k : DefId) (p : ℕ) → k.0 < n → LocalsIn n sc → LocalsIn n (sc ++ Defined m k p ∷ [])
 defined_in n [] m k p lt h = (lt, tt)
 defined_in n (Bound j ∷ sc) m k p lt h = defined_in n sc m k p lt h
 defined_in n (Defined j i q ∷ sc) m k p lt h = (h.0, defined_in n sc m k p lt h.1)
 
-pub around_defined : (names : List Entry) (sc : List Local) (table : List Operator) (o : Operator) (m : List ℕ) (k : DefId) (p : ℕ) → k.0 ≡ length table → IsAround names sc table → IsAround names (sc ++ Defined m k p ∷ []) (table ++ o ∷ [])
-around_defined names sc table o m k p e h =
-    let r : IsAround names sc (table ++ o ∷ []) = around_more names sc table o h in
-    record { program = r.program; around = defined_in (length (table ++ o ∷ [])) sc m k p (omega (arith, e, longer table o)) r.around }
+pub around_defined : (names : List Entry) (sc : List Local) (table : List Operator) (o : Operator) (m : List ℕ) (k : DefId) (p : ℕ) → MentionsBelow (length table) o.body → k.0 ≡ length table → IsAround names sc table → IsAround names (sc ++ Defined m k p ∷ []) (table ++ o ∷ [])
+around_defined names sc table o m k p below e h =
+    let r : IsAround names sc (table ++ o ∷ []) = around_more names sc table o below h in
+    record { program = r.program; around = defined_in (length (table ++ o ∷ [])) sc m k p (omega (arith, e, longer table o)) r.around; smaller = r.smaller }
 
 locals_taken : (n k : ℕ) (sc : List Local) → LocalsIn n sc → LocalsIn n (take k sc)
 locals_taken n zero sc h = tt
@@ -101,4 +119,4 @@ locals_taken n (suc k) (Bound m ∷ sc) h = locals_taken n k sc h
 locals_taken n (suc k) (Defined m j p ∷ sc) h = (h.0, locals_taken n k sc h.1)
 
 pub around_cut : (names : List Entry) (sc : List Local) (table : List Operator) (k : ℕ) → IsAround names sc table → IsAround names (take k sc) table
-around_cut names sc table k h = record { program = h.program; around = locals_taken (length table) k sc h.around }
+around_cut names sc table k h = record { program = h.program; around = locals_taken (length table) k sc h.around; smaller = h.smaller }

@@ -33,6 +33,13 @@ body_takes : (w m : Around) (ds : tree.Definitions) (ks : List ℕ) (ps : List (
 body_takes w m ds ks ps d =
     takes_bind m.here.names m.here.scope ps ∙ ap (λ (g : Takes). with_names g ps) (ap (λ (x : List Entry). takes_in x m.here.scope) d.kept ∙ takes_definitions w.here.names m.table w.here.scope ds ks m.here.scope (d.means m.table (grows_same m.table)))
 
+-- what a body means, where its parameters are bound no more
+pub defined_means : (m m1 m2 : Around) (depth : ℕ) (ps : List (List ℕ)) (a : Tree) (x : Term) → depth ≡ length m.here.scope → m1 ≡ record { here = record { names = m.here.names; scope = bind m.here.scope ps }; table = m.table } → ResolvesTo m1 m2 depth a x → Means m2.here.names m2.table (bind m2.here.scope ps) a x
+defined_means m m1 m2 depth ps a x dp b r =
+    let more : (more : List Local) × (bind m.here.scope ps ≡ m.here.scope ++ more) = bind_adds m.here.scope ps in
+    let in_it : ReadIn m m2 (bind m.here.scope ps) a x = read_back m m1 m2 depth (bind m.here.scope ps) more.0 a x b dp more.1 r in
+    subst (λ (h : Here). Means h.names m2.table (bind h.scope ps) a x) (sym in_it.kept) (in_it.means m2.table (grows_same m2.table))
+
 -- one more definition: it stands at the end of the table, behind those of its own LETs
 pub definition_on : (w m m1 m2 v : Around) (depth : ℕ) (ds : tree.Definitions) (ks : List ℕ) (n : List ℕ) (at : Place) (ps : List (List ℕ)) (a : Tree) (x : Term) (k : DefId) (count : ℕ) → ResolvesDefinitions w m ds ks → itself n at ps a ≡ None → depth ≡ length m.here.scope → m1 ≡ record { here = record { names = m.here.names; scope = bind m.here.scope ps }; table = m.table } → ResolvesTo m1 m2 depth a x → count ≡ length ps → k.0 ≡ length m2.table → v.here.names ≡ m2.here.names → v.here.scope ≡ m2.here.scope ++ Defined n k count ∷ [] → v.table ≡ m2.table ++ local_operator (slots m2.here.scope) count x ∷ [] → ResolvesDefinitions w v (tree.MoreDefinitions ds n at ps a) (ks ++ k.0 ∷ [])
 definition_on w m m1 m2 v depth ds ks n at ps a x k count d i dp b r ct ke vn vs vt =

@@ -7,4 +7,5 @@ pub mod Rows
 pub mod Opening
 pub mod Defining
 pub mod AroundLemmas
+pub mod MeansBelow
 pub mod Whole

@@ -1,5 +1,5 @@
 -- A tree under parameters.
-use Rattle.std.proofs.Common.{◌≡◌, ◌∙◌, sym, ap, subst, List, []}
+use Rattle.std.proofs.Common.{◌≡◌, ◌∙◌, sym, ap, subst, arith, List, [], length, append-nil}
 use Rattle.std.specs.Prelude.{ℕ, None, Result, Ok, Err, IfOk, IfErr, OnOk}
 use Rattle.tla_ast.specs.Trees.{Tree}
 use Rattle.tla_terms.specs.declared.operator.Operator.{Operator}
@@ -7,7 +7,9 @@ use Rattle.tla_terms.specs.Terms.{Term}
 use Rattle.tla_names.specs.declared.fault.NameFault.{NameFault}
 use Rattle.tla_scopes.specs.declared.meant.Entry.{Entry}
 use Rattle.tla_scopes.specs.declared.scope.Local.{Local}
-use Rattle.tla_names.specs.Around.{Around, takes}
+use Rattle.term_parts.specs.Slots.{MentionsBelow, UsesSmaller}
+use Rattle.tla_scopes.specs.Standing.{AreIn}
+use Rattle.tla_names.specs.Around.{Here, Around, takes}
 use Rattle.tla_names.specs.Complaints.{Takes, with_names, complaint}
 use Rattle.tla_names.specs.Means.{Means}
 use Rattle.tla_names.specs.Outcomes.{takes_in, takes_of, Complains, Grows, Always}
@@ -15,12 +17,14 @@ use Rattle.tla_names.specs.Reads.{ResolvesTo, ResolvesBody}
 use Rattle.tla_scopes.specs.Scopes.{bind}
 use Rattle.tla_names.proofs.Takes.{takes_bind}
 use Rattle.tla_names.proofs.Within.{names_refused}
+use Rattle.tla_names.proofs.MeansBelow.{body_below}
 
-pub body_is : (w v u : Around) (depth : ℕ) (ps : List (List ℕ)) (t : Tree) (e : Term) → v ≡ record { here = record { names = w.here.names; scope = bind w.here.scope ps }; table = w.table } → ResolvesTo v u depth t e → ResolvesBody w u ps t e
-body_is w v u depth ps t e b r =
-    let k : ResolvesTo (record { here = record { names = w.here.names; scope = bind w.here.scope ps }; table = w.table }) u depth t e =
-    subst (λ (x : Around). ResolvesTo x u depth t e) b r in
+pub body_is : (w v u : Around) (ps : List (List ℕ)) (t : Tree) (e : Term) → v ≡ record { here = record { names = w.here.names; scope = bind w.here.scope ps }; table = w.table } → ResolvesTo v u 0 t e → ResolvesBody w u ps t e
+body_is w v u ps t e b r =
+    let k : ResolvesTo (record { here = record { names = w.here.names; scope = bind w.here.scope ps }; table = w.table }) u 0 t e =
+    subst (λ (x : Around). ResolvesTo x u 0 t e) b r in
     record {
+      kept = ap (λ (h : Here). h.names) (k.kept (omega arith));
       grown = k.grown;
       means = k.means;
       fine = ap (λ (g : Takes). complaint g t) (sym (takes_bind w.here.names w.here.scope ps)) ∙ k.fine;
@@ -44,9 +48,9 @@ whole_refused w names ps t f n s c = subst (λ (g : Takes). Complains (complaint
 pub whole_grown : (w u : Around) (old new : List Operator) (ps : List (List ℕ)) (t : Tree) (e : Term) → w.table ≡ old → new ≡ u.table → ResolvesBody w u ps t e → Grows old new
 whole_grown w u old new ps t e o n r = subst (λ (x : List Operator). Grows x new) o (subst (λ (x : List Operator). Grows w.table x) (sym n) r.grown)
 
-pub bodies_are : (w v u : Around) (depth : ℕ) (ps : List (List ℕ)) (t : Tree) (r : Result Term NameFault) → v ≡ record { here = record { names = w.here.names; scope = bind w.here.scope ps }; table = w.table } → IfOk r (λ e. ResolvesTo v u depth t e) → IfOk r (λ e. ResolvesBody w u ps t e)
-bodies_are w v u depth ps t (Ok e) b k = body_is w v u depth ps t e b k
-bodies_are w v u depth ps t (Err f) b k = tt
+pub bodies_are : (w v u : Around) (ps : List (List ℕ)) (t : Tree) (r : Result Term NameFault) → v ≡ record { here = record { names = w.here.names; scope = bind w.here.scope ps }; table = w.table } → IfOk r (λ e. ResolvesTo v u 0 t e) → IfOk r (λ e. ResolvesBody w u ps t e)
+bodies_are w v u ps t (Ok e) b k = body_is w v u ps t e b k
+bodies_are w v u ps t (Err f) b k = tt
 
 pub bodies_refused : (w v : Around) (ps : List (List ℕ)) (t : Tree) (r : Result Term NameFault) → v ≡ record { here = record { names = w.here.names; scope = bind w.here.scope ps }; table = w.table } → IfErr r (Complains (complaint (takes v.here) t)) → IfErr r (Complains (complaint (with_names (takes w.here) ps) t))
 bodies_refused w v ps t (Ok e) b k = tt
@@ -70,3 +74,12 @@ all_refused w names ps t (Err f) n s c = whole_refused w names ps t f n s c
 
 pub within_params : (w v : Around) (ns ps : List (List ℕ)) → ns ≡ ps → v ≡ record { here = record { names = w.here.names; scope = bind w.here.scope ns }; table = w.table } → v ≡ record { here = record { names = w.here.names; scope = bind w.here.scope ps }; table = w.table }
 within_params w v ns ps e b = b ∙ ap (λ (x : List (List ℕ)). record { here = record { names = w.here.names; scope = bind w.here.scope x }; table = w.table }) e
+
+-- the table and the term that are handed out
+pub whole_below : (w u : Around) (names : List Entry) (table : List Operator) (ps : List (List ℕ)) (t : Tree) (r : Result Term NameFault) → w.here.names ≡ names → w.here.scope ≡ [] → table ≡ u.table → AreIn (length table) u.here.names → IfOk r (λ e. ResolvesBody w u ps t e) → IfOk r (MentionsBelow (length table))
+whole_below w u names table ps t (Ok e) n s k a b = body_below names table (subst (λ (x : List Entry). AreIn (length table) x) (b.kept ∙ n) a) [] ps t e tt (whole_means w u names table ps t e n s k b table ([], sym (append-nil table)))
+whole_below w u names table ps t (Err f) n s k a b = tt
+
+pub whole_smaller : (table : List Operator) (r : Result Term NameFault) → UsesSmaller table → OnOk r (UsesSmaller table)
+whole_smaller table (Ok e) h = h
+whole_smaller table (Err f) h = tt

@@ -78,6 +78,7 @@ pub record ResolvesTo (w w' : Around) (depth : ℕ) (t : Tree) (e : Term) : Type
 
 -- a tree was read under parameters
 pub record ResolvesBody (w w' : Around) (ps : List (List ℕ)) (t : Tree) (e : Term) : Type 0 where
+  pub kept : w'.here.names ≡ w.here.names
   pub grown : Grows w.table w'.table
   pub means : Always w'.table (λ all. Means w.here.names all (bind w.here.scope ps) t e)
   pub fine : complaint (with_names (takes w.here) ps) t ≡ None

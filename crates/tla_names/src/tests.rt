@@ -9,6 +9,7 @@ use tla_ast::{
 };
 use tla_core::VarId;
 use tla_scopes::{Entry, Meant, Named, ProgramNames};
+use term_parts::uses_smaller;
 use tla_terms::{DefId, Level, NamedSet, Operator, Operators, Term, TermNode};
 use trace_base::{Names, Place, Text};
 
@@ -358,6 +359,9 @@ fn outcome_of(alloc: Global, tree: &Expr) -> Result<Told, AllocError> {
     table.push(operator(alloc, 2, Level::Constant)?)?;
     if !names.are_in(table.len()) {
         return Ok(of_place("not in the table", &place(0)));
+    }
+    if !uses_smaller(alloc, table.items())? {
+        return Ok(of_place("not in order", &place(0)));
     }
     match resolve_tree(alloc, &names, &params, &mut table, tree) {
         Ok(term) => Ok(of_term(&term)),

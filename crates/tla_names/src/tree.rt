@@ -1,6 +1,7 @@
 //! What a tree means among the names of a program.
 
 ghost use Rattle.std.specs.Prelude.{◌≡◌, [], IfOk, IfErr, OnOk, length};
+ghost use Rattle.term_parts.specs.Slots.{MentionsBelow, UsesSmaller};
 ghost use Rattle.tla_names.specs.Around.{takes};
 ghost use Rattle.tla_names.specs.Complaints.{complaint, with_names};
 ghost use Rattle.tla_names.specs.Means.{Means};
@@ -34,6 +35,7 @@ fn resolve_in(
 }
 
 /// What a tree means under parameters, over a table of definitions that grows by those of its LETs, or the first name of it that means nothing.
+/// A definition uses those of smaller numbers alone, and the term those of the table.
 /// On a refusal nothing is said of the table.
 pub fn resolve_tree(
     alloc: Global,
@@ -42,7 +44,10 @@ pub fn resolve_tree(
     table: &mut Operators,
     tree: &Expr,
 ) -> Result<Term, NameFault>
-    requires { AreIn (length table.old) names.now }
+    requires known { AreIn (length table.old) names.now }
+    requires ordered { UsesSmaller table.old }
+    ensures smaller { OnOk result (UsesSmaller table.new) }
+    ensures below { IfOk result (MentionsBelow (length table.new)) }
     ensures grown { OnOk result (Grows table.old table.new) }
     ensures means { IfOk result (λ e. Always table.new (λ all. Means names.now all (bind [] params.now) tree.now e)) }
     ensures fine { OnOk result (complaint (with_names (takes_of names.now) params.now) tree.now ≡ None) }

@@ -1,11 +1,13 @@
 //! What stands around a tree while it is resolved.
 
-ghost use Rattle.std.specs.Prelude.{◌≡◌, [], ◌∷◌, ◌++◌, IfOk, IfErr, OnOk, length, take};
+ghost use Rattle.std.specs.Prelude.{◌≡◌, ℕ, List, [], ◌∷◌, ◌++◌, IfOk, IfErr, OnOk, length, take};
+ghost use Rattle.tla_ast.specs.Trees.{Tree};
 ghost use Rattle.tla_terms.specs.TermViews.{node_view};
 ghost use Rattle.tla_terms.specs.Terms.{Placed};
 ghost use Rattle.tla_terms.specs.Levels.{level_for};
 ghost use Rattle.tla_names.specs.Complaints.{counted};
-ghost use Rattle.tla_names.specs.Means.{local_operator};
+ghost use Rattle.term_parts.specs.Slots.{UsesSmaller};
+ghost use Rattle.tla_names.specs.Means.{Means, local_operator};
 ghost use Rattle.tla_names.specs.Outcomes.{Complains, IsSought, takes_in};
 ghost use Rattle.tla_scopes.specs.Standing.{IsIn, AreIn};
 ghost use Rattle.tla_scopes.specs.Scopes.{bind, bind_bounds, slots};
@@ -49,7 +51,8 @@ impl<'a> Walk<'a> {
 
     /// Over these names with nothing bound.
     pub fn new(alloc: Global, names: &'a ProgramNames, table: Operators) -> Walk<'a>
-        requires { AreIn (length table) names.now }
+        requires known { AreIn (length table) names.now }
+        requires smaller { UsesSmaller table }
         ensures names { result.here.names ≡ names.entry.now }
         ensures scope { result.here.scope ≡ [] }
         ensures table { result.table ≡ table }
@@ -63,7 +66,9 @@ impl<'a> Walk<'a> {
 
     /// The table of definitions.
     pub fn into_table(self) -> Operators
-        ensures { result ≡ self.entry.table }
+        ensures table { result ≡ self.entry.table }
+        ensures known { AreIn (length result) self.entry.here.names }
+        ensures smaller { UsesSmaller result }
     {
         let Walk {
             names: _,
@@ -112,7 +117,7 @@ impl<'a> Walk<'a> {
         self.scope.push(Local::Bound(name.copy()?))
     }
 
-    /// Adds a definition of a LET to the table, and binds its name.
+    /// Adds a definition of a LET to the table, and binds its name. The body is what some tree means there, under some parameters.
     #[tactic(auto, using(crate::proofs::AroundLemmas::around_more, crate::proofs::AroundLemmas::around_defined))]
     pub fn define(
         &mut self,
@@ -121,6 +126,7 @@ impl<'a> Walk<'a> {
         params: usize,
         body: Term,
     ) -> Result<DefId, NoMemory>
+        requires { (ps : List (List ℕ)) × (t : Tree) × Means self.old.here.names self.old.table (bind self.old.here.scope ps) t body }
         ensures number { IfOk result (λ k. k.0 ≡ length self.old.table) }
         ensures names { OnOk result (self.new.here.names ≡ self.old.here.names) }
         ensures scope { IfOk result (λ k. self.new.here.scope ≡ self.old.here.scope ++ Defined name.now k params ∷ []) }

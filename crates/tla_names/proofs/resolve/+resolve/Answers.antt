@@ -207,6 +207,10 @@ resolve_definitions-returns-in_err-body-clause-refused t c =
     stopped c.from_residual-in_err-body.result c.in_err-body.field-0.0 (Complains (definitions_complaint (takes c.args.walk.now.here) c.args.trees.now)) c.from_residual-in_err-body.ensures.1
     (defining.body_refused c.args.walk.now c.loop-tree.walk c.bind.new.self c.items-tree-items.result.now c.args.trees.now c.loop-tree.tree-index c.loop-tree.numbers c.tree-item.result c.in_err-body.field-0.0 c.items-tree-items.ensures c.loop-tree-test.true c.tree-item.is c.loop-tree.invariant c.in_ok-not_itself.ensures.fine (defining.bound_names c.loop-tree.walk c.bind.new.self c.items.result.now c.tree-item.result.params c.items.ensures c.in_ok-bind.ensures) c.in_err-body.ensures.refused)
 
+pub resolve_definitions-define-requires : goal.resolve_definitions-define-requires
+resolve_definitions-define-requires t c =
+    (c.tree-item.result.params, c.tree-item.result.body, defining.defined_means c.loop-tree.walk c.bind.new.self c.resolve_to.new.walk c.depth-depth.result c.tree-item.result.params c.tree-item.result.body c.in_ok-body.body c.depth-depth.ensures (defining.bound_names c.loop-tree.walk c.bind.new.self c.items.result.now c.tree-item.result.params c.items.ensures c.in_ok-bind.ensures) c.in_ok-body.ensures.fine)
+
 pub resolve_definitions-loop-tree-preserved : goal.resolve_definitions-loop-tree-preserved
 resolve_definitions-loop-tree-preserved t c =
     defining.definitions_pushed c.args.walk.now c.loop-tree.walk c.bind.new.self c.resolve_to.new.walk c.define.new.self c.items-tree-items.result.now c.loop-tree.tree-index c.depth-depth.result c.len.result c.loop-tree.numbers c.push.new.self c.tree-item.result c.in_ok-body.body c.in_ok-number.number c.in_ok-push.ensures.pushed c.loop-tree-test.true c.tree-item.is c.loop-tree.invariant c.in_ok-not_itself.ensures.fine c.depth-depth.ensures (defining.bound_names c.loop-tree.walk c.bind.new.self c.items.result.now c.tree-item.result.params c.items.ensures c.in_ok-bind.ensures) c.in_ok-body.ensures.fine c.len.ensures c.in_ok-number.ensures.number c.in_ok-number.ensures.names c.in_ok-number.ensures.scope c.in_ok-number.ensures.table

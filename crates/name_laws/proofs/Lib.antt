@@ -1,0 +1,6 @@
+mod Bits
+mod Fine
+mod Hiding
+mod Known
+mod More
+mod Same

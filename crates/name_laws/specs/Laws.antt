@@ -1,0 +1,41 @@
+-- What the names of a tree decide: laws of the first name that means nothing, and of what a tree means.
+use Rattle.std.specs.Prelude.{◌≡◌, ℕ, true, List, Option, Some, None}
+use Rattle.tla_ast.specs.Trees.{Tree}
+use Rattle.tla_terms.specs.declared.operator.Operator.{Operator}
+use Rattle.tla_terms.specs.Terms.{Term}
+use Rattle.tla_scopes.specs.declared.scope.Local.{Local}
+use Rattle.tla_scopes.specs.declared.meant.Entry.{Entry}
+use Rattle.tla_scopes.specs.declared.meant.Named.{Named}
+use Rattle.tla_scopes.specs.Mentions.{mentions}
+use Rattle.tla_scopes.specs.Scopes.{among}
+use Rattle.tla_names.specs.Complaints.{Takes, complaint}
+use Rattle.tla_names.specs.Means.{Means}
+
+-- each name that means something goes on to, with as many arguments
+abbrev pub Keeps : Takes → Takes → Type 0
+Keeps g g' = (n : List ℕ) (k : ℕ) → g n ≡ Some k → g' n ≡ Some k
+
+-- the name means something
+abbrev pub IsKnown : Option ℕ → Type 0
+IsKnown o = (k : ℕ) × (o ≡ Some k)
+
+-- each name of the one list means the same in the other
+abbrev pub HasMore : List Entry → List Entry → Type 0
+HasMore names names' = (n : List ℕ) (w : Named) → among names n ≡ Some w → among names' n ≡ Some w
+
+-- where names mean nothing wrong, they do not where more names mean something
+abbrev pub FineStaysFine : Type 0
+FineStaysFine = (g g' : Takes) → Keeps g g' → (t : Tree) → complaint g t ≡ None → complaint g' t ≡ None
+
+-- each name that is mentioned where nothing is wrong means something
+abbrev pub FineNamesAreKnown : Type 0
+FineNamesAreKnown = (g : Takes) (t : Tree) → complaint g t ≡ None → (n : List ℕ) → mentions n t ≡ true → IsKnown (g n)
+
+-- what is wrong with names depends on the names that are mentioned alone
+abbrev pub MentionedNamesDecide : Type 0
+MentionedNamesDecide = (g g' : Takes) (t : Tree) → ((n : List ℕ) → mentions n t ≡ true → g n ≡ g' n) → complaint g t ≡ complaint g' t
+
+-- what a tree means it goes on to mean where more names mean something
+abbrev pub MeaningsStay : Type 0
+MeaningsStay =
+    (names names' : List Entry) → HasMore names names' → (ops : List Operator) (scope : List Local) (t : Tree) (e : Term) → Means names ops scope t e → Means names' ops scope t e
