@@ -15,7 +15,7 @@ use Rattle.tla_scopes.specs.Scopes.{later, named, bound_from, bound, among}
 use Rattle.tla_scopes.proofs.ScopeLemmas.{one_slot}
 use Rattle.term_parts.specs.Slots.{MentionsBelow, UsesSmaller}
 use Rattle.tla_names.specs.Around.{IsAround}
-use Rattle.tla_names.specs.Outcomes.{IsSought}
+use Rattle.tla_names.specs.Outcomes.{IsSought, IsUnnamedFrom}
 
 abbrev meant_of : Option Named → Meant
 meant_of (Some x) = x.meant
@@ -86,6 +86,12 @@ pushed_at [] x zero p e = inr (refl, cc)
 pushed_at [] x (suc k) p e = absurd (cc)
 pushed_at (y ∷ xs) x zero p e = inl e
 pushed_at (y ∷ xs) x (suc k) p e = elim (pushed_at xs x k p e) [ inl a ↦ inl a | inr b ↦ inr (ap suc b.0, b.1) ]
+
+pub unnamed_pushed : (k : ℕ) (table : List Operator) (o : Operator) → o.name ≡ [] → IsUnnamedFrom k table → IsUnnamedFrom k (table ++ o ∷ [])
+unnamed_pushed k table o n h i p le e = elim (pushed_at table o i p e) [
+  | inl a ↦ h i p le a
+  | inr b ↦ subst (λ (q : Operator). q.name ≡ []) b.1 n
+]
 
 smaller_pushed : (table : List Operator) (o : Operator) → UsesSmaller table → MentionsBelow (length table) o.body → UsesSmaller (table ++ o ∷ [])
 smaller_pushed table o h below k p e = elim (pushed_at table o k p e) [

@@ -1,5 +1,5 @@
 use Rattle.std.proofs.Common.{◌∙◌}
-use Rattle.tla_names.proofs.Whole.{all_grown, all_means, all_fine, all_refused, whole_below, whole_smaller}
+use Rattle.tla_names.proofs.Whole.{all_grown, all_unnamed, all_means, all_fine, all_refused, whole_below, whole_smaller}
 use Rattle.tla_names.proofs.tree.resolve_tree.Goals as goal
 
 pub returns-clause-grown : goal.returns-clause-grown
@@ -25,3 +25,7 @@ returns-clause-below c =
 
 pub returns-clause-smaller : goal.returns-clause-smaller
 returns-clause-smaller c = whole_smaller c.into_table.result c.resolve_in-outcome.result c.into_table.ensures.smaller
+
+pub returns-clause-unnamed : goal.returns-clause-unnamed
+returns-clause-unnamed c =
+    all_unnamed c.new-walk.result c.resolve_in-outcome.new.walk c.args.table.now c.into_table.result c.args.params.now c.args.tree.now c.resolve_in-outcome.result (c.new-walk.ensures.table ∙ c.replace-before.ensures.value) c.into_table.ensures.table c.resolve_in-outcome.ensures.fine

@@ -1,0 +1,9 @@
+pub mod Items
+pub mod Loops
+pub mod Covers
+pub mod Domains
+pub mod Tuples
+pub mod Collecting
+pub mod Several
+pub mod Rests
+pub mod Outcomes

@@ -1,0 +1,10 @@
+pub mod DescribedSets
+pub mod DescribedViews
+pub mod DescribedSizes
+pub mod DescribedFalls
+pub mod DescribedCodes
+pub mod Membership
+pub mod Soundness
+pub mod Listings
+pub mod ListedParts
+pub mod OneOutcome

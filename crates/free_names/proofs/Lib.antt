@@ -1,0 +1,3 @@
+pub mod Gathering
+pub mod Items
+pub mod Walks

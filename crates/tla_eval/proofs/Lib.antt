@@ -1,0 +1,4 @@
+pub mod SmallTerms
+pub mod Placing
+pub mod AtMostOne
+pub mod Telling

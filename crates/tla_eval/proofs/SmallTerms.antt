@@ -1,0 +1,119 @@
+-- Small terms, and what they evaluate to: that the definitions are known to compute.
+use Rattle.std.proofs.Common.{refl, inl, inr, [], ◌∷◌, arith}
+use Rattle.std.specs.Prelude.{ℕ, ◌+◌, pos, true, false, Some, Ok, Err}
+use Rattle.trace_base.specs.declared.place.Place.{Place}
+use Rattle.tla_values.specs.Data.{truth, integer, set, function, no_vals, no_pairs}
+use Rattle.tla_values.specs.declared.fault.EvalKind.TheVariants.{NotInteger, NotFunction, NotFinite, Nested, NoCase, NoChoice, BadDivisor}
+use Rattle.tla_ast.specs.declared.operators.InfixOperator.TheVariants.{Plus, Quotient, Member, Implies, CartesianProduct}
+use Rattle.tla_ast.specs.declared.operators.PrefixOperator.TheVariants.{Unchanged}
+use Rattle.tla_ast.specs.declared.operators.Quantifier.TheVariants.{Exists}
+use Rattle.tla_terms.specs.declared.level.Level.TheVariants as levels
+use Rattle.tla_terms.specs.declared.standard.NamedSet.TheVariants as sets
+use Rattle.tla_terms.specs.declared.operator.Operator.{Operator}
+use Rattle.tla_terms.specs.Terms.{Term, Meaning, Placed, Known, Named, Infix, First, Next, NoTerms, MoreTerms, Variable, Slot, Use, Prefix, Postfix, NoSteps, MoreSteps, Prime, Index, Tuple, Quantified, Choose, NoBounds, MoreBounds, Case, NoArms, MoreArms, Except, NoChanges, MoreChanges}
+use Rattle.eval_sets.specs.DescribedSets as described
+use Rattle.eval_sets.specs.DescribedSets.{Listed}
+use Rattle.tla_core.specs.declared.fault.Fault.{Fault}
+use Rattle.tla_eval.specs.Outcomes.{fault}
+use Rattle.tla_eval.specs.Contexts.{Context}
+use Rattle.tla_eval.specs.Evaluates.{Evaluates}
+
+-- the n-th column of the first line
+abbrev at : ℕ → Place
+at n = record { file = 0; line = 1; col = n }
+
+abbrev nowhere : Context
+nowhere = record { slots = []; now = []; next = [] }
+
+abbrev constant : ℕ → Meaning → Term
+constant n m = Placed (at n) levels.Constant m
+
+abbrev number : ℕ → ℕ → Term
+number n k = constant n (Known (integer (pos k)))
+
+abbrev sum : Term → Term → Term
+sum a b = constant 3 (Infix Plus (First a) b)
+
+-- 1 + 2 is 3
+pub three : Evaluates [] 2 nowhere (sum (number 1 1) (number 5 2)) (Ok (integer (pos 3)))
+three = inl (integer (pos 1), refl, inl (integer (pos 2), refl, inl (integer (pos 3), refl, refl)))
+
+-- 1 + TRUE: the second operand is no integer, at its place
+pub no_integer : Evaluates [] 2 nowhere (sum (number 1 1) (constant 5 (Known (truth true)))) (Err (fault NotInteger (at 5)))
+no_integer = inl (integer (pos 1), refl, inl (truth true, refl, inr (fault NotInteger (at 5), (1, refl, refl), refl)))
+
+-- with one evaluation it is the first operand that is nested too deep
+pub too_deep : Evaluates [] 1 nowhere (sum (number 1 1) (number 5 2)) (Err (fault Nested (at 1)))
+too_deep = inr (fault Nested (at 1), refl, refl)
+
+-- x' is read in the next state
+pub next : Evaluates [] 2 (record { slots = []; now = Some (integer (pos 1)) ∷ []; next = Some (integer (pos 2)) ∷ [] }) (Placed (at 2) levels.Action (Postfix (Placed (at 1) levels.State (Variable 0)) NoSteps Prime)) (Ok (integer (pos 2)))
+next = (integer (pos 2), refl, refl)
+
+-- a definition of a LET under one bound name, used under two: it sees the first alone
+abbrev inner : Operator
+inner = record { name = []; outer = 1; params = 0; level = levels.Constant; body = constant 7 (Slot 0) }
+
+pub handed_on : Evaluates (inner ∷ []) 2 (record { slots = integer (pos 5) ∷ integer (pos 6) ∷ []; now = []; next = [] }) (constant 9 (Use 0 NoTerms)) (Ok (integer (pos 5)))
+handed_on = inl (Listed (integer (pos 5)), (inner, refl, inl (integer (pos 5), (integer (pos 5), refl, refl), refl)), refl)
+
+-- \E x \in S : x, where S is empty, is false
+pub none_in : Evaluates [] 2 nowhere (constant 1 (Quantified Exists (MoreBounds NoBounds 1 (constant 9 (Known (set no_vals)))) (constant 12 (Slot 0)))) (Ok (truth false))
+none_in =
+    inl (false, inl ([], inl (((1, at 9), set no_vals) ∷ [], inl (((1, at 9), set no_vals), inl (set no_vals, refl, refl), inl ([], refl, refl)), inl ((1, []) ∷ [], inl ((1, []), inl ([], refl, refl), inl ([], refl, refl)), refl)), refl), refl)
+
+-- CASE FALSE -> 1
+pub no_arm : Evaluates [] 2 nowhere (constant 1 (Case (MoreArms NoArms (constant 6 (Known (truth false))) (number 15 1)))) (Err (fault NoCase (at 1)))
+no_arm = inl (false, inl (truth false, refl, refl), refl)
+
+-- e EXCEPT ![1] = 2, ![3] = 4
+abbrev changed : Term → Term
+changed e = constant 1 (Except e (MoreChanges (MoreChanges NoChanges (MoreSteps NoSteps (at 12) (Index (MoreTerms NoTerms (number 13 1)))) (number 18 2)) (MoreSteps NoSteps (at 22) (Index (MoreTerms NoTerms (number 23 3)))) (number 28 4)))
+
+-- [5 EXCEPT ![1] = 2, ![3] = 4]: 5 is no function, at its place
+pub no_function : Evaluates [] 2 nowhere (changed (number 2 5)) (Err (fault NotFunction (at 2)))
+no_function = inl (integer (pos 5), refl, inr (fault NotFunction (at 2), inl (integer (pos 1), inl (integer (pos 1) ∷ [], inl (integer (pos 1), refl, inl ([], refl, refl)), refl), inl (λ h. h, refl)), refl))
+
+-- where f has no key, it stays at both changes
+pub kept : Evaluates [] 2 nowhere (changed (constant 2 (Known (function no_pairs)))) (Ok (function no_pairs))
+kept =
+    inl (function no_pairs, refl, inl (function no_pairs, inl (integer (pos 1), inl (integer (pos 1) ∷ [], inl (integer (pos 1), refl, inl ([], refl, refl)), refl), inr (inl (tt, (λ h. omega (arith, h.1)), refl))), inl (function no_pairs, inl (integer (pos 3), inl (integer (pos 3) ∷ [], inl (integer (pos 3), refl, inl ([], refl, refl)), refl), inr (inl (tt, (λ h. omega (arith, h.1)), refl))), refl)))
+
+-- Nat is not listed
+pub not_finite : Evaluates [] 1 nowhere (constant 4 (Named sets.Nat)) (Err (fault NotFinite (at 4)))
+not_finite = inl (described.Nat, refl, (0, refl, refl))
+
+-- UNCHANGED vars, where vars == <<x>>, under a bound name
+abbrev vars : Operator
+vars = record { name = 118 ∷ []; outer = 0; params = 0; level = levels.State; body = Placed (at 7) levels.State (Tuple (MoreTerms NoTerms (Placed (at 9) levels.State (Variable 0)))) }
+
+pub same_tuple : Evaluates (vars ∷ []) 4 (record { slots = integer (pos 5) ∷ []; now = Some (integer (pos 1)) ∷ []; next = Some (integer (pos 1)) ∷ [] }) (Placed (at 2) levels.Action (Prefix Unchanged (Placed (at 12) levels.State (Use 0 NoTerms)))) (Ok (truth true))
+same_tuple =
+    inl (true, inl (true, inl (truth true, inl (true, inl (integer (pos 1), (integer (pos 1), refl, refl), inl (integer (pos 1), (integer (pos 1), refl, refl), (true, ((λ b. refl), (λ e. refl)), refl))), refl), refl), refl), refl)
+
+-- 1 + TRUE + (1 \div 0): a chain goes as if nested to the left, so that the quotient is not evaluated
+abbrev quotient : ℕ → Term
+quotient n = constant (n + 2) (Infix Quotient (First (number n 1)) (number (n + 7) 0))
+
+pub chain_stops : Evaluates [] 3 nowhere (constant 10 (Infix Plus (Next (First (number 1 1)) (at 3) (constant 5 (Known (truth true)))) (quotient 13))) (Err (fault NotInteger (at 5)))
+chain_stops = inl (integer (pos 1), refl, inl (truth true, refl, inr (fault NotInteger (at 5), (1, refl, refl), refl)))
+
+-- 1 \X (1 \div 0): the parts of a product are evaluated before any is tested
+abbrev divided : Fault
+divided = fault BadDivisor (at 9)
+
+pub parts_first : Evaluates [] 3 nowhere (constant 3 (Infix CartesianProduct (First (number 1 1)) (quotient 7))) (Err (fault BadDivisor (at 9)))
+parts_first =
+    inr (divided, inr (divided, inl ((at 1, Listed (integer (pos 1))), inl (Listed (integer (pos 1)), inl (integer (pos 1), refl, refl), refl), inr (divided, inr (divided, inr (divided, inr (divided, inl (integer (pos 1), refl, inl (integer (pos 0), refl, inr (divided, (255, refl, refl), refl))), refl), refl), refl), refl)), refl), refl)
+
+-- FALSE => 1: the right side is not asked for
+pub not_asked : Evaluates [] 2 nowhere (constant 7 (Infix Implies (First (constant 1 (Known (truth false)))) (number 10 1))) (Ok (truth true))
+not_asked = inl (true, inl (false, inl (truth false, refl, refl), refl), refl)
+
+-- CHOOSE x \in S : x, where S is empty
+pub no_choice : Evaluates [] 2 nowhere (constant 1 (Choose (constant 14 (Known (set no_vals))) (constant 18 (Slot 0)))) (Err (fault NoChoice (at 1)))
+no_choice = inl ([], inl (set no_vals, refl, refl), refl)
+
+-- 5 \in Nat is true, and Nat is not listed
+pub is_natural : Evaluates [] 2 nowhere (constant 3 (Infix Member (First (number 1 5)) (constant 7 (Named sets.Nat)))) (Ok (truth true))
+is_natural = inl (true, inl (integer (pos 5), refl, inl (described.Nat, inl (described.Nat, refl, refl), (true, ((λ h. (pos 5, refl, omega arith)), (λ h. refl)), refl))), refl)

@@ -1,0 +1,52 @@
+-- Functions: their keys, the steps behind a primary, and the changes of EXCEPT.
+use Rattle.std.specs.Prelude.{◌⊎◌, List, [], ◌∷◌, map}
+use Rattle.trace_base.specs.declared.place.Place.{Place}
+use Rattle.tla_values.specs.Data.{Val, string}
+use Rattle.tla_values.specs.Functions.{IsFunction, InDomain, HasPair}
+use Rattle.tla_values.specs.FunctionOperations.{GivesSequence, AppliesAt, Excepts}
+use Rattle.tla_values.specs.declared.fault.EvalKind.TheVariants.{NotFunction}
+use Rattle.tla_terms.specs.Lists.{terms_list, steps_list}
+use Rattle.tla_terms.specs.Terms as term
+use Rattle.tla_terms.specs.Terms.{Term, Step, Steps, place_of}
+use Rattle.tla_eval.specs.Outcomes.{Outcome, Gives, Fails, Then, Each, Operated, place_in}
+use Rattle.tla_eval.specs.Contexts.{Context, Evaluate, bind, primed}
+
+-- The key that values make: one is itself, and several are their tuple, with its faults at the given place.
+abbrev pub KeyOf : Place → List Val → Outcome Val
+KeyOf at (v ∷ []) r = Gives v r
+KeyOf at vs r = Operated (GivesSequence vs) (λ n. at) r
+
+-- the key that a step asks for: f[x, y] is f[<<x, y>>], and r.h is r["h"]
+abbrev pub StepKey : Evaluate → Context → Place → Step → Outcome Val
+StepKey evaluate c at term.Prime r = ⊥
+StepKey evaluate c at (term.Index ts) r = Then (Each (evaluate c) (terms_list ts)) (KeyOf at) r
+StepKey evaluate c at (term.Field h) r = Gives (string h) r
+
+-- the place of a primary with steps behind it, where it stands alone: that of the last step
+abbrev pub steps_place : Place → Steps → Place
+steps_place at term.NoSteps = at
+steps_place at (term.MoreSteps ss p e) = p
+
+-- The value behind the steps. A prime reads all that stands before it in the next state.
+abbrev pub StepsEvaluate : Evaluate → Context → Term → Steps → Outcome Val
+StepsEvaluate evaluate c e term.NoSteps = evaluate c e
+StepsEvaluate evaluate c e (term.MoreSteps ss p term.Prime) = StepsEvaluate evaluate (primed c) e ss
+StepsEvaluate evaluate c e (term.MoreSteps ss p s) =
+    Then (StepsEvaluate evaluate c e ss) (λ f. Then (StepKey evaluate c p s) (λ key. Operated (AppliesAt f key) (place_in p (steps_place (place_of e) ss ∷ []))))
+
+-- What stands at a key: what is no function is refused at the place of the base, and where the key is outside the domain the function stays.
+abbrev pub AtKey : Place → Val → Val → (Val → Outcome Val) → Outcome Val
+AtKey base f key P r = (¬ IsFunction f × Fails NotFunction base r) ⊎ (IsFunction f × ¬ InDomain key f × Gives f r) ⊎ ((old : Val) × HasPair f key old × P old r)
+
+-- The value f with one change: at the end of the path stands the new value, which sees the old one as the innermost bound name. The EXCEPT stands
+-- at the place at, and what it changes at the place base.
+abbrev pub Changed : Evaluate → Context → Place → Place → List Step → Term → Val → Outcome Val
+Changed evaluate c at base [] new f = evaluate (bind c (f ∷ [])) new
+Changed evaluate c at base (s ∷ path) new f =
+    Then (StepKey evaluate c at s) (λ key. AtKey base f key (λ old. Then (Changed evaluate c at base path new old) (λ v. Operated (Excepts f key v) (λ n. at))))
+
+-- one change after another
+abbrev pub AllChanged : Evaluate → Context → Place → Place → List (Steps × Term) → Val → Outcome Val
+AllChanged evaluate c at base [] f = Gives f
+AllChanged evaluate c at base (change ∷ changes) f =
+    Then (Changed evaluate c at base (map (λ s. s.1) (steps_list change.0)) change.1 f) (AllChanged evaluate c at base changes)

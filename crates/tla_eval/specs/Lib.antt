@@ -1,0 +1,12 @@
+pub mod Outcomes
+pub mod Contexts
+pub mod Operations
+pub mod Sets
+pub mod Binders
+pub mod Functions
+pub mod Unchanged
+pub mod Meanings
+pub mod Evaluates
+pub mod Everywhere
+pub mod Laws
+pub mod Answers

@@ -1,0 +1,7 @@
+pub mod Cuts
+pub mod DeclaredLemmas
+pub mod EntryLemmas
+pub mod NameLemmas
+pub mod NumberLemmas
+pub mod StandardLemmas
+pub mod WithinLemmas

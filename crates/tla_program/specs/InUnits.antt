@@ -1,0 +1,39 @@
+-- What the units of a program declare, define and assume, in the order of the text.
+use Rattle.std.specs.Prelude.{List, [], ◌∷◌, ◌++◌}
+use Rattle.tla_ast.specs.Trees.{Tree}
+use Rattle.tla_ast.specs.declared.expr.Definition.{Definition}
+use Rattle.tla_ast.specs.declared.module.Declared.{Declared}
+use Rattle.tla_ast.specs.declared.module.Unit.{Unit as ModuleUnit}
+use Rattle.tla_ast.specs.declared.module.Unit.TheVariants.{Variables, Constants, Define, Assume, Passed}
+
+abbrev pub variables_in : List ModuleUnit → List Declared
+variables_in [] = []
+variables_in (Variables ds ∷ us) = ds ++ variables_in us
+variables_in (Constants ds ∷ us) = variables_in us
+variables_in (Define d ∷ us) = variables_in us
+variables_in (Assume e ∷ us) = variables_in us
+variables_in (Passed ∷ us) = variables_in us
+
+abbrev pub constants_in : List ModuleUnit → List Declared
+constants_in [] = []
+constants_in (Variables ds ∷ us) = constants_in us
+constants_in (Constants ds ∷ us) = ds ++ constants_in us
+constants_in (Define d ∷ us) = constants_in us
+constants_in (Assume e ∷ us) = constants_in us
+constants_in (Passed ∷ us) = constants_in us
+
+abbrev pub definitions_in : List ModuleUnit → List Definition
+definitions_in [] = []
+definitions_in (Variables ds ∷ us) = definitions_in us
+definitions_in (Constants ds ∷ us) = definitions_in us
+definitions_in (Define d ∷ us) = d ∷ definitions_in us
+definitions_in (Assume e ∷ us) = definitions_in us
+definitions_in (Passed ∷ us) = definitions_in us
+
+abbrev pub assumptions_in : List ModuleUnit → List Tree
+assumptions_in [] = []
+assumptions_in (Variables ds ∷ us) = assumptions_in us
+assumptions_in (Constants ds ∷ us) = assumptions_in us
+assumptions_in (Define d ∷ us) = assumptions_in us
+assumptions_in (Assume e ∷ us) = e ∷ assumptions_in us
+assumptions_in (Passed ∷ us) = assumptions_in us
