@@ -16,7 +16,7 @@ use tla_ast::{
 };
 use trace_base::{Names, NoMemory, Text};
 
-/// The names that occur in the tree where nothing in the tree binds them: a name stands there as often as it does.
+/// The names that occur in the tree where nothing in the tree binds them. One that occurs several times stands there several times.
 pub fn free_names(alloc: Global, tree: &Expr) -> Result<Names, NoMemory>
     ensures exact { IfOk result (λ names. (n : List ℕ) → Contains names n ↔ (mentions n tree.now ≡ true)) }
 {

@@ -4,4 +4,5 @@ pub mod EntryLemmas
 pub mod NameLemmas
 pub mod NumberLemmas
 pub mod StandardLemmas
+pub mod Values
 pub mod WithinLemmas

@@ -1,9 +1,8 @@
 -- Names that get numbers, and the names that mean each definition.
-use Rattle.std.proofs.Common.{◌≡◌, ◌∙◌, sym, ap, refl, subst, List, [], ◌∷◌, ◌++◌, ◌<◌, arith}
+use Rattle.std.proofs.Common.{◌≡◌, ◌∙◌, sym, ap, refl, subst, List, [], ◌∷◌, ◌++◌, ◌<◌, ◌≤◌, arith}
 use Rattle.std.specs.Prelude.{ℕ, zero, suc, ◌==◌, Bool, true, false, if◌then◌else◌, Option, Some, None, option_map, get_or}
 use Rattle.std.specs.Str.{bytes_eq}
 use Rattle.std.proofs.lemmas.Bool.Decides.{nat_tests}
-use Rattle.std.proofs.lemmas.List.{append-nil}
 use Rattle.std.proofs.lemmas.List.Elements.{All-append, All-cons, All-head, All-nil, All-tail}
 use Rattle.trace_base.specs.Texts.{same_bytes}
 use Rattle.tla_values.specs.Data.{Val}
@@ -154,13 +153,18 @@ defined_in : (count k : ℕ) (es : List Entry) → k < count → AreIn count (de
 defined_in count k [] lt = All-nil (λ (x : Entry). IsIn count x.is.meant)
 defined_in count k (x ∷ xs) lt = All-cons (λ (x : Entry). IsIn count x.is.meant) _ (defined_by k xs) lt (defined_in count k xs lt)
 
-pub grown_within : (old new list : List Entry) (k : ℕ) → new ≡ old ++ defined_by k list → (count : ℕ) → AreIn count old → k < count → AreIn count new
-grown_within old new list k e count h lt =
-    subst (λ (l : List Entry). AreIn count l) (sym e) (All-append (λ (x : Entry). IsIn count x.is.meant) old (defined_by k list) h (defined_in count k list lt))
+in_more : (before count : ℕ) → before ≤ count → (m : Meant) → IsIn before m → IsIn count m
+in_more before count le (meant.Definition k) h = omega arith
+in_more before count le (meant.Slot i) h = tt
+in_more before count le (meant.Variable x) h = tt
+in_more before count le (meant.Known v) h = tt
+in_more before count le (meant.Set s) h = tt
+in_more before count le (meant.Standard o) h = tt
 
--- nothing is added where there is no such definition
-pub same_behind : (old new : List Entry) (k : ℕ) → new ≡ old → new ≡ old ++ defined_by k []
-same_behind old new k e = e ∙ sym (append-nil old)
+pub grown_within : (old new list : List Entry) (k : ℕ) → new ≡ old ++ defined_by k list → (before count : ℕ) → AreIn before old → before ≤ count → k < count → AreIn count new
+grown_within old new list k e before count h le lt =
+    let kept : AreIn count old = λ i d within. in_more before count le (get_or old i d).is.meant (h i d within) in
+    subst (λ (l : List Entry). AreIn count l) (sym e) (All-append (λ (x : Entry). IsIn count x.is.meant) old (defined_by k list) kept (defined_in count k list lt))
 
 -- what a name means stands in range
 pub among_in : (count : ℕ) (es : List Entry) (n : List ℕ) (x : Named) → AreIn count es → among es n ≡ Some x → IsIn count x.meant

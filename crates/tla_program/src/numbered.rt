@@ -1,9 +1,9 @@
 //! The names of a program while its definitions get their numbers.
 
-ghost use Rattle.std.specs.Prelude.{◌≡◌, ◌++◌, ◌<◌, ℕ, IfOk, OnOk, List, [], None, Some, get_or, length};
+ghost use Rattle.std.specs.Prelude.{◌≡◌, ◌++◌, ◌<◌, ◌≤◌, ℕ, IfOk, OnOk, List, [], None, Some, get_or, length};
 ghost use Rattle.tla_values.specs.Data.{Val};
-ghost use Rattle.tla_ast.specs.declared.config.Config.{Config as Configuration};
-ghost use Rattle.tla_ast.specs.declared.module.Program.{Program as WholeProgram};
+ghost use Rattle.tla_ast.specs.declared.config.Config.{Config};
+ghost use Rattle.tla_ast.specs.declared.module.Program.{Program};
 ghost use Rattle.tla_scopes.specs.Scopes.{among};
 ghost use Rattle.tla_scopes.specs.Standing.{AreIn, IsIn};
 ghost use Rattle.tla_program.specs.Names.{AreByDefinition, AreNames, Numbers, by_index, numbered, numbered_meant, numbers_of, only_definition, with_number};
@@ -84,7 +84,7 @@ pub fn numbered_names(
     names: &ProgramNames,
     numbers: &[Option<usize>],
 ) -> Result<ProgramNames, NoMemory>
-    ensures are { IfOk result (λ ns. (p : WholeProgram) (c : Configuration) (values : List Val) → AreNames p c values by_index names.now → AreNames p c values (numbers_of numbers.now) ns) }
+    ensures are { IfOk result (λ ns. (p : Program) (c : Config) (values : List Val) → AreNames p c values by_index names.now → AreNames p c values (numbers_of numbers.now) ns) }
     ensures within { IfOk result (λ ns. (count : ℕ) → ((i k : ℕ) → numbers_of numbers.now i ≡ Some k → k < count) → AreIn count ns) }
 {
     let mut found = ProgramNames::new(alloc);
@@ -154,7 +154,7 @@ pub fn names_by_definition(
 ) -> Result<Vec<ProgramNames>, NoMemory>
     requires within { AreIn count names.now }
     ensures count { IfOk result (λ ls. length ls.items ≡ count) }
-    ensures are { IfOk result (λ ls. (p : WholeProgram) (c : Configuration) (values : List Val) → AreNames p c values by_index names.now → AreByDefinition p c values ls.items) }
+    ensures are { IfOk result (λ ls. (p : Program) (c : Config) (values : List Val) → AreNames p c values by_index names.now → AreByDefinition p c values ls.items) }
 {
     let mut lists = empty_lists(alloc, count)?;
     for entry in names.items() {
@@ -179,16 +179,16 @@ fn add_for(names: &mut ProgramNames, list: &ProgramNames, number: usize) -> Resu
     Ok(())
 }
 
-/// Adds the names that mean the definition of that index, which has got this number. With an index for each definition in turn that takes a
-/// time in proportion to the names.
+/// Adds the names that mean the definition of that index, which has got this number. For all definitions together that takes a time in proportion
+/// to the names. On a refusal some of them may have been added.
 pub fn add_numbered(
     names: &mut ProgramNames,
     by_definition: &[ProgramNames],
     index: usize,
     number: usize,
 ) -> Result<(), NoMemory>
-    ensures are { OnOk result ((p : WholeProgram) (c : Configuration) (values : List Val) (before : Numbers) → AreByDefinition p c values by_definition.now → before index ≡ None → AreNames p c values before names.old → AreNames p c values (with_number before index number) names.new) }
-    ensures within { OnOk result ((count : ℕ) → AreIn count names.old → number < count → AreIn count names.new) }
+    ensures are { OnOk result ((p : Program) (c : Config) (values : List Val) (before : Numbers) → AreByDefinition p c values by_definition.now → before index ≡ None → AreNames p c values before names.old → AreNames p c values (with_number before index number) names.new) }
+    ensures within { OnOk result ((before count : ℕ) → AreIn before names.old → before ≤ count → number < count → AreIn count names.new) }
 {
     match by_definition.get(index) {
         Some(list) => add_for(names, list, number),

@@ -1,0 +1,9 @@
+//! Which definitions of a program use which.
+#![tactic(auto)]
+
+mod used;
+
+pub use used::uses;
+
+#[cfg(test)]
+mod tests;
