@@ -1,6 +1,6 @@
-mod Bits
-mod Fine
-mod Hiding
-mod Known
-mod More
-mod Same
+pub mod Bits
+pub mod Fine
+pub mod Hiding
+pub mod Known
+pub mod More
+pub mod Same

@@ -15,7 +15,7 @@ use Rattle.tla_scopes.specs.Scopes.{later, named, bound_from, bound, among}
 use Rattle.tla_scopes.proofs.ScopeLemmas.{one_slot}
 use Rattle.term_parts.specs.Slots.{MentionsBelow, UsesSmaller}
 use Rattle.tla_names.specs.Around.{IsAround}
-use Rattle.tla_names.specs.Outcomes.{IsSought, IsUnnamedFrom}
+use Rattle.tla_names.specs.Outcomes.{IsSought, unless_unnamed, named_in}
 
 abbrev meant_of : Option Named → Meant
 meant_of (Some x) = x.meant
@@ -87,11 +87,12 @@ pushed_at [] x (suc k) p e = absurd (cc)
 pushed_at (y ∷ xs) x zero p e = inl e
 pushed_at (y ∷ xs) x (suc k) p e = elim (pushed_at xs x k p e) [ inl a ↦ inl a | inr b ↦ inr (ap suc b.0, b.1) ]
 
-pub unnamed_pushed : (k : ℕ) (table : List Operator) (o : Operator) → o.name ≡ [] → IsUnnamedFrom k table → IsUnnamedFrom k (table ++ o ∷ [])
-unnamed_pushed k table o n h i p le e = elim (pushed_at table o i p e) [
-  | inl a ↦ h i p le a
-  | inr b ↦ subst (λ (q : Operator). q.name ≡ []) b.1 n
-]
+unless_same : (n : List ℕ) (o : Operator) (os ps : List Operator) → os ≡ ps → unless_unnamed n o os ≡ unless_unnamed n o ps
+unless_same n o os ps e = ap (unless_unnamed n o) e
+
+pub named_pushed : (table : List Operator) (o : Operator) → o.name ≡ [] → named_in (table ++ o ∷ []) ≡ named_in table
+named_pushed [] o n = ap (λ (m : List ℕ). unless_unnamed m o []) n
+named_pushed (x ∷ table) o n = unless_same x.name x (named_in (table ++ o ∷ [])) (named_in table) (named_pushed table o n)
 
 smaller_pushed : (table : List Operator) (o : Operator) → UsesSmaller table → MentionsBelow (length table) o.body → UsesSmaller (table ++ o ∷ [])
 smaller_pushed table o h below k p e = elim (pushed_at table o k p e) [

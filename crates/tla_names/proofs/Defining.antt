@@ -16,12 +16,12 @@ use Rattle.tla_scopes.specs.declared.scope.Local.TheVariants.{Defined}
 use Rattle.tla_names.specs.Around.{Here, Around, takes}
 use Rattle.tla_names.specs.Complaints.{Takes, or_else, with_names, with_definitions, complaint, definitions_complaint, itself}
 use Rattle.tla_names.specs.Means.{Means, local_operator}
-use Rattle.tla_names.specs.Outcomes.{takes_in, Complains, Grows, IsUnnamedFrom}
+use Rattle.tla_names.specs.Outcomes.{takes_in, Complains, Grows, named_in}
 use Rattle.tla_names.specs.Reads.{ResolvesTo, ResolvesDefinitions}
 use Rattle.tla_scopes.specs.Scopes.{bind, slots}
 use Rattle.tla_scopes.proofs.LevelLoops.{cut_at, cut_end}
 use Rattle.tla_names.proofs.Takes.{takes_bind, takes_definitions}
-use Rattle.tla_names.proofs.AroundLemmas.{unnamed_pushed}
+use Rattle.tla_names.proofs.AroundLemmas.{named_pushed}
 use Rattle.tla_names.proofs.Reading.{complains_first, complains_later, none_both, grows_same, grows_on}
 use Rattle.tla_names.proofs.Within.{ReadIn, bind_adds, read_back}
 
@@ -57,7 +57,7 @@ definition_on w m m1 m2 v depth ds ks n at ps a x k count d i dp b r ct ke vn vs
     record {
       kept = names;
       grown = grows_on w.table (grows_on w.table d.grown in_it.grown) one;
-      unnamed = λ j h. subst (λ (x : List Operator). IsUnnamedFrom j x) (sym table) (unnamed_pushed j m2.table o refl (in_it.unnamed j (d.unnamed j h)));
+      unnamed = ap named_in table ∙ named_pushed m2.table o refl ∙ in_it.unnamed ∙ d.unnamed;
       means = λ all g.
           (ks, m.here.scope, k, x, d.means all (grows_on m.table (grows_on m.table in_it.grown one) g), subst (λ (y : List Entry). Means y all (bind m.here.scope ps) a x) d.kept (in_it.means all (grows_on m2.table one g)), ap (λ (j : ℕ). slice_get all j) ke ∙ ap (λ (t : List Operator). slice_get t (length m2.table)) (g.1 ∙ ap (λ (t : List Operator). t ++ g.0) table ∙ append_assoc m2.table (o ∷ []) g.0) ∙ at_end m2.table o g.0, refl, scope);
       fine = none_both (definitions_complaint (takes w.here) ds) (or_else (itself n at ps a) (complaint (with_names (with_definitions (takes w.here) ds) ps) a)) d.fine
@@ -76,7 +76,7 @@ pub record DefinitionsRead (w v : Around) (items : List Definition) (i : ℕ) (k
 
 pub definitions_begin : (w : Around) (items : List Definition) → DefinitionsRead w w items 0 []
 definitions_begin w items =
-    record { so_far = tree.NoDefinitions; whole = refl; read = record { kept = refl; grown = grows_same w.table; unnamed = λ j h. h; means = λ all g. (refl, refl); fine = refl } }
+    record { so_far = tree.NoDefinitions; whole = refl; read = record { kept = refl; grown = grows_same w.table; unnamed = refl; means = λ all g. (refl, refl); fine = refl } }
 
 pub definitions_pushed : (w m m1 m2 v : Around) (items : List Definition) (i : ℕ) (depth count : ℕ) (ks new : List ℕ) (d : Definition) (x : Term) (k : DefId) → new ≡ ks ++ k.0 ∷ [] → i < length items → d ≡ get_or items i d → DefinitionsRead w m items i ks → itself d.name d.at d.params d.body ≡ None → depth ≡ length m.here.scope → m1 ≡ record { here = record { names = m.here.names; scope = bind m.here.scope d.params }; table = m.table } → ResolvesTo m1 m2 depth d.body x → count ≡ length d.params → k.0 ≡ length m2.table → v.here.names ≡ m2.here.names → v.here.scope ≡ m2.here.scope ++ Defined d.name k count ∷ [] → v.table ≡ m2.table ++ local_operator (slots m2.here.scope) count x ∷ [] → DefinitionsRead w v items (i + 1) new
 definitions_pushed w m m1 m2 v items i depth count ks new d x k e lt at h own dp b r ct ke vn vs vt =

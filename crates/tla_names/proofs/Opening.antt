@@ -22,7 +22,7 @@ use Rattle.tla_scopes.specs.declared.scope.Local.TheVariants.{Bound, Defined}
 use Rattle.tla_names.specs.Around.{Here, Around, takes}
 use Rattle.tla_names.specs.Complaints.{Takes, or_else, with_name, with_bounds, with_definitions, complaint, bounds_complaint, definitions_complaint}
 use Rattle.tla_names.specs.Means.{Means, Defines}
-use Rattle.tla_names.specs.Outcomes.{takes_in, Complains, Grows, KeepsUnnamed}
+use Rattle.tla_names.specs.Outcomes.{takes_in, Complains, Grows, named_in}
 use Rattle.tla_names.specs.Pendings.{closed, closed_all, Opens, OpensRow, StaysClosed}
 use Rattle.tla_names.specs.Reads.{Reads, Resolves, ResolvesRow, ResolvesBounds, ResolvesDefinitions, ResolvesTo, cut}
 use Rattle.tla_scopes.specs.Scopes.{bind, bind_bounds}
@@ -73,7 +73,7 @@ quantified_opens w m v rows new at q bs a t ys e n r b =
       bound = more.0;
       scope = scope ∙ more.1;
       grown = grown;
-      unnamed = subst (λ (x : List Operator). KeepsUnnamed w.table x) (sym table) r.unnamed;
+      unnamed = ap named_in table ∙ r.unnamed;
       means = λ all g z k.
           (ys, z, r.means all (subst (λ (x : List Operator). Grows x all) table g), subst (λ (x : List Entry). Means x all (bind_bounds w.here.scope bs) a z) names (subst (λ (x : List Local). Means v.here.names all x a z) scope k), refl);
       same = only_last (bounds_complaint (takes w.here) bs) (complaint (with_bounds (takes w.here) bs) a) r.fine ∙ ap (λ (g : Takes). complaint g a) (sym (ap (λ (x : List Entry). takes_in x v.here.scope) names ∙ ap (λ (x : List Local). takes_in w.here.names x) scope ∙ takes_bounds w.here.names w.here.scope bs));
@@ -94,7 +94,7 @@ choose_opens w m v rows new at n s a t y e j r b =
       bound = Bound n ∷ [];
       scope = scope;
       grown = grown;
-      unnamed = subst (λ (x : List Operator). KeepsUnnamed w.table x) (sym table) r.unnamed;
+      unnamed = ap named_in table ∙ r.unnamed;
       means = λ all g z k.
           (y, z, r.means all (subst (λ (x : List Operator). Grows x all) table g), subst (λ (x : List Entry). Means x all (w.here.scope ++ Bound n ∷ []) a z) names (subst (λ (x : List Local). Means v.here.names all x a z) scope k), refl);
       same = only_last (complaint (takes w.here) s) (complaint (with_name (takes w.here) n 0) a) r.fine ∙ ap (λ (g : Takes). complaint g a) (sym (ap (λ (x : List Entry). takes_in x v.here.scope) names ∙ ap (λ (x : List Local). takes_in w.here.names x) scope ∙ takes_bound w.here.names w.here.scope n));
@@ -135,7 +135,7 @@ opens_begin w t =
       bound = [];
       scope = sym (append-nil w.here.scope);
       grown = grows_same w.table;
-      unnamed = λ j h. h;
+      unnamed = refl;
       means = λ all g x k. k;
       same = refl;
       within = omega arith;
@@ -148,7 +148,7 @@ opens_on w m v rows new t mid last a b =
       bound = a.bound ++ b.bound;
       scope = b.scope ∙ ap (λ x. x ++ b.bound) a.scope ∙ append_assoc w.here.scope a.bound b.bound;
       grown = grows_on w.table a.grown b.grown;
-      unnamed = λ j h. b.unnamed j (a.unnamed j h);
+      unnamed = b.unnamed ∙ a.unnamed;
       means = λ all g x k.
           subst (λ (e : Term). Means w.here.names all w.here.scope t e) (sym (ap (λ (rs : List Pending). closed_all rs x) b.added ∙ closed_behind rows b.row x))
           (a.means all (grows_on m.table b.grown g) (closed b.row x) (b.means all g x k));
@@ -176,7 +176,7 @@ opens_to w m v u depth rows t rest n e whole a r p c q =
     record {
       kept = λ le. ap (λ (x : Around). x.here) c ∙ ap (λ (h : Here). cut depth h) r.kept ∙ ap (λ (x : List Entry). record { names = x; scope = take depth m.here.scope }) a.kept ∙ ap (λ (x : List Local). record { names = w.here.names; scope = x }) (ap (λ (x : List Local). take depth x) a.scope ∙ take_less depth w.here.scope a.bound le);
       grown = subst (λ (x : List Operator). Grows w.table x) (sym table) (grows_on w.table a.grown r.grown);
-      unnamed = subst (λ (x : List Operator). KeepsUnnamed w.table x) (sym table) (λ j h. r.unnamed j (a.unnamed j h));
+      unnamed = ap named_in table ∙ r.unnamed ∙ a.unnamed;
       means = λ all g.
           let k : Grows v.table all = subst (λ (x : List Operator). Grows x all) table g in
           subst (λ (x : Term). Means w.here.names all w.here.scope t x) (sym q)

@@ -47,14 +47,14 @@ grows_on a g h = (g.0 ++ h.0, h.1 ∙ ap (λ x. x ++ h.0) g.1 ∙ append_assoc a
 -- One part behind the other.
 
 pub nothing : (w : Around) {c : Here → Option NameFault} {P : Here → List Operator → Type 0} → Always w.table (P w.here) → c w.here ≡ None → Reads w w c P
-nothing w h n = record { kept = refl; grown = grows_same w.table; unnamed = λ j h. h; means = h; fine = n }
+nothing w h n = record { kept = refl; grown = grows_same w.table; unnamed = refl; means = h; fine = n }
 
 pub and_then : (w m v : Around) {c d : Here → Option NameFault} {P Q : Here → List Operator → Type 0} → Reads w m c P → Reads m v d Q → Reads w v (λ h. or_else (c h) (d h)) (λ h all. P h all × Q h all)
 and_then w m v {c = c} {d = d} {Q = Q} p q =
     record {
       kept = q.kept ∙ p.kept;
       grown = grows_on w.table p.grown q.grown;
-      unnamed = λ j h. q.unnamed j (p.unnamed j h);
+      unnamed = q.unnamed ∙ p.unnamed;
       means = λ all g. (p.means all (grows_on m.table q.grown g), subst (λ (h : Here). Q h all) p.kept (q.means all g));
       fine = none_both (c w.here) (d w.here) p.fine (subst (λ (h : Here). d h ≡ None) p.kept q.fine);
     }

@@ -12,7 +12,7 @@ use Rattle.tla_scopes.specs.Standing.{AreIn}
 use Rattle.tla_names.specs.Around.{Here, Around, takes}
 use Rattle.tla_names.specs.Complaints.{Takes, with_names, complaint}
 use Rattle.tla_names.specs.Means.{Means}
-use Rattle.tla_names.specs.Outcomes.{takes_in, takes_of, Complains, Grows, KeepsUnnamed, Always}
+use Rattle.tla_names.specs.Outcomes.{takes_in, takes_of, Complains, Grows, named_in, Always}
 use Rattle.tla_names.specs.Reads.{ResolvesTo, ResolvesBody}
 use Rattle.tla_scopes.specs.Scopes.{bind}
 use Rattle.tla_names.proofs.Takes.{takes_bind}
@@ -46,8 +46,8 @@ whole_fine w u names ps t e n s r = ap (λ (g : Takes). complaint (with_names g 
 pub whole_refused : (w : Around) (names : List Entry) (ps : List (List ℕ)) (t : Tree) (f : NameFault) → w.here.names ≡ names → w.here.scope ≡ [] → Complains (complaint (with_names (takes w.here) ps) t) f → Complains (complaint (with_names (takes_of names) ps) t) f
 whole_refused w names ps t f n s c = subst (λ (g : Takes). Complains (complaint (with_names g ps) t) f) (takes_are w names n s) c
 
-pub all_unnamed : (w u : Around) (old new : List Operator) (ps : List (List ℕ)) (t : Tree) (r : Result Term NameFault) → w.table ≡ old → new ≡ u.table → IfOk r (λ e. ResolvesBody w u ps t e) → OnOk r (KeepsUnnamed old new)
-all_unnamed w u old new ps t (Ok e) o n b = subst (λ (x : List Operator). KeepsUnnamed x new) o (subst (λ (x : List Operator). KeepsUnnamed w.table x) (sym n) b.unnamed)
+pub all_unnamed : (w u : Around) (old new : List Operator) (ps : List (List ℕ)) (t : Tree) (r : Result Term NameFault) → w.table ≡ old → new ≡ u.table → IfOk r (λ e. ResolvesBody w u ps t e) → OnOk r (named_in new ≡ named_in old)
+all_unnamed w u old new ps t (Ok e) o n b = ap named_in n ∙ b.unnamed ∙ ap named_in o
 all_unnamed w u old new ps t (Err f) o n b = tt
 
 pub whole_grown : (w u : Around) (old new : List Operator) (ps : List (List ℕ)) (t : Tree) (e : Term) → w.table ≡ old → new ≡ u.table → ResolvesBody w u ps t e → Grows old new

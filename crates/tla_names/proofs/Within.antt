@@ -11,7 +11,7 @@ use Rattle.tla_scopes.specs.declared.scope.Local.TheVariants.{Bound}
 use Rattle.tla_names.specs.Around.{Around, takes}
 use Rattle.tla_names.specs.Complaints.{Takes, with_name, with_names, with_bounds, complaint}
 use Rattle.tla_names.specs.Means.{Means}
-use Rattle.tla_names.specs.Outcomes.{takes_in, Complains, Grows, KeepsUnnamed, Always}
+use Rattle.tla_names.specs.Outcomes.{takes_in, Complains, Grows, named_in, Always}
 use Rattle.tla_names.specs.Reads.{Reads, ResolvesTo, ResolvesWithin, ResolvesUnder}
 use Rattle.tla_scopes.specs.Scopes.{bind, bind_bounds}
 use Rattle.tla_names.proofs.Takes.{takes_bind, takes_bounds}
@@ -45,7 +45,7 @@ longer xs ys = omega (arith, length-append xs ys)
 pub record ReadIn (m v : Around) (sc : List Local) (t : Tree) (e : Term) : Type 0 where
   pub kept : v.here ≡ m.here
   pub grown : Grows m.table v.table
-  pub unnamed : KeepsUnnamed m.table v.table
+  pub unnamed : named_in v.table ≡ named_in m.table
   pub means : Always v.table (λ all. Means m.here.names all sc t e)
   pub fine : complaint (takes_in m.here.names sc) t ≡ None
 

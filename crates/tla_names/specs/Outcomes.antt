@@ -1,5 +1,5 @@
 -- What the code that resolves a tree answers.
-use Rattle.std.specs.Prelude.{◌≡◌, ◌≤◌, ℕ, List, [], ◌++◌, slice_get, Option, Some, option_map}
+use Rattle.std.specs.Prelude.{◌≡◌, ℕ, List, [], ◌∷◌, ◌++◌, Option, Some, option_map}
 use Rattle.tla_terms.specs.declared.operator.Operator.{Operator}
 use Rattle.tla_names.specs.declared.fault.NameFault.{NameFault}
 use Rattle.tla_names.specs.declared.fault.NameFault.TheVariants.{UnknownName, WrongArity, Recursion, NoMemory}
@@ -36,13 +36,14 @@ IsSought names sc n found m = meaning_in names sc n ≡ Some (record { needed = 
 abbrev pub Grows : List Operator → List Operator → Type 0
 Grows a b = (more : List Operator) × (b ≡ a ++ more)
 
--- from that number on no definition has a name
-abbrev pub IsUnnamedFrom : ℕ → List Operator → Type 0
-IsUnnamedFrom k ops = (i : ℕ) (o : Operator) → k ≤ i → slice_get ops i ≡ Some o → o.name ≡ []
+abbrev pub unless_unnamed : List ℕ → Operator → List Operator → List Operator
+unless_unnamed [] o os = os
+unless_unnamed (c ∷ cs) o os = o ∷ os
 
--- no definition with a name was added
-abbrev pub KeepsUnnamed : List Operator → List Operator → Type 0
-KeepsUnnamed a b = (k : ℕ) → IsUnnamedFrom k a → IsUnnamedFrom k b
+-- the definitions that have a name, which those of a LET have not
+abbrev pub named_in : List Operator → List Operator
+named_in [] = []
+named_in (o ∷ os) = unless_unnamed o.name o (named_in os)
 
 -- over each table that begins with these definitions
 abbrev pub Always : List Operator → (List Operator → Type 0) → Type 0

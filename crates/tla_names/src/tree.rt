@@ -5,7 +5,7 @@ ghost use Rattle.term_parts.specs.Slots.{MentionsBelow, UsesSmaller};
 ghost use Rattle.tla_names.specs.Around.{takes};
 ghost use Rattle.tla_names.specs.Complaints.{complaint, with_names};
 ghost use Rattle.tla_names.specs.Means.{Means};
-ghost use Rattle.tla_names.specs.Outcomes.{Always, Complains, Grows, KeepsUnnamed, takes_of};
+ghost use Rattle.tla_names.specs.Outcomes.{Always, Complains, Grows, named_in, takes_of};
 ghost use Rattle.tla_scopes.specs.Standing.{AreIn};
 ghost use Rattle.tla_names.specs.Reads.{ResolvesBody};
 ghost use Rattle.tla_scopes.specs.Scopes.{bind};
@@ -48,7 +48,7 @@ pub fn resolve_tree(
     requires ordered { UsesSmaller table.old }
     ensures smaller { OnOk result (UsesSmaller table.new) }
     ensures below { IfOk result (MentionsBelow (length table.new)) }
-    ensures unnamed { OnOk result (KeepsUnnamed table.old table.new) }
+    ensures unnamed { OnOk result (named_in table.new ≡ named_in table.old) }
     ensures grown { OnOk result (Grows table.old table.new) }
     ensures means { IfOk result (λ e. Always table.new (λ all. Means names.now all (bind [] params.now) tree.now e)) }
     ensures fine { OnOk result (complaint (with_names (takes_of names.now) params.now) tree.now ≡ None) }
