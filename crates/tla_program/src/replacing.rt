@@ -18,8 +18,8 @@ fn given_for<'a>(givens: &'a [GivenAt], name: &Text) -> Option<&'a Given>
     None
 }
 
-/// Where the first definition of that name stands.
-fn definition_index(definitions: &[&Definition], name: &Text) -> Option<usize>
+/// Where the first definition of that name stands, from 0.
+pub fn definition_index(definitions: &[&Definition], name: &Text) -> Option<usize>
     ensures { result ≡ index_among (names_defined (map (λ d. d.now) definitions.now)) name.now }
 {
     for (index, definition) in definitions.iter().enumerate() {
