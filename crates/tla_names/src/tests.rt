@@ -2,6 +2,7 @@ use crate::{NameFault, resolve_tree};
 use std::alloc::{AllocError, Global};
 use std::rt::HostRuntime;
 use std::test::Fail;
+use term_parts::uses_smaller;
 use tla_ast::{
     Arm, Arms, Bound, Bounds, BuiltinSet, Bullet, Change, Changes, Definition, Definitions, Expr,
     Exprs, Field, Fields, InfixOperator, Node, Operand, Operands, PrefixOperator, Quantifier, Step,
@@ -9,7 +10,6 @@ use tla_ast::{
 };
 use tla_core::VarId;
 use tla_scopes::{Entry, Meant, Named, ProgramNames};
-use term_parts::uses_smaller;
 use tla_terms::{DefId, Level, NamedSet, Operator, Operators, Term, TermNode};
 use trace_base::{Names, Place, Text};
 
