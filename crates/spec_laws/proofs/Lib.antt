@@ -1,0 +1,9 @@
+pub mod Filled
+pub mod Mentioned
+pub mod Ordered
+pub mod Program
+pub mod Reached
+pub mod Somewhere
+pub mod Shaped
+pub mod Spelled
+pub mod Walk

@@ -1,0 +1,7 @@
+pub mod Everywhere
+pub mod FormLaws
+pub mod Formed
+pub mod IsSpec
+pub mod Laws
+pub mod Meanings
+pub mod ShapeLaws

@@ -1,0 +1,11 @@
+//! Equal terms of their own.
+#![tactic(auto)]
+
+mod build;
+mod copy;
+mod rows;
+
+pub use copy::copy_term;
+
+#[cfg(test)]
+mod tests;
