@@ -4,7 +4,8 @@ use Rattle.std.specs.Prelude.{◌≢◌, ℕ, suc, All, AllPairs}
 use Rattle.std.proofs.lemmas.List.Elements.{All-nil, All-push}
 use Rattle.std.proofs.lemmas.List.Quantifiers.{all_pairs_push}
 use Rattle.trace_base.specs.declared.place.Place.{Place}
-use Rattle.tla_ast.specs.Grammar.{IsNew, IsPath, AreOnce}
+use Rattle.tla_ast.specs.declared.operators.InfixOperator.{InfixOperator}
+use Rattle.tla_ast.specs.Grammar.{IsKey as IsTreeKey, IsNew, IsPath, AreOnce}
 use Rattle.tla_ast.specs.Trees as tree
 use Rattle.tla_terms.specs.declared.operator.Operator.{Operator}
 use Rattle.tla_terms.specs.Terms as term
@@ -13,9 +14,9 @@ use Rattle.tla_terms.specs.Lists.{fields_list, bounds_list}
 use Rattle.tla_scopes.specs.declared.scope.Local.{Local}
 use Rattle.tla_scopes.specs.declared.meant.Entry.{Entry}
 use Rattle.tla_names.specs.Complaints.{number_of}
-use Rattle.tla_names.specs.Means.{MeansEach, MeansStep, MeansSteps, MeansBounds, MeansFields, MeansChanges, MeansArms}
-use Rattle.spec_laws.specs.Formed.{StepIsFormed, StepsAreFormed, BoundsAreFormed, ChangesAreFormed}
-use Rattle.spec_laws.specs.IsSpec.{AreBounds, IsStep, AreSteps, ArePaths, AreFields}
+use Rattle.tla_names.specs.Means.{MeansEach, MeansOperands, MeansStep, MeansSteps, MeansBounds, MeansFields, MeansChanges, MeansArms}
+use Rattle.spec_laws.specs.Formed.{ChainIsFormed, StepIsFormed, StepsAreFormed, BoundsAreFormed, ChangesAreFormed}
+use Rattle.spec_laws.specs.IsSpec.{AreOperands, IsKey, AreKeys, AreBounds, IsStep, AreSteps, ArePaths, AreFields}
 
 pushed_some : {A : Type 0} (xs : List A) (x : A) → xs ++ x ∷ [] ≢ []
 pushed_some [] x = λ e. cc
@@ -80,10 +81,24 @@ module _ (names : List Entry) (ops : List Operator) where
   some_path sc tree.NoSteps xs p h = absurd p
   some_path sc (tree.MoreSteps ss at s) xs p h = more_steps xs h.0 at h.1 h.2
 
+  is_key : (sc : List Local) (s : tree.Step) (x : term.Step) → IsTreeKey s → MeansStep names ops sc s x → IsKey x
+  is_key sc tree.Prime x k h = absurd k
+  is_key sc (tree.Index es) x k h = subst IsKey (sym h.1) tt
+  is_key sc (tree.Field n) x k h = subst IsKey (sym h) tt
+
+  are_keys : (sc : List Local) (ss : tree.Steps) (xs : term.Steps) → IsPath ss → MeansSteps names ops sc ss xs → AreKeys xs
+  are_keys sc tree.NoSteps xs p h = absurd p
+  are_keys sc (tree.MoreSteps tree.NoSteps at s) xs p h = subst AreKeys (sym h.2) (subst AreKeys (sym h.3) tt, is_key sc s h.1 p h.4)
+  are_keys sc (tree.MoreSteps (tree.MoreSteps ss q r) at s) xs p h = subst AreKeys (sym h.2) (are_keys sc (tree.MoreSteps ss q r) h.0 p.0 h.3, is_key sc s h.1 p.1 h.4)
+
+  pub are_operands : (sc : List Local) (o : InfixOperator) (es : tree.Operands) (xs : term.Operands) → ChainIsFormed o es → MeansOperands names ops sc es xs → AreOperands o xs
+  are_operands sc o (tree.First e) xs f h = subst (AreOperands o) (sym h.1) tt
+  are_operands sc o (tree.Next es at e) xs f h = subst (AreOperands o) (sym h.2) (are_operands sc o es h.0 f.0 h.3, f.2)
+
   pub are_paths : (sc : List Local) (cs : tree.Changes) (ys : term.Changes) → ChangesAreFormed cs → MeansChanges names ops sc cs ys → ArePaths ys
   are_paths sc tree.NoChanges ys f h = subst ArePaths (sym h) tt
   are_paths sc (tree.MoreChanges cs path e) ys f h =
-      subst ArePaths (sym h.3) (are_paths sc cs h.0 f.0 h.4, some_path sc path h.1 f.1 h.5, are_steps sc path h.1 f.2 h.5)
+      subst ArePaths (sym h.3) (are_paths sc cs h.0 f.0 h.4, some_path sc path h.1 f.1 h.5, are_steps sc path h.1 f.2 h.5, are_keys sc path h.1 f.1 h.5)
 
   more_changes : (xs cs : term.Changes) (p : term.Steps) (x : Term) → xs ≡ term.MoreChanges cs p x → xs ≢ term.NoChanges
   more_changes xs cs p x e = λ q. cc

@@ -1,3 +1,4 @@
+pub mod Faults
 pub mod Filled
 pub mod Mentioned
 pub mod Ordered
@@ -6,4 +7,5 @@ pub mod Reached
 pub mod Somewhere
 pub mod Shaped
 pub mod Spelled
+pub mod Throughout
 pub mod Walk

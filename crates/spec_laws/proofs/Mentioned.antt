@@ -28,11 +28,11 @@ use Rattle.spec_laws.proofs.Somewhere.{OwnAre, OwnRows, mentioned_are}
 use Rattle.spec_laws.proofs.Walk.{Rows, IsPlain, slots_bind, of_tree}
 
 -- the definition that is meant, if it is one, is such
-abbrev MeantIs : (ℕ → Type 0) → Meant → Type 0
+abbrev pub MeantIs : (ℕ → Type 0) → Meant → Type 0
 MeantIs Q (meant.Definition k) = Q k.0
 MeantIs Q m = Unit {0}
 
-abbrev LocalIs : (ℕ → Type 0) → Local → Type 0
+abbrev pub LocalIs : (ℕ → Type 0) → Local → Type 0
 LocalIs Q (Bound n) = Unit {0}
 LocalIs Q (Defined n k p) = Q k.0
 
@@ -41,7 +41,7 @@ abbrev pub LocalsAre : (ℕ → Type 0) → List Local → Type 0
 LocalsAre Q sc = (n : List ℕ) (d : DefId) (p : ℕ) → Contains sc (Defined n d p) → Q d.0
 
 module _ (Q : ℕ → Type 0) where
-  bound_is : (i : ℕ) (sc : List Local) (n : List ℕ) (w : Named) → LocalsAre Q sc → bound_from i sc n ≡ Some w → MeantIs Q w.meant
+  pub bound_is : (i : ℕ) (sc : List Local) (n : List ℕ) (w : Named) → LocalsAre Q sc → bound_from i sc n ≡ Some w → MeantIs Q w.meant
   bound_is i [] n w s q = absurd (cc)
   bound_is i (Bound m ∷ sc) n w s q =
       last_bound (λ x. MeantIs Q x.meant) (bytes_eq m n) (named 0 (meant.Slot i)) w (bound_from (suc i) sc n) tt (bound_is (suc i) sc n w (λ k d p c. s k d p (contains_tail (Bound m) sc (Defined k d p) c))) q
@@ -65,7 +65,7 @@ module _ (Q : ℕ → Type 0) where
   own_plain m p = tt
 
   -- one more name in the scope
-  locals_more : (sc : List Local) (l : Local) → LocalsAre Q sc → LocalIs Q l → LocalsAre Q (sc ++ l ∷ [])
+  pub locals_more : (sc : List Local) (l : Local) → LocalsAre Q sc → LocalIs Q l → LocalsAre Q (sc ++ l ∷ [])
   locals_more sc l h k n d p c = elim (Contains-push_cases sc l (Defined n d p) c) [
     | inl a ↦ h n d p a
     | inr b ↦ subst (λ (x : Local). LocalIs Q x) b k
@@ -75,7 +75,7 @@ module _ (Q : ℕ → Type 0) where
   locals_bind sc [] h = h
   locals_bind sc (n ∷ ns) h = locals_bind (sc ++ Bound n ∷ []) ns (locals_more sc (Bound n) h tt)
 
-  program_is : (o : Meant) → ((d : DefId) → o ≡ meant.Definition d → Q d.0) → MeantIs Q o
+  pub program_is : (o : Meant) → ((d : DefId) → o ≡ meant.Definition d → Q d.0) → MeantIs Q o
   program_is (meant.Slot i) h = tt
   program_is (meant.Variable x) h = tt
   program_is (meant.Known v) h = tt

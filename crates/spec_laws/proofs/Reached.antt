@@ -11,7 +11,7 @@ use Rattle.spec_laws.specs.Laws.{IsOrderly, BodiesMentionMeant, MeantAreInOrder,
 use Rattle.spec_laws.proofs.Mentioned.{mentioned_have_meaning}
 use Rattle.spec_laws.proofs.Ordered.{meanings_are_in_order}
 
-same_row : (F : Operator → Type 0) (ops : List Operator) (k : ℕ) (a b : Operator) → slice_get ops k ≡ Some a → slice_get ops k ≡ Some b → F a → F b
+pub same_row : (F : Operator → Type 0) (ops : List Operator) (k : ℕ) (a b : Operator) → slice_get ops k ≡ Some a → slice_get ops k ≡ Some b → F a → F b
 same_row F ops k a b p q h = subst (λ (o : Option Operator). IfSome o F) (sym p ∙ q) h
 
 -- what a body mentions has a meaning, where the body has

@@ -101,7 +101,7 @@ part_listed b (e ∷ es) p c = elim (contains_cons (part b e) (parts_of b es) p 
   | inr a ↦ contains_tail e es p.term (part_listed b es p a)
 ]
 
-listed_part : (b : Bool) (es : List Term) (e : Term) → Contains es e → Contains (parts_of b es) (part b e)
+pub listed_part : (b : Bool) (es : List Term) (e : Term) → Contains es e → Contains (parts_of b es) (part b e)
 listed_part b [] e c = absurd (contains_nothing e c)
 listed_part b (x ∷ es) e c = elim (contains_cons x es e c) [
   | inl s ↦ subst (λ (y : Term). Contains (parts_of b (x ∷ es)) (part b y)) s (contains_head (part b x) (parts_of b es))

@@ -32,8 +32,8 @@ use Rattle.tla_names.specs.Outcomes.{needed_by, takes_in}
 use Rattle.tla_names.proofs.Takes.{takes_bound, takes_bind, takes_defined}
 use Rattle.spec_laws.specs.Everywhere.{Everywhere, Inside, InTerms, InOperands, InStep, InSteps, InBounds, InFields, InChanges, InArms}
 use Rattle.spec_laws.specs.Formed.{IsFormed, AreFormed, ChainIsFormed, StepIsFormed, StepsAreFormed, BoundsAreFormed, FieldsAreFormed, ChangesAreFormed, ArmsAreFormed, DefinitionsAreFormed}
-use Rattle.spec_laws.specs.IsSpec.{HasParts}
-use Rattle.spec_laws.proofs.Filled.{as_many, some_terms, is_step, are_steps, are_bounds, are_fields, are_paths, some_changes, some_arms}
+use Rattle.spec_laws.specs.IsSpec.{HasParts, AreOperands}
+use Rattle.spec_laws.proofs.Filled.{are_operands, as_many, some_terms, is_step, are_steps, are_bounds, are_fields, are_paths, some_changes, some_arms}
 
 -- rows that mean neither what a name means nor a LET
 abbrev pub IsPlain : Meaning → Type 0
@@ -159,10 +159,10 @@ module _ (names : List Entry) (ops : List Operator) (S : List Local → Type 0) 
   in_operands i (term.First e) h = (tt, h)
   in_operands i (term.Next os at e) h = (in_operands i os h.0, h.1)
 
-  of_chain : (i : ℕ) (t : Tree) (o : InfixOperator) (os : term.Operands) (x e : Term) → Stands names ops t (chain o os x) e → InOperands P i os → Everywhere P i x → Everywhere P i e
-  of_chain i t infix_operator.And os x e q h k = plain t (term.All (term.MoreTerms (operands_list os) x)) e i q tt (omega arith) (in_operands i os h, k)
-  of_chain i t infix_operator.Or os x e q h k = plain t (term.Any (term.MoreTerms (operands_list os) x)) e i q tt (omega arith) (in_operands i os h, k)
-  of_chain i t o os x e q h k = plain t (term.Infix o os x) e i q tt tt (h, k)
+  of_chain : (i : ℕ) (t : Tree) (o : InfixOperator) (os : term.Operands) (x e : Term) → Stands names ops t (chain o os x) e → AreOperands o os → InOperands P i os → Everywhere P i x → Everywhere P i e
+  of_chain i t infix_operator.And os x e q a h k = plain t (term.All (term.MoreTerms (operands_list os) x)) e i q tt (omega arith) (in_operands i os h, k)
+  of_chain i t infix_operator.Or os x e q a h k = plain t (term.Any (term.MoreTerms (operands_list os) x)) e i q tt (omega arith) (in_operands i os h, k)
+  of_chain i t o os x e q a h k = plain t (term.Infix o os x) e i q tt a (h, k)
 
   mutual
     in_order : (g : Takes) (sc : List Local) (i : ℕ) (t : Tree) (y : Term) → Here g sc i → IsFormed t → complaint g t ≡ None → Means names ops sc t y → Everywhere P i y
@@ -179,7 +179,7 @@ module _ (names : List Entry) (ops : List Operator) (S : List Local → Type 0) 
     in_order g sc i (tree.Junction at b es) y w f c h = of_junction i (tree.Junction at b es) b h.0 y h.2 (some_terms names ops sc es h.0 f.0 h.1) (each_in g sc i es h.0 w f.1 c h.1)
     in_order g sc i (tree.Prefix at o a) y w f c h = plain (tree.Prefix at o a) (term.Prefix o h.0) y i h.2 tt tt (in_order g sc i a h.0 w f c h.1)
     in_order g sc i (tree.Infix at o os a) y w f c h =
-        of_chain i (tree.Infix at o os a) o h.0 h.1 y h.4 (operands_in g sc i o os h.0 w f.0 (none_first (operands_complaint g os) (complaint g a) c) h.2) (in_order g sc i a h.1 w f.1 (none_second (operands_complaint g os) (complaint g a) c) h.3)
+        of_chain i (tree.Infix at o os a) o h.0 h.1 y h.4 (are_operands names ops sc o os h.0 f.0 h.2) (operands_in g sc i o os h.0 w f.0 (none_first (operands_complaint g os) (complaint g a) c) h.2) (in_order g sc i a h.1 w f.1 (none_second (operands_complaint g os) (complaint g a) c) h.3)
     in_order g sc i (tree.Postfix at a ss s) y w f c h =
         let d : or_else (steps_complaint g ss) (step_complaint g s) ≡ None = none_second (complaint g a) (or_else (steps_complaint g ss) (step_complaint g s)) c in
         plain (tree.Postfix at a ss s) (term.Postfix h.0 h.1 h.2) y i h.6 tt (are_steps names ops sc ss h.1 f.1 h.4, is_step names ops sc s h.2 f.2 h.5)

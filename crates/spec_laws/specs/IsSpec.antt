@@ -1,6 +1,8 @@
 -- A specification in order, part by part: what resolving gives, and what every call above asks for.
-use Rattle.std.specs.Prelude.{◌≡◌, ◌≢◌, ◌<◌, ◌≤◌, ◌+◌, ℕ, false, List, [], length, All, AllPairs, Some, IfSome, Contains, slice_get}
+use Rattle.std.specs.Prelude.{◌≡◌, ◌≢◌, ◌<◌, ◌≤◌, ◌+◌, ℕ, true, false, List, [], length, All, AllPairs, Some, IfSome, Contains, slice_get}
 use Rattle.trace_base.specs.declared.place.Place.{Place}
+use Rattle.tla_ast.specs.declared.operators.InfixOperator.{InfixOperator}
+use Rattle.tla_ast.specs.Precedence.{chains}
 use Rattle.tla_terms.specs.declared.level.Level.{Level}
 use Rattle.tla_terms.specs.declared.level.Level.TheVariants.{Constant, State, Action}
 use Rattle.tla_terms.specs.declared.ids.DefId.{DefId}
@@ -53,9 +55,24 @@ abbrev pub AreSteps : Steps → Type 0
 AreSteps term.NoSteps = Unit {0}
 AreSteps (term.MoreSteps ss at s) = AreSteps ss × IsStep s
 
+abbrev pub IsKey : Step → Type 0
+IsKey term.Prime = ⊥
+IsKey (term.Index ts) = Unit {0}
+IsKey (term.Field h) = Unit {0}
+
+abbrev pub AreKeys : Steps → Type 0
+AreKeys term.NoSteps = Unit {0}
+AreKeys (term.MoreSteps ss at s) = AreKeys ss × IsKey s
+
+-- the path of a change is one or more steps, none of them a prime
 abbrev pub ArePaths : Changes → Type 0
 ArePaths term.NoChanges = Unit {0}
-ArePaths (term.MoreChanges cs path e) = ArePaths cs × (path ≢ term.NoSteps) × AreSteps path
+ArePaths (term.MoreChanges cs path e) = ArePaths cs × (path ≢ term.NoSteps) × AreSteps path × AreKeys path
+
+-- the operands of a chain but its last: more than two operands only in a chain that may have them
+abbrev pub AreOperands : InfixOperator → Operands → Type 0
+AreOperands o (term.First e) = Unit {0}
+AreOperands o (term.Next os at e) = AreOperands o os × (chains o ≡ true)
 
 -- no two fields have one name
 abbrev pub AreFields : Fields → Type 0
@@ -65,6 +82,7 @@ AreFields fs = (fields_list fs ≢ []) × AllPairs (λ f g. f.0 ≢ g.0) (fields
 abbrev pub HasParts : Meaning → Type 0
 HasParts (term.All ts) = 0 < count ts
 HasParts (term.Any ts) = 0 < count ts
+HasParts (term.Infix o os e) = AreOperands o os
 HasParts (term.Postfix e ss s) = AreSteps ss × IsStep s
 HasParts (term.Map e bs) = AreBounds bs
 HasParts (term.Function bs e) = AreBounds bs

@@ -30,12 +30,12 @@ MentionedHaveMeaning =
 abbrev pub IsOrderly : ℕ → List Operator → Operator → Type 0
 IsOrderly variables ops o = Everywhere (IsRow variables ops) (o.outer + o.params) o.body × (o.level ≡ level_of o.body)
 
--- What a definition without any around it means has a meaning, and so has a tree alone: under its parameters nothing is wrong with its names, which take as many
--- arguments as they do in the program.
+-- What a tree of a program means under parameters, where names take as many arguments as they do in the program and nothing is wrong with them.
 abbrev pub TreesHaveTerms : Type 0
 TreesHaveTerms =
     (known : NameMeanings) (ops : List Operator) (names : List Entry) (takes : Takes) (params : List (List ℕ)) (t : Tree) (e : Term) → ((n : List ℕ) → among names n ≡ known n) → ((n : List ℕ) → option_map needed_by (known n) ≡ takes n) → IsFormed t → complaint (with_names takes params) t ≡ None → Means names ops (bind [] params) t e → HasTerm known ops (bind [] params) t e
 
+-- a definition of a program, under its parameters
 abbrev pub DefinitionsHaveMeaning : Type 0
 DefinitionsHaveMeaning =
     (known : NameMeanings) (ops : List Operator) (k : ℕ) (o : Operator) (params : List (List ℕ)) (t : Tree) → slice_get ops k ≡ Some o → o.outer ≡ 0 → o.params ≡ length params → o.level ≡ level_of o.body → HasTerm known ops (bind [] params) t o.body → HasMeaning known ops k

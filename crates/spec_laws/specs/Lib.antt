@@ -1,4 +1,5 @@
 pub mod Everywhere
+pub mod Faultless
 pub mod FormLaws
 pub mod Formed
 pub mod IsSpec

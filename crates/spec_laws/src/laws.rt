@@ -1,3 +1,4 @@
+ghost use Rattle.spec_laws.specs.Faultless.{DefinitionsAreFaultless, MentionedAreFaultless, BodiesAreFaultless, ReachedAreFaultless};
 ghost use Rattle.spec_laws.specs.FormLaws.{SpelledAreFormed, ModulesAreFormed};
 ghost use Rattle.spec_laws.specs.ShapeLaws.{ShapesAreInOrder, ShapesMention};
 ghost use Rattle.spec_laws.specs.Laws.{MeaningsAreInOrder, MentionedHaveMeaning, TreesHaveTerms, DefinitionsHaveMeaning, BodiesMentionMeant, MeantAreInOrder, ReachedAreInOrder};
@@ -24,4 +25,12 @@ pub fn form_laws()
 pub fn shape_laws()
     ensures order { ShapesAreInOrder }
     ensures mentioned { ShapesMention }
+{}
+
+/// Where nothing is wrong with the levels of what is needed, nothing is with those of what is reached from it.
+pub fn fault_laws()
+    ensures definitions { DefinitionsAreFaultless }
+    ensures mentioned { MentionedAreFaultless }
+    ensures bodies { BodiesAreFaultless }
+    ensures reached { ReachedAreFaultless }
 {}

@@ -3,4 +3,4 @@
 
 mod laws;
 
-pub use laws::{form_laws, shape_laws, spec_laws};
+pub use laws::{fault_laws, form_laws, shape_laws, spec_laws};
