@@ -1,0 +1,8 @@
+use Rattle.std.proofs.Common.{◌∙◌, sym}
+use Rattle.tla_program.specs.Names.{numbers_of}
+use Rattle.tla_levels.proofs.Levels.{noted}
+use Rattle.tla_levels.proofs.unit_levels.body_fault.Goals as goal
+
+pub returns-in-Some : goal.returns-in-Some
+returns-in-Some c =
+    noted (numbers_of c.args.table.now.numbers.items) c.args.table.now.operators c.args.notes.now c.args.index c.in-Some.number (sym c.number_at.ensures ∙ c.in-Some.is) c.requires.noted c.requires.all c.noted_fault.result c.noted_fault.ensures

@@ -1,0 +1,6 @@
+pub mod Configured
+pub mod Givens
+pub mod Refusals
+pub mod Resolved
+pub mod Standing
+pub mod UnitLevels

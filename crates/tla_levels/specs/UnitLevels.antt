@@ -1,0 +1,48 @@
+-- What is wrong with the levels of a program: the first in the order of its units, and in a unit the first in the order of its text.
+use Rattle.std.specs.Prelude.{◌≡◌, ◌<◌, ℕ, List, length, take, Some, slice_get}
+use Rattle.tla_ast.specs.declared.module.Program.{Program}
+use Rattle.tla_ast.specs.declared.module.Unit.{Unit as ModuleUnit}
+use Rattle.tla_ast.specs.declared.module.Unit.TheVariants.{Define, Assume}
+use Rattle.tla_terms.specs.declared.operator.Operator.{Operator}
+use Rattle.tla_terms.specs.Terms.{Term}
+use Rattle.term_parts.specs.declared.fault.LevelFault.{LevelFault}
+use Rattle.term_levels.specs.Faults.{IsFault, IsFirst, IsAssumptionFault}
+use Rattle.tla_program.specs.InUnits.{assumptions_in}
+use Rattle.tla_program.specs.Names.{Numbers}
+use Rattle.tla_tables.specs.NameFaults.{definitions_before}
+
+-- something is wrong with the levels in the body of the definition of that index
+pub record IsBodyFault (number : Numbers) (ops : List Operator) (i : ℕ) (f : LevelFault) : Type 0 where
+  pub row : ℕ
+  pub operator : Operator
+  pub numbered : number i ≡ Some row
+  pub stands : slice_get ops row ≡ Some operator
+  pub wrong : IsFault ops operator.body f
+
+-- something is wrong with the levels of the assumption of that index
+pub record IsAssumedFault (ops : List Operator) (assumes : List Term) (j : ℕ) (f : LevelFault) : Type 0 where
+  pub term : Term
+  pub stands : slice_get assumes j ≡ Some term
+  pub wrong : IsAssumptionFault ops term f
+
+-- Something is wrong with the levels of a unit, which has so many definitions and assumptions before it.
+abbrev pub IsUnitFault : Numbers → List Operator → List Term → ℕ → ℕ → ModuleUnit → LevelFault → Type 0
+IsUnitFault number ops assumes i j (Define d) f = IsBodyFault number ops i f
+IsUnitFault number ops assumes i j (Assume e) f = IsAssumedFault ops assumes j f
+IsUnitFault number ops assumes i j u f = ⊥
+
+abbrev pub assumptions_before : List ModuleUnit → ℕ → ℕ
+assumptions_before us k = length (assumptions_in (take k us))
+
+pub record IsLevelFaultAt (p : Program) (number : Numbers) (ops : List Operator) (assumes : List Term) (k : ℕ) (f : LevelFault) : Type 0 where
+  pub unit : ModuleUnit
+  pub stands : slice_get p.units k ≡ Some unit
+  pub wrong : IsUnitFault number ops assumes (definitions_before p.units k) (assumptions_before p.units k) unit f
+
+pub record IsFirstLevelFault (p : Program) (number : Numbers) (ops : List Operator) (assumes : List Term) (f : LevelFault) : Type 0 where
+  pub index : ℕ
+  pub is : IsFirst (IsLevelFaultAt p number ops assumes index) f
+  pub none_before : (j : ℕ) (g : LevelFault) → j < index → ¬ IsLevelFaultAt p number ops assumes j g
+
+abbrev pub HasFineLevels : Program → Numbers → List Operator → List Term → Type 0
+HasFineLevels p number ops assumes = (k : ℕ) (f : LevelFault) → ¬ IsLevelFaultAt p number ops assumes k f

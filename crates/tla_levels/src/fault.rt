@@ -1,0 +1,65 @@
+ghost use Rattle.std.specs.Prelude.{◌≡◌};
+ghost use Rattle.tla_levels.specs.Refusals.{of_level, of_name};
+
+use term_parts::LevelFault;
+use tla_names::NameFault;
+use tla_terms::Level;
+use trace_base::{NoMemory, Place, Text};
+
+/// Why a program with its configuration is no specification.
+#[derive(Debug, Drop)]
+pub enum ResolveFault {
+    /// The place of the 65th variable.
+    TooManyVariables(Place),
+    UnknownName(Text, Place),
+    /// A name, how many arguments it has there, and how many it takes.
+    WrongArity(Text, usize, usize, Place),
+    /// A definition that uses itself, at its name.
+    Recursion(Text, Place),
+    /// A constant for which the configuration gives nothing, where it is declared.
+    NoValue(Text, Place),
+    /// The level of a part, the highest that it may have, and the place of the term that has the part.
+    LevelTooHigh(Level, Level, Place),
+    /// The place of an argument whose parameter stands under a prime.
+    PrimedArgument(Place),
+    /// A name behind INIT, NEXT, SPECIFICATION or `--silent` that no definition without parameters has.
+    NoOperator(Text),
+    /// The definition behind SPECIFICATION, whose body is no conjunction that gives Init and Next.
+    NotTheShape(Place),
+    NoMemory,
+}
+
+impl From<NoMemory> for ResolveFault {
+    ghost use Rattle.std.specs.Prelude.{◌≡◌};
+    ghost use Rattle.tla_levels.specs.declared.fault.ResolveFault.TheVariants.{NoMemory as Wanting};
+
+    ghost from_gives = { λ _ e. e ≡ Wanting };
+
+    fn from(_e: NoMemory) -> ResolveFault {
+        ResolveFault::NoMemory
+    }
+}
+
+/// What is wrong with a name.
+pub(crate) fn of_name(fault: NameFault) -> ResolveFault
+    ensures { result ≡ of_name fault }
+{
+    match fault {
+        NameFault::UnknownName(name, at) => ResolveFault::UnknownName(name, at),
+        NameFault::WrongArity(name, found, needed, at) => {
+            ResolveFault::WrongArity(name, found, needed, at)
+        }
+        NameFault::Recursion(name, at) => ResolveFault::Recursion(name, at),
+        NameFault::NoMemory => ResolveFault::NoMemory,
+    }
+}
+
+/// What is wrong with a level.
+pub(crate) fn of_level(fault: LevelFault) -> ResolveFault
+    ensures { result ≡ of_level fault }
+{
+    match fault {
+        LevelFault::TooHigh(found, allowed, at) => ResolveFault::LevelTooHigh(found, allowed, at),
+        LevelFault::PrimedArgument(at) => ResolveFault::PrimedArgument(at),
+    }
+}

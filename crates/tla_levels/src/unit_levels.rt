@@ -1,0 +1,148 @@
+//! The first thing that is wrong with the levels of a program.
+
+ghost use Rattle.std.specs.Prelude.{◌≡◌, ℕ, [], ◌∷◌, IfOk, MatchOption, length, slice_get};
+ghost use Rattle.tla_terms.specs.Lists.{terms_list};
+ghost use Rattle.term_parts.specs.declared.fault.LevelFault.{LevelFault as Fault};
+ghost use Rattle.tla_program.specs.InUnits.{assumptions_in, definitions_in};
+ghost use Rattle.term_levels.specs.Faults.{IsFirst};
+ghost use Rattle.term_levels.specs.Notes.{AreNotes};
+ghost use Rattle.tla_program.specs.Names.{numbers_of};
+ghost use Rattle.tla_levels.specs.Standing.{AreBelow, fault_in};
+ghost use Rattle.tla_levels.specs.UnitLevels.{HasFineLevels, IsAssumedFault, IsBodyFault, IsFirstLevelFault, IsUnitFault};
+
+use std::alloc::Global;
+use term_levels::{Note, assumption_fault};
+use term_parts::LevelFault;
+use tla_ast::{Program, Unit};
+use tla_tables::Table;
+use tla_terms::Terms;
+use trace_base::NoMemory;
+
+/// The number of the definition of that index, if it has one.
+pub(crate) fn number_at(table: &Table, index: usize) -> Option<usize>
+    ensures { result ≡ numbers_of table.now.numbers.items index }
+{
+    match table.numbers.get(index) {
+        Some(number) => *number,
+        None => None,
+    }
+}
+
+/// The first fault in the body of the definition of that number.
+fn noted_fault(notes: &[Note], number: usize) -> Option<LevelFault>
+    ensures { result ≡ fault_in (slice_get notes.now number) }
+{
+    match notes.get(number) {
+        Some(note) => note.fault,
+        None => None,
+    }
+}
+
+/// What is wrong with the levels in the body of the definition of that index.
+fn body_fault(table: &Table, notes: &[Note], index: usize) -> Option<LevelFault>
+    requires noted { AreNotes table.now.operators notes.now }
+    requires all { length notes.now ≡ length table.now.operators }
+    ensures { let wrong : Fault → Type 0 = IsBodyFault (numbers_of table.now.numbers.items) table.now.operators index in MatchOption result ((f : Fault) → ¬ wrong f) (IsFirst wrong) }
+{
+    match number_at(table, index) {
+        Some(number) => noted_fault(notes, number),
+        None => None,
+    }
+}
+
+/// What is wrong with the levels of the assumption of that index.
+fn assumed_fault(
+    alloc: Global,
+    table: &Table,
+    notes: &[Note],
+    assumes: &Terms,
+    index: usize,
+) -> Result<Option<LevelFault>, NoMemory>
+    requires noted { AreNotes table.now.operators notes.now }
+    requires all { length notes.now ≡ length table.now.operators }
+    requires below { AreBelow (length table.now.operators) assumes.now }
+    ensures { IfOk result (λ o. MatchOption o ((f : Fault) → ¬ IsAssumedFault table.now.operators (terms_list assumes.now) index f) (IsFirst (IsAssumedFault table.now.operators (terms_list assumes.now) index))) }
+{
+    match assumes.get(index) {
+        Some(term) => assumption_fault(alloc, table.operators.items(), notes, term),
+        None => Ok(None),
+    }
+}
+
+/// What is wrong with the levels of a unit, which has so many definitions and assumptions before it.
+fn unit_fault(
+    alloc: Global,
+    table: &Table,
+    notes: &[Note],
+    assumes: &Terms,
+    definitions: usize,
+    assumptions: usize,
+    unit: &Unit,
+) -> Result<Option<LevelFault>, NoMemory>
+    requires noted { AreNotes table.now.operators notes.now }
+    requires all { length notes.now ≡ length table.now.operators }
+    requires below { AreBelow (length table.now.operators) assumes.now }
+    ensures { let wrong : Fault → Type 0 = IsUnitFault (numbers_of table.now.numbers.items) table.now.operators (terms_list assumes.now) definitions assumptions unit.now in IfOk result (λ o. MatchOption o ((f : Fault) → ¬ wrong f) (IsFirst wrong)) }
+{
+    match unit {
+        Unit::Define(_) => Ok(body_fault(table, notes, definitions)),
+        Unit::Assume(_) => assumed_fault(alloc, table, notes, assumes, assumptions),
+        Unit::Variables(_) => Ok(None),
+        Unit::Constants(_) => Ok(None),
+        Unit::Passed => Ok(None),
+    }
+}
+
+/// The first thing that is wrong with the levels of a program, in the order of its units.
+pub(crate) fn first_level_fault(
+    alloc: Global,
+    program: &Program,
+    table: &Table,
+    notes: &[Note],
+    assumes: &Terms,
+) -> Result<Option<LevelFault>, NoMemory>
+    requires noted { AreNotes table.now.operators notes.now }
+    requires all { length notes.now ≡ length table.now.operators }
+    requires below { AreBelow (length table.now.operators) assumes.now }
+    ensures { IfOk result (λ o. MatchOption o (HasFineLevels program.now (numbers_of table.now.numbers.items) table.now.operators (terms_list assumes.now)) (IsFirstLevelFault program.now (numbers_of table.now.numbers.items) table.now.operators (terms_list assumes.now))) }
+{
+    let mut definitions = 0;
+    let mut assumptions = 0;
+    for unit in program.units.items() {
+        let fault = unit_fault(alloc, table, notes, assumes, definitions, assumptions, unit)?;
+        match fault {
+            Some(first) => return Ok(Some(first)),
+            None => {
+                definitions += definitions_of(unit);
+                assumptions += assumptions_of(unit);
+            }
+        }
+    }
+    Ok(None)
+}
+
+/// How many definitions a unit is.
+fn definitions_of(unit: &Unit) -> usize
+    ensures { result ≡ length (definitions_in (unit.now ∷ [])) }
+{
+    match unit {
+        Unit::Define(_) => 1,
+        Unit::Variables(_) => 0,
+        Unit::Constants(_) => 0,
+        Unit::Assume(_) => 0,
+        Unit::Passed => 0,
+    }
+}
+
+/// How many assumptions a unit is.
+fn assumptions_of(unit: &Unit) -> usize
+    ensures { result ≡ length (assumptions_in (unit.now ∷ [])) }
+{
+    match unit {
+        Unit::Assume(_) => 1,
+        Unit::Variables(_) => 0,
+        Unit::Constants(_) => 0,
+        Unit::Define(_) => 0,
+        Unit::Passed => 0,
+    }
+}

@@ -1,0 +1,10 @@
+pub mod Assuming
+pub mod Faults
+pub mod Valued
+pub mod Told
+pub mod Marking
+pub mod Filling
+pub mod NamesKept
+pub mod Places
+pub mod ProgramTakes
+pub mod UnitPlaces

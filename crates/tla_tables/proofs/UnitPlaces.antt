@@ -1,0 +1,72 @@
+-- The definitions of the units, and what is wrong with one.
+use Rattle.std.proofs.Common.{◌≡◌, sym, ap, refl, subst, List, [], ◌∷◌, inl, inr}
+use Rattle.std.specs.Prelude.{◌↔◌, ℕ, zero, suc, Bool, true, false, IsTrue, Option, Some, None, slice_get}
+use Rattle.tla_ast.specs.declared.config.Config.{Config}
+use Rattle.tla_ast.specs.declared.expr.Definition.{Definition}
+use Rattle.tla_ast.specs.declared.module.Program.{Program}
+use Rattle.tla_ast.specs.declared.module.Unit.{Unit as ModuleUnit}
+use Rattle.tla_ast.specs.declared.module.Unit.TheVariants.{Variables, Constants, Define, Assume, Passed}
+use Rattle.tla_names.specs.declared.fault.NameFault.{NameFault}
+use Rattle.tla_names.specs.declared.fault.NameFault.TheVariants.{Recursion}
+use Rattle.tla_names.specs.Complaints.{complaint, with_names}
+use Rattle.tla_program.specs.InUnits.{definitions_in}
+use Rattle.tla_program.specs.Uses.{LeadsTo, at_once, through, UsesItself}
+use Rattle.tla_tables.specs.NameFaults.{HasFineNames, UnitFault, definitions_before, takes_in_program}
+use Rattle.tla_tables.specs.UnitComplaints.{unit_complaint}
+
+pub record DefinedAt (us : List ModuleUnit) (i : ℕ) (d : Definition) : Type 0 where
+  pub place : ℕ
+  pub stands : slice_get us place ≡ Some (Define d)
+  pub before : definitions_before us place ≡ i
+
+pub defined_at : (us : List ModuleUnit) (i : ℕ) (d : Definition) → slice_get (definitions_in us) i ≡ Some d → DefinedAt us i d
+defined_at [] zero d e = absurd (cc)
+defined_at [] (suc i) d e = absurd (cc)
+defined_at (Define x ∷ us) zero d e = let same : x ≡ d = cc in record { place = 0; stands = ap (λ (y : Definition). Some (Define y)) same; before = refl }
+defined_at (Define x ∷ us) (suc i) d e = (let r : DefinedAt us i d = defined_at us i d e in record { place = suc r.place; stands = r.stands; before = ap suc r.before })
+defined_at (Variables x ∷ us) i d e = (let r : DefinedAt us i d = defined_at us i d e in record { place = suc r.place; stands = r.stands; before = r.before })
+defined_at (Constants x ∷ us) i d e = (let r : DefinedAt us i d = defined_at us i d e in record { place = suc r.place; stands = r.stands; before = r.before })
+defined_at (Assume x ∷ us) i d e = (let r : DefinedAt us i d = defined_at us i d e in record { place = suc r.place; stands = r.stands; before = r.before })
+defined_at (Passed ∷ us) i d e = (let r : DefinedAt us i d = defined_at us i d e in record { place = suc r.place; stands = r.stands; before = r.before })
+
+starts : (p : Program) (c : Config) (i j : ℕ) → LeadsTo p c i j → (d : Definition) × (slice_get (definitions_in p.units) i ≡ Some d)
+starts p c _ _ (at_once i j u) = (u.definition, u.stands)
+starts p c _ _ (through i j k u r) = (u.definition, u.stands)
+
+pub none_itself : (p : Program) (c : Config) → HasFineNames p c → (i : ℕ) → ¬ UsesItself p c i
+none_itself p c fine i u =
+    let s : (d : Definition) × (slice_get (definitions_in p.units) i ≡ Some d) = starts p c i i u in
+    let r : DefinedAt p.units i s.0 = defined_at p.units i s.0 s.1 in
+    fine r.place (Recursion s.0.name s.0.at) (record { unit = Define s.0; stands = r.stands; wrong = inl (subst (λ (k : ℕ). UsesItself p c k) (sym r.before) u, refl) })
+
+pub fine_definition : (p : Program) (c : Config) → HasFineNames p c → (i : ℕ) (d : Definition) → slice_get (definitions_in p.units) i ≡ Some d → complaint (with_names (takes_in_program p c) d.params) d.body ≡ None
+fine_definition p c fine i d e = one (complaint (with_names (takes_in_program p c) d.params) d.body) refl
+  where
+    one : (o : Option NameFault) → complaint (with_names (takes_in_program p c) d.params) d.body ≡ o → o ≡ None
+    one None q = refl
+    one (Some f) q =
+        let r : DefinedAt p.units i d = defined_at p.units i d e in
+        absurd (fine r.place f (record { unit = Define d; stands = r.stands; wrong = inr (none_itself p c fine (definitions_before p.units r.place), q) }))
+
+-- what is wrong with a unit, where it is known whether its definition uses itself
+
+pub untrue : IsTrue false → ⊥
+untrue e = absurd (cc)
+
+pub fault_is : (p : Program) (c : Config) (i : ℕ) (unit : ModuleUnit) (f : NameFault) (b : Bool) → (IsTrue b ↔ UsesItself p c i) → unit_complaint (takes_in_program p c) b unit ≡ Some f → UnitFault p c i unit f
+fault_is p c i (Define d) f true mark e = inl (mark.0 refl, cc)
+fault_is p c i (Define d) f false mark e = inr ((λ u. untrue (mark.1 u)), e)
+fault_is p c i (Assume t) f b mark e = e
+fault_is p c i (Variables ds) f b mark e = absurd (cc)
+fault_is p c i (Constants ds) f b mark e = absurd (cc)
+fault_is p c i Passed f b mark e = absurd (cc)
+
+pub is_fault : (p : Program) (c : Config) (i : ℕ) (unit : ModuleUnit) (f : NameFault) (b : Bool) → (IsTrue b ↔ UsesItself p c i) → UnitFault p c i unit f → unit_complaint (takes_in_program p c) b unit ≡ Some f
+is_fault p c i (Define d) f true mark (inl w) = ap (λ (x : NameFault). Some x) (sym w.1)
+is_fault p c i (Define d) f true mark (inr w) = absurd (w.0 (mark.0 refl))
+is_fault p c i (Define d) f false mark (inl w) = absurd (untrue (mark.1 w.0))
+is_fault p c i (Define d) f false mark (inr w) = w.1
+is_fault p c i (Assume t) f b mark w = w
+is_fault p c i (Variables ds) f b mark w = absurd w
+is_fault p c i (Constants ds) f b mark w = absurd w
+is_fault p c i Passed f b mark w = absurd w

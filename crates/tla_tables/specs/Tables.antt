@@ -1,0 +1,49 @@
+-- The table of a program's definitions: what the names of the program mean, and what each body means among them.
+use Rattle.std.specs.Prelude.{◌≡◌, ◌≢◌, ℕ, List, [], length, Some, slice_get}
+use Rattle.tla_values.specs.Data.{Val}
+use Rattle.tla_ast.specs.Trees.{Tree}
+use Rattle.tla_ast.specs.declared.config.Config.{Config}
+use Rattle.tla_ast.specs.declared.expr.Definition.{Definition}
+use Rattle.tla_ast.specs.declared.module.Program.{Program}
+use Rattle.tla_terms.specs.declared.operator.Operator.{Operator}
+use Rattle.tla_terms.specs.Terms.{Term, level_of}
+use Rattle.term_parts.specs.Slots.{UsesSmaller}
+use Rattle.tla_scopes.specs.declared.meant.Entry.{Entry}
+use Rattle.tla_scopes.specs.Scopes.{bind}
+use Rattle.tla_names.specs.Means.{Means}
+use Rattle.tla_names.specs.Outcomes.{Grows, named_in}
+use Rattle.tla_program.specs.InUnits.{definitions_in}
+use Rattle.tla_program.specs.Names.{Numbers, AreNames}
+
+-- what a tree means under parameters, among the names of a program whose definitions have these numbers
+pub record MeansThere (p : Program) (c : Config) (values : List Val) (number : Numbers) (ops : List Operator) (params : List (List ℕ)) (t : Tree) (e : Term) : Type 0 where
+  pub names : List Entry
+  pub are : AreNames p c values number names
+  pub means : Means names ops (bind [] params) t e
+
+-- a definition of a unit as one of the table
+abbrev pub unit_operator : Definition → Term → Operator
+unit_operator d body = record { name = d.name; outer = 0; params = length d.params; level = level_of body; body = body }
+
+-- The definition of that index stands in the table under its number.
+pub record IsTabled (p : Program) (c : Config) (values : List Val) (number : Numbers) (ops : List Operator) (i : ℕ) (d : Definition) : Type 0 where
+  pub row : ℕ
+  pub body : Term
+  pub numbered : number i ≡ Some row
+  pub stands : slice_get ops row ≡ Some (unit_operator d body)
+  pub means : MeansThere p c values number ops d.params d.body body
+
+-- The table of a program: each definition has a row, each row with a name is one of a definition, and each uses rows of smaller numbers alone.
+pub record IsTable (p : Program) (c : Config) (values : List Val) (number : Numbers) (ops : List Operator) : Type 0 where
+  pub definitions : (i : ℕ) (d : Definition) → slice_get (definitions_in p.units) i ≡ Some d → IsTabled p c values number ops i d
+  pub named : (k : ℕ) (o : Operator) → slice_get ops k ≡ Some o → o.name ≢ [] → (i : ℕ) × (d : Definition) × (slice_get (definitions_in p.units) i ≡ Some d) × (number i ≡ Some k)
+  pub smaller : UsesSmaller ops
+
+-- What is a table stays one where definitions without a name, as those of LETs, are added behind the others.
+abbrev pub StaysTable : Program → Config → List Val → Numbers → List Operator → Type 0
+StaysTable p c values number ops = (all : List Operator) → Grows ops all → named_in all ≡ named_in ops → UsesSmaller all → IsTable p c values number all
+
+-- the terms are what the trees mean there, in their order
+pub record AreMeant (p : Program) (c : Config) (values : List Val) (number : Numbers) (ops : List Operator) (trees : List Tree) (terms : List Term) : Type 0 where
+  pub as_many : length terms ≡ length trees
+  pub each : (j : ℕ) (t : Tree) (e : Term) → slice_get trees j ≡ Some t → slice_get terms j ≡ Some e → MeansThere p c values number ops [] t e
