@@ -6,5 +6,5 @@ use Rattle.tla_levels.proofs.tests.tell.Goals as goal
 pub resolved-requires : goal.resolved-requires
 resolved-requires c = record {
   spelled = subst (λ (l : List GivenAt). AreSpelled l) c.items.ensures (c.in_ok-spelled.ensures c.if-not-spelled.false);
-  form = c.requires;
+  form = c.requires.form;
 }
