@@ -10,8 +10,8 @@ use std::alloc::{AllocError, Global};
 use std::rt::HostRuntime;
 use std::test::Fail;
 use tla_ast::{
-    Config, Declared, DeclaredNames, Definition, Expr, Given, GivenAt, Givens, Laid, Literal,
-    Module, Node, Program, Unit, Units, tokens_end_once,
+    Config, Declared, DeclaredNames, Definition, Expr, Given, GivenAt, Givens, InfixOperator, Laid,
+    Literal, Module, Node, Operand, Operands, Program, Unit, Units, tokens_end_once,
 };
 use tla_lexer::lex;
 use tla_terms::{Level, Spec, Term, TermNode};
@@ -127,6 +127,69 @@ fn chain(alloc: Global, count: u16) -> Result<Program, AllocError> {
     let last = format!(in alloc; "d{count}")?;
     let behind = variable(alloc, last.as_str())?;
     units.push(behind)?;
+    Ok(Program {
+        files: Names::new(alloc),
+        units,
+        standard: Names::new(alloc),
+    })
+}
+
+/// `x + x + .. + x`, with so many operators.
+fn sum(alloc: Global, count: u32) -> Result<Expr, AllocError> {
+    let first = named(alloc, "x")?;
+    let mut operands = Operands::new(alloc, first)?;
+    for _ in 1..count {
+        let value = named(alloc, "x")?;
+        operands.push(Operand { at: AT, value })?;
+    }
+    let last = part(alloc)?;
+    let node = Node::Infix(InfixOperator::Plus, operands, last);
+    Ok(Expr { at: AT, node })
+}
+
+/// `x` as a part.
+fn part(alloc: Global) -> Result<Box<Expr>, AllocError> {
+    let tree = named(alloc, "x")?;
+    Ok(Box::new(alloc, tree)?)
+}
+
+/// `IF x THEN x ELSE IF ..`, so many of them.
+fn long_if(alloc: Global, count: u32) -> Result<Expr, AllocError> {
+    let mut tree = named(alloc, "x")?;
+    for _ in 0..count {
+        let test = part(alloc)?;
+        let then = part(alloc)?;
+        let last = Box::new(alloc, tree)?;
+        let node = Node::If(test, then, last);
+        tree = Expr { at: AT, node };
+    }
+    Ok(tree)
+}
+
+/// `{b \\in x : {b \\in x : .. }}`, so many sets inside each other.
+fn nested(alloc: Global, count: u32) -> Result<Expr, AllocError> {
+    let mut tree = named(alloc, "x")?;
+    for _ in 0..count {
+        let bound = text(alloc, "b")?;
+        let set = part(alloc)?;
+        let test = Box::new(alloc, tree)?;
+        let node = Node::Filter(bound, set, test);
+        tree = Expr { at: AT, node };
+    }
+    Ok(tree)
+}
+
+/// The variable `x`, and the definition `Init` of that body.
+fn alone(alloc: Global, body: Expr) -> Result<Program, AllocError> {
+    let mut units = Units::new(alloc);
+    units.push(variable(alloc, "x")?)?;
+    let name = text(alloc, "Init")?;
+    units.push(Unit::Define(Definition {
+        name,
+        at: AT,
+        params: Names::new(alloc),
+        body,
+    }))?;
     Ok(Program {
         files: Names::new(alloc),
         units,
@@ -649,6 +712,22 @@ fn chain_told(alloc: Global, count: u16) -> Result<String, AllocError> {
     tell(alloc, &program, &config, "")
 }
 
+fn alone_told(alloc: Global, body: Expr) -> Result<String, AllocError> {
+    let program = alone(alloc, body)?;
+    let config = config(alloc, Form::Steps("Init", "Init"), &[])?;
+    tell(alloc, &program, &config, "")
+}
+
+/// The two-phase commit protocol.
+const TWO_PHASE: &str =
+    "---- MODULE TwoPhase ----\nCONSTANT RM\nVARIABLES rmState, tmState, tmPrepared, msgs\nMessage ==\n  [type : {\"Prepared\"}, rm : RM] \\cup [type : {\"Commit\", \"Abort\"}]\nTPTypeOK ==\n  /\\ rmState \\in [RM -> {\"working\", \"prepared\", \"committed\", \"aborted\"}]\n  /\\ tmState \\in {\"init\", \"committed\", \"aborted\"}\n  /\\ tmPrepared \\subseteq RM\n  /\\ msgs \\subseteq Message\nTPInit ==\n  /\\ rmState = [r \\in RM |-> \"working\"]\n  /\\ tmState = \"init\"\n  /\\ tmPrepared = {}\n  /\\ msgs = {}\nTMRcvPrepared(r) ==\n  /\\ tmState = \"init\"\n  /\\ [type |-> \"Prepared\", rm |-> r] \\in msgs\n  /\\ tmPrepared' = tmPrepared \\cup {r}\n  /\\ UNCHANGED <<rmState, tmState, msgs>>\nTMCommit ==\n  /\\ tmState = \"init\"\n  /\\ tmPrepared = RM\n  /\\ tmState' = \"committed\"\n  /\\ msgs' = msgs \\cup {[type |-> \"Commit\"]}\n  /\\ UNCHANGED <<rmState, tmPrepared>>\nTMAbort ==\n  /\\ tmState = \"init\"\n  /\\ tmState' = \"aborted\"\n  /\\ msgs' = msgs \\cup {[type |-> \"Abort\"]}\n  /\\ UNCHANGED <<rmState, tmPrepared>>\nRMPrepare(r) ==\n  /\\ rmState[r] = \"working\"\n  /\\ rmState' = [rmState EXCEPT ![r] = \"prepared\"]\n  /\\ msgs' = msgs \\cup {[type |-> \"Prepared\", rm |-> r]}\n  /\\ UNCHANGED <<tmState, tmPrepared>>\nRMChooseToAbort(r) ==\n  /\\ rmState[r] = \"working\"\n  /\\ rmState' = [rmState EXCEPT ![r] = \"aborted\"]\n  /\\ UNCHANGED <<tmState, tmPrepared, msgs>>\nRMRcvCommitMsg(r) ==\n  /\\ [type |-> \"Commit\"] \\in msgs\n  /\\ rmState' = [rmState EXCEPT ![r] = \"committed\"]\n  /\\ UNCHANGED <<tmState, tmPrepared, msgs>>\nRMRcvAbortMsg(r) ==\n  /\\ [type |-> \"Abort\"] \\in msgs\n  /\\ rmState' = [rmState EXCEPT ![r] = \"aborted\"]\n  /\\ UNCHANGED <<tmState, tmPrepared, msgs>>\nTPNext ==\n  \\/ TMCommit \\/ TMAbort\n  \\/ \\E r \\in RM : \\/ TMRcvPrepared(r) \\/ RMPrepare(r)\n                   \\/ RMChooseToAbort(r)\n                   \\/ RMRcvCommitMsg(r) \\/ RMRcvAbortMsg(r)\nTPSpec ==\n  TPInit /\\ [][TPNext]_<<rmState, tmState, tmPrepared, msgs>>\nTHEOREM TPSpec => []TPTypeOK\n====\n";
+
+fn two_phase_told(alloc: Global) -> Result<String, AllocError> {
+    let program = read(alloc, TWO_PHASE)?;
+    let config = config(alloc, Form::Whole("TPSpec"), &[Entry::Three("RM")])?;
+    tell(alloc, &program, &config, "")
+}
+
 #[test]
 fn rows(rt: HostRuntime) -> Result<(), Fail> {
     let alloc = rt.alloc();
@@ -666,7 +745,15 @@ fn sizes(rt: HostRuntime) -> Result<(), Fail> {
     assert_eq!(rt; most.as_str(), "NoOperator Init");
     let more = crowd_told(alloc, 65)?;
     assert_eq!(rt; more.as_str(), "TooManyVariables 67:1");
-    let linked = chain_told(alloc, 2000)?;
-    assert_eq!(rt; linked.as_str(), "1 2000 0, Use 1 1:1, Use 1 1:1");
+    let linked = chain_told(alloc, 10_000)?;
+    assert_eq!(rt; linked.as_str(), "1 10000 0, Use 1 1:1, Use 1 1:1");
+    let added = alone_told(alloc, sum(alloc, 50_000)?)?;
+    assert_eq!(rt; added.as_str(), "1 1 0, Infix 1 1:1, Infix 1 1:1");
+    let chosen = alone_told(alloc, long_if(alloc, 39_999)?)?;
+    assert_eq!(rt; chosen.as_str(), "1 1 0, other 1 1:1, other 1 1:1");
+    let sets = alone_told(alloc, nested(alloc, 100)?)?;
+    assert_eq!(rt; sets.as_str(), "1 1 0, other 1 1:1, other 1 1:1");
+    let two_phase = two_phase_told(alloc)?;
+    assert_eq!(rt; two_phase.as_str(), "4 12 0, Use 1 55:3, Use 2 55:16");
     Ok(())
 }
