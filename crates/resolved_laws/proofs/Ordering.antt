@@ -96,8 +96,6 @@ needed_good p c silent values number s g init next there is _ (is_silent d h) =
 
 spec_in_order : (p : Program) (c : Config) (silent : Option (List ℕ)) (values : List Val) (number : Numbers) (s : Spec) → IsWellFormed p → IsConfigured p c silent values number s.operators (terms_list s.assumes) → first_too_high p c silent number s.operators ≡ None → AreSteps p c number s.operators s.init s.next → IsSilentOf p number silent s.silent → s.variables ≡ names_declared (variables_in p.units) → IsSpec s
 spec_in_order p c silent values number s well h levels steps is vars =
-    let ops : List Operator = s.operators in
-    let es : List Term = terms_list s.assumes in
     let g : Ready p c values number s.operators (terms_list s.assumes) = record { well = well; levelled = h.levelled } in
     let x = neither (missing p c.init) (first_of (missing p c.next) (first_of (missing p c.specification) (missing p silent))) h.operators in
     let y = neither (missing p c.next) (first_of (missing p c.specification) (missing p silent)) x.1 in

@@ -9,7 +9,8 @@ use Rattle.tla_levels.specs.Resolved.{Resolved}
 use Rattle.spec_laws.specs.Formed.{UnitsAreFormed}
 use Rattle.spec_laws.specs.IsSpec.{IsSpec}
 
--- A program as the reader gives it: its trees are those of the grammar, no name is declared twice, and each definition has a name.
+-- A program as the reader gives it: its trees are those of the grammar, no two variables have one name and no two definitions, and each definition has
+-- a name.
 pub record IsWellFormed (p : Program) : Type 0 where
   pub formed : UnitsAreFormed p.units
   pub variables_differ : AllPairs (λ a b. a ≢ b) (names_declared (variables_in p.units))
