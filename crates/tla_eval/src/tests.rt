@@ -168,9 +168,20 @@ fn lists_joined(alloc: Global) -> Result<bool, EvalFault> {
     Ok(all.len() == 4)
 }
 
+/// A truth value and a set where they are asked for.
+fn kinds_answer() -> bool {
+    let nat = match set_at(named_set(NamedSet::Nat), column(3)) {
+        Ok(set) => is_within(&set, &[int(0), int(7)]) && !is_within(&set, &[int(0), int(-1)]),
+        Err(_) => false,
+    };
+    nat && truth_at(&Value::boolean(true), column(4)) == Ok(true)
+        && truth_at(&int(1), column(4)) == Err(EvalFault::Refused(EvalKind::NotBoolean, column(4)))
+}
+
 #[test]
 fn parts_answer(rt: HostRuntime) {
     let alloc = rt.alloc();
+    assert!(rt; kinds_answer());
     let endless = list_at(alloc, named_set(NamedSet::Nat), column(2));
     assert!(rt; makes_values(alloc) == Ok(true));
     assert!(rt; lists_joined(alloc) == Ok(true));
