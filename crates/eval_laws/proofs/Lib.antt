@@ -1,0 +1,10 @@
+pub mod Keeping
+pub mod KeptContexts
+pub mod KeptRows
+pub mod Kept
+pub mod OneAnswer
+pub mod SureOperations
+pub mod Fine
+pub mod FineContexts
+pub mod FineRows
+pub mod OneOutcome

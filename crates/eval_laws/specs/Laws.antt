@@ -1,0 +1,13 @@
+-- Laws of evaluation, beside those of the definition's own crate.
+use Rattle.std.specs.Prelude.{◌≡◌, ℕ, Result}
+use Rattle.tla_core.specs.declared.fault.Fault.{Fault}
+use Rattle.tla_terms.specs.Terms.{Term}
+use Rattle.eval_sets.specs.DescribedSets.{Described}
+use Rattle.tla_eval.specs.Contexts.{Context, Table}
+use Rattle.tla_eval.specs.Evaluates.{Describes}
+use Rattle.tla_eval.specs.Laws.{IsWithin}
+
+-- a term keeps its description where more values are known
+abbrev pub KeepsDescription : Type 0
+KeepsDescription =
+    (ops : Table) (d : ℕ) (c b : Context) (e : Term) → c.slots ≡ b.slots → IsWithin c.now b.now → IsWithin c.next b.next → (r : Result Described Fault) → Describes ops d c e r → Describes ops d b e r
