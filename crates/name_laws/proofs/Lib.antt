@@ -1,4 +1,5 @@
 pub mod Bits
+pub mod Decided
 pub mod Fine
 pub mod Hiding
 pub mod Known

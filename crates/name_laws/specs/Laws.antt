@@ -1,5 +1,5 @@
 -- What the names of a tree decide: laws of the first name that means nothing, and of what a tree means.
-use Rattle.std.specs.Prelude.{◌≡◌, ℕ, true, List, Option, Some, None}
+use Rattle.std.specs.Prelude.{◌≡◌, ◌↔◌, ℕ, true, List, Option, Some, None}
 use Rattle.tla_ast.specs.Trees.{Tree}
 use Rattle.tla_terms.specs.declared.operator.Operator.{Operator}
 use Rattle.tla_terms.specs.Terms.{Term}
@@ -7,9 +7,10 @@ use Rattle.tla_scopes.specs.declared.scope.Local.{Local}
 use Rattle.tla_scopes.specs.declared.meant.Entry.{Entry}
 use Rattle.tla_scopes.specs.declared.meant.Named.{Named}
 use Rattle.tla_scopes.specs.Mentions.{mentions}
-use Rattle.tla_scopes.specs.Scopes.{among}
+use Rattle.tla_scopes.specs.Scopes.{among, meaning_in, slots}
 use Rattle.tla_names.specs.Complaints.{Takes, complaint}
 use Rattle.tla_names.specs.Means.{Means}
+use Rattle.tla_names.specs.Outcomes.{takes_in}
 
 -- each name that means something goes on to, with as many arguments
 abbrev pub Keeps : Takes → Takes → Type 0
@@ -39,3 +40,14 @@ MentionedNamesDecide = (g g' : Takes) (t : Tree) → ((n : List ℕ) → mention
 abbrev pub MeaningsStay : Type 0
 MeaningsStay =
     (names names' : List Entry) → HasMore names names' → (ops : List Operator) (scope : List Local) (t : Tree) (e : Term) → Means names ops scope t e → Means names' ops scope t e
+
+-- Two programs, each with names that are bound around, agree on the names that are free in the tree: each means the same at both places. As many
+-- slots are taken around.
+pub record Agree (t : Tree) (names names' : List Entry) (scope scope' : List Local) : Type 0 where
+  pub taken : slots scope ≡ slots scope'
+  pub free : (n : List ℕ) → mentions n t ≡ true → meaning_in names scope n ≡ meaning_in names' scope' n
+
+-- what a tree means depends on what the names mean that are free in it, where nothing is wrong with its names
+abbrev pub MeansByNames : Type 0
+MeansByNames =
+    (names names' : List Entry) (scope scope' : List Local) (ops : List Operator) (t : Tree) (e : Term) → Agree t names names' scope scope' → complaint (takes_in names scope) t ≡ None → (Means names ops scope t e ↔ Means names' ops scope' t e)

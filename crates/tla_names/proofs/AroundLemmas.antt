@@ -14,18 +14,18 @@ use Rattle.tla_scopes.specs.Standing.{IsIn, AreIn, LocalsIn, AddsSlots}
 use Rattle.tla_scopes.specs.Scopes.{later, named, bound_from, bound, among}
 use Rattle.tla_scopes.proofs.ScopeLemmas.{one_slot}
 use Rattle.term_parts.specs.Slots.{MentionsBelow, UsesSmaller}
-use Rattle.tla_names.specs.Around.{IsAround}
-use Rattle.tla_names.specs.Outcomes.{IsSought, unless_unnamed, named_in}
+use Rattle.tla_names.specs.Around.{Around, IsAround}
+use Rattle.tla_names.specs.Outcomes.{IsSought, unless_unnamed, named_in, IsOrdered, KeepsOrder}
 
 abbrev meant_of : Option Named → Meant
 meant_of (Some x) = x.meant
 meant_of None = meant.Slot 0
 
 pub around_slots : (names : List Entry) (a b : List Local) (table : List Operator) → AddsSlots a b → IsAround names a table → IsAround names b table
-around_slots names a b table s h = record { program = h.program; around = s (length table) h.around; smaller = h.smaller }
+around_slots names a b table s h = record { program = h.program; around = s (length table) h.around }
 
 pub around_bound : (names : List Entry) (sc : List Local) (table : List Operator) (m : List ℕ) → IsAround names sc table → IsAround names (sc ++ Bound m ∷ []) table
-around_bound names sc table m h = record { program = h.program; around = one_slot (length table) sc m h.around; smaller = h.smaller }
+around_bound names sc table m h = record { program = h.program; around = one_slot (length table) sc m h.around }
 
 -- a name was pushed, or not
 pub pushed_bound : {A E : Type 0} (names : List Entry) (sc new : List Local) (table : List Operator) (m : List ℕ) (r : Result A E) → OnOk r (new ≡ sc ++ Bound m ∷ []) → OnErr r (new ≡ sc) → IsAround names sc table → IsAround names new table
@@ -100,13 +100,28 @@ smaller_pushed table o h below k p e = elim (pushed_at table o k p e) [
   | inr b ↦ subst (λ (i : ℕ). MentionsBelow i p.body) (sym b.0) (subst (λ (q : Operator). MentionsBelow (length table) q.body) b.1 below)
 ]
 
-pub around_more : (names : List Entry) (sc : List Local) (table : List Operator) (o : Operator) → MentionsBelow (length table) o.body → IsAround names sc table → IsAround names sc (table ++ o ∷ [])
-around_more names sc table o below h =
+-- An order.
+
+pub ordered_by : (table : List Operator) → UsesSmaller table → IsOrdered table
+unfolding IsOrdered
+ordered_by table h = h
+
+pub smaller_by : (table : List Operator) → IsOrdered table → UsesSmaller table
+unfolding IsOrdered
+smaller_by table h = h
+
+-- one more definition, which uses those before it alone
+pub order_kept : (a : Around) (names : List Entry) (sc : List Local) (table new : List Operator) (o : Operator) → record { here = record { names = names; scope = sc }; table = table } ≡ a → new ≡ table ++ o ∷ [] → MentionsBelow (length table) o.body → KeepsOrder a.table new
+order_kept a names sc table new o v p below h =
+    let before : IsOrdered table = subst (λ (x : Around). IsOrdered x.table) (sym v) h in
+    subst (λ (x : List Operator). IsOrdered x) (sym p) (ordered_by (table ++ o ∷ []) (smaller_pushed table o (smaller_by table before) below))
+
+pub around_more : (names : List Entry) (sc : List Local) (table : List Operator) (o : Operator) → IsAround names sc table → IsAround names sc (table ++ o ∷ [])
+around_more names sc table o h =
     let le : length table ≤ length (table ++ o ∷ []) = omega (arith, longer table o) in
     record {
       program = λ k d lt. in_more (length table) (length (table ++ o ∷ [])) _ le (h.program k d lt);
       around = more_locals (length table) (length (table ++ o ∷ [])) sc le h.around;
-      smaller = smaller_pushed table o h.smaller below;
     }
 
 pub defined_in : (n : ℕ) (sc : List Local) (m : List ℕ) (k : DefId) (p : ℕ) → k.0 < n → LocalsIn n sc → LocalsIn n (sc ++ Defined m k p ∷ [])
@@ -114,10 +129,10 @@ defined_in n [] m k p lt h = (lt, tt)
 defined_in n (Bound j ∷ sc) m k p lt h = defined_in n sc m k p lt h
 defined_in n (Defined j i q ∷ sc) m k p lt h = (h.0, defined_in n sc m k p lt h.1)
 
-pub around_defined : (names : List Entry) (sc : List Local) (table : List Operator) (o : Operator) (m : List ℕ) (k : DefId) (p : ℕ) → MentionsBelow (length table) o.body → k.0 ≡ length table → IsAround names sc table → IsAround names (sc ++ Defined m k p ∷ []) (table ++ o ∷ [])
-around_defined names sc table o m k p below e h =
-    let r : IsAround names sc (table ++ o ∷ []) = around_more names sc table o below h in
-    record { program = r.program; around = defined_in (length (table ++ o ∷ [])) sc m k p (omega (arith, e, longer table o)) r.around; smaller = r.smaller }
+pub around_defined : (names : List Entry) (sc : List Local) (table : List Operator) (o : Operator) (m : List ℕ) (k : DefId) (p : ℕ) → k.0 ≡ length table → IsAround names sc table → IsAround names (sc ++ Defined m k p ∷ []) (table ++ o ∷ [])
+around_defined names sc table o m k p e h =
+    let r : IsAround names sc (table ++ o ∷ []) = around_more names sc table o h in
+    record { program = r.program; around = defined_in (length (table ++ o ∷ [])) sc m k p (omega (arith, e, longer table o)) r.around }
 
 locals_taken : (n k : ℕ) (sc : List Local) → LocalsIn n sc → LocalsIn n (take k sc)
 locals_taken n zero sc h = tt
@@ -126,4 +141,4 @@ locals_taken n (suc k) (Bound m ∷ sc) h = locals_taken n k sc h
 locals_taken n (suc k) (Defined m j p ∷ sc) h = (h.0, locals_taken n k sc h.1)
 
 pub around_cut : (names : List Entry) (sc : List Local) (table : List Operator) (k : ℕ) → IsAround names sc table → IsAround names (take k sc) table
-around_cut names sc table k h = record { program = h.program; around = locals_taken (length table) k sc h.around; smaller = h.smaller }
+around_cut names sc table k h = record { program = h.program; around = locals_taken (length table) k sc h.around }

@@ -16,7 +16,7 @@ use Rattle.tla_scopes.specs.declared.scope.Local.TheVariants.{Defined}
 use Rattle.tla_names.specs.Around.{Here, Around, takes}
 use Rattle.tla_names.specs.Complaints.{Takes, or_else, with_names, with_definitions, complaint, definitions_complaint, itself}
 use Rattle.tla_names.specs.Means.{Means, local_operator}
-use Rattle.tla_names.specs.Outcomes.{takes_in, Complains, Grows, named_in}
+use Rattle.tla_names.specs.Outcomes.{takes_in, Complains, Grows, named_in, KeepsOrder}
 use Rattle.tla_names.specs.Reads.{ResolvesTo, ResolvesDefinitions}
 use Rattle.tla_scopes.specs.Scopes.{bind, slots}
 use Rattle.tla_scopes.proofs.LevelLoops.{cut_at, cut_end}
@@ -42,8 +42,8 @@ defined_means m m1 m2 depth ps a x dp b r =
     subst (λ (h : Here). Means h.names m2.table (bind h.scope ps) a x) (sym in_it.kept) (in_it.means m2.table (grows_same m2.table))
 
 -- one more definition: it stands at the end of the table, behind those of its own LETs
-pub definition_on : (w m m1 m2 v : Around) (depth : ℕ) (ds : tree.Definitions) (ks : List ℕ) (n : List ℕ) (at : Place) (ps : List (List ℕ)) (a : Tree) (x : Term) (k : DefId) (count : ℕ) → ResolvesDefinitions w m ds ks → itself n at ps a ≡ None → depth ≡ length m.here.scope → m1 ≡ record { here = record { names = m.here.names; scope = bind m.here.scope ps }; table = m.table } → ResolvesTo m1 m2 depth a x → count ≡ length ps → k.0 ≡ length m2.table → v.here.names ≡ m2.here.names → v.here.scope ≡ m2.here.scope ++ Defined n k count ∷ [] → v.table ≡ m2.table ++ local_operator (slots m2.here.scope) count x ∷ [] → ResolvesDefinitions w v (tree.MoreDefinitions ds n at ps a) (ks ++ k.0 ∷ [])
-definition_on w m m1 m2 v depth ds ks n at ps a x k count d i dp b r ct ke vn vs vt =
+pub definition_on : (w m m1 m2 v : Around) (depth : ℕ) (ds : tree.Definitions) (ks : List ℕ) (n : List ℕ) (at : Place) (ps : List (List ℕ)) (a : Tree) (x : Term) (k : DefId) (count : ℕ) → ResolvesDefinitions w m ds ks → itself n at ps a ≡ None → depth ≡ length m.here.scope → m1 ≡ record { here = record { names = m.here.names; scope = bind m.here.scope ps }; table = m.table } → ResolvesTo m1 m2 depth a x → count ≡ length ps → k.0 ≡ length m2.table → v.here.names ≡ m2.here.names → v.here.scope ≡ m2.here.scope ++ Defined n k count ∷ [] → v.table ≡ m2.table ++ local_operator (slots m2.here.scope) count x ∷ [] → KeepsOrder m2.table v.table → ResolvesDefinitions w v (tree.MoreDefinitions ds n at ps a) (ks ++ k.0 ∷ [])
+definition_on w m m1 m2 v depth ds ks n at ps a x k count d i dp b r ct ke vn vs vt vo =
     let more : (more : List Local) × (bind m.here.scope ps ≡ m.here.scope ++ more) = bind_adds m.here.scope ps in
     let in_it : ReadIn m m2 (bind m.here.scope ps) a x = read_back m m1 m2 depth (bind m.here.scope ps) more.0 a x b dp more.1 r in
     let o : Operator = local_operator (slots m.here.scope) (length ps) x in
@@ -58,6 +58,7 @@ definition_on w m m1 m2 v depth ds ks n at ps a x k count d i dp b r ct ke vn vs
       kept = names;
       grown = grows_on w.table (grows_on w.table d.grown in_it.grown) one;
       unnamed = ap named_in table ∙ named_pushed m2.table o refl ∙ in_it.unnamed ∙ d.unnamed;
+      ordered = λ h. vo (in_it.ordered (d.ordered h));
       means = λ all g.
           (ks, m.here.scope, k, x, d.means all (grows_on m.table (grows_on m.table in_it.grown one) g), subst (λ (y : List Entry). Means y all (bind m.here.scope ps) a x) d.kept (in_it.means all (grows_on m2.table one g)), ap (λ (j : ℕ). slice_get all j) ke ∙ ap (λ (t : List Operator). slice_get t (length m2.table)) (g.1 ∙ ap (λ (t : List Operator). t ++ g.0) table ∙ append_assoc m2.table (o ∷ []) g.0) ∙ at_end m2.table o g.0, refl, scope);
       fine = none_both (definitions_complaint (takes w.here) ds) (or_else (itself n at ps a) (complaint (with_names (with_definitions (takes w.here) ds) ps) a)) d.fine
@@ -76,14 +77,14 @@ pub record DefinitionsRead (w v : Around) (items : List Definition) (i : ℕ) (k
 
 pub definitions_begin : (w : Around) (items : List Definition) → DefinitionsRead w w items 0 []
 definitions_begin w items =
-    record { so_far = tree.NoDefinitions; whole = refl; read = record { kept = refl; grown = grows_same w.table; unnamed = refl; means = λ all g. (refl, refl); fine = refl } }
+    record { so_far = tree.NoDefinitions; whole = refl; read = record { kept = refl; grown = grows_same w.table; unnamed = refl; ordered = λ o. o; means = λ all g. (refl, refl); fine = refl } }
 
-pub definitions_pushed : (w m m1 m2 v : Around) (items : List Definition) (i : ℕ) (depth count : ℕ) (ks new : List ℕ) (d : Definition) (x : Term) (k : DefId) → new ≡ ks ++ k.0 ∷ [] → i < length items → d ≡ get_or items i d → DefinitionsRead w m items i ks → itself d.name d.at d.params d.body ≡ None → depth ≡ length m.here.scope → m1 ≡ record { here = record { names = m.here.names; scope = bind m.here.scope d.params }; table = m.table } → ResolvesTo m1 m2 depth d.body x → count ≡ length d.params → k.0 ≡ length m2.table → v.here.names ≡ m2.here.names → v.here.scope ≡ m2.here.scope ++ Defined d.name k count ∷ [] → v.table ≡ m2.table ++ local_operator (slots m2.here.scope) count x ∷ [] → DefinitionsRead w v items (i + 1) new
-definitions_pushed w m m1 m2 v items i depth count ks new d x k e lt at h own dp b r ct ke vn vs vt =
+pub definitions_pushed : (w m m1 m2 v : Around) (items : List Definition) (i : ℕ) (depth count : ℕ) (ks new : List ℕ) (d : Definition) (x : Term) (k : DefId) → new ≡ ks ++ k.0 ∷ [] → i < length items → d ≡ get_or items i d → DefinitionsRead w m items i ks → itself d.name d.at d.params d.body ≡ None → depth ≡ length m.here.scope → m1 ≡ record { here = record { names = m.here.names; scope = bind m.here.scope d.params }; table = m.table } → ResolvesTo m1 m2 depth d.body x → count ≡ length d.params → k.0 ≡ length m2.table → v.here.names ≡ m2.here.names → v.here.scope ≡ m2.here.scope ++ Defined d.name k count ∷ [] → v.table ≡ m2.table ++ local_operator (slots m2.here.scope) count x ∷ [] → KeepsOrder m2.table v.table → DefinitionsRead w v items (i + 1) new
+definitions_pushed w m m1 m2 v items i depth count ks new d x k e lt at h own dp b r ct ke vn vs vt vo =
     record {
       so_far = tree.MoreDefinitions h.so_far d.name d.at d.params d.body;
       whole = ap (λ ts. definitions_from h.so_far ts) (sym (cut_at items i d lt at)) ∙ h.whole;
-      read = subst (λ (y : List ℕ). ResolvesDefinitions w v (tree.MoreDefinitions h.so_far d.name d.at d.params d.body) y) (sym e) (definition_on w m m1 m2 v depth h.so_far ks d.name d.at d.params d.body x k count h.read own dp b r ct ke vn vs vt);
+      read = subst (λ (y : List ℕ). ResolvesDefinitions w v (tree.MoreDefinitions h.so_far d.name d.at d.params d.body) y) (sym e) (definition_on w m m1 m2 v depth h.so_far ks d.name d.at d.params d.body x k count h.read own dp b r ct ke vn vs vt vo);
     }
 
 pub definitions_end : (w v : Around) (items : List Definition) (all : tree.Definitions) (i : ℕ) (ks : List ℕ) → definitions_of items ≡ all → length items ≤ i → DefinitionsRead w v items i ks → ResolvesDefinitions w v all ks

@@ -22,7 +22,7 @@ use Rattle.tla_scopes.specs.declared.scope.Local.TheVariants.{Bound, Defined}
 use Rattle.tla_names.specs.Around.{Here, Around, takes}
 use Rattle.tla_names.specs.Complaints.{Takes, or_else, with_name, with_bounds, with_definitions, complaint, bounds_complaint, definitions_complaint}
 use Rattle.tla_names.specs.Means.{Means, Defines}
-use Rattle.tla_names.specs.Outcomes.{takes_in, Complains, Grows, named_in}
+use Rattle.tla_names.specs.Outcomes.{takes_in, Complains, Grows, named_in, KeepsOrder}
 use Rattle.tla_names.specs.Pendings.{closed, closed_all, Opens, OpensRow, StaysClosed}
 use Rattle.tla_names.specs.Reads.{Reads, Resolves, ResolvesRow, ResolvesBounds, ResolvesDefinitions, ResolvesTo, cut}
 use Rattle.tla_scopes.specs.Scopes.{bind, bind_bounds}
@@ -53,6 +53,7 @@ if_opens w v rows new at p a last t x y e n r =
       scope = ap (λ (h : Here). h.scope) r.kept ∙ sym (append-nil w.here.scope);
       grown = r.grown;
       unnamed = r.unnamed;
+      ordered = r.ordered;
       means = λ all g z q. (x, y, z, (r.means all g).0, (r.means all g).1, subst (λ (h : Here). Means h.names all h.scope last z) r.kept q, refl);
       same = only_third (complaint (takes w.here) p) (complaint (takes w.here) a) (complaint (takes w.here) last) r.fine ∙ ap (λ (h : Here). complaint (takes h) last) (sym r.kept);
       within = omega arith;
@@ -74,6 +75,7 @@ quantified_opens w m v rows new at q bs a t ys e n r b =
       scope = scope ∙ more.1;
       grown = grown;
       unnamed = ap named_in table ∙ r.unnamed;
+      ordered = subst (λ (x : List Operator). KeepsOrder w.table x) (sym table) r.ordered;
       means = λ all g z k.
           (ys, z, r.means all (subst (λ (x : List Operator). Grows x all) table g), subst (λ (x : List Entry). Means x all (bind_bounds w.here.scope bs) a z) names (subst (λ (x : List Local). Means v.here.names all x a z) scope k), refl);
       same = only_last (bounds_complaint (takes w.here) bs) (complaint (with_bounds (takes w.here) bs) a) r.fine ∙ ap (λ (g : Takes). complaint g a) (sym (ap (λ (x : List Entry). takes_in x v.here.scope) names ∙ ap (λ (x : List Local). takes_in w.here.names x) scope ∙ takes_bounds w.here.names w.here.scope bs));
@@ -95,6 +97,7 @@ choose_opens w m v rows new at n s a t y e j r b =
       scope = scope;
       grown = grown;
       unnamed = ap named_in table ∙ r.unnamed;
+      ordered = subst (λ (x : List Operator). KeepsOrder w.table x) (sym table) r.ordered;
       means = λ all g z k.
           (y, z, r.means all (subst (λ (x : List Operator). Grows x all) table g), subst (λ (x : List Entry). Means x all (w.here.scope ++ Bound n ∷ []) a z) names (subst (λ (x : List Local). Means v.here.names all x a z) scope k), refl);
       same = only_last (complaint (takes w.here) s) (complaint (with_name (takes w.here) n 0) a) r.fine ∙ ap (λ (g : Takes). complaint g a) (sym (ap (λ (x : List Entry). takes_in x v.here.scope) names ∙ ap (λ (x : List Local). takes_in w.here.names x) scope ∙ takes_bound w.here.names w.here.scope n));
@@ -121,6 +124,7 @@ let_opens w v rows new at ds a t ks e n r =
       scope = more.1;
       grown = r.grown;
       unnamed = r.unnamed;
+      ordered = r.ordered;
       means = λ all g z k. (ks, v.here.scope, z, r.means all g, subst (λ (x : List Entry). Means x all v.here.scope a z) r.kept k, refl);
       same = only_last (definitions_complaint (takes w.here) ds) (complaint (with_definitions (takes w.here) ds) a) r.fine ∙ ap (λ (g : Takes). complaint g a) (sym (ap (λ (x : List Entry). takes_in x v.here.scope) r.kept ∙ takes_definitions w.here.names v.table w.here.scope ds ks v.here.scope d));
       within = omega arith;
@@ -136,6 +140,7 @@ opens_begin w t =
       scope = sym (append-nil w.here.scope);
       grown = grows_same w.table;
       unnamed = refl;
+      ordered = λ o. o;
       means = λ all g x k. k;
       same = refl;
       within = omega arith;
@@ -149,6 +154,7 @@ opens_on w m v rows new t mid last a b =
       scope = b.scope ∙ ap (λ x. x ++ b.bound) a.scope ∙ append_assoc w.here.scope a.bound b.bound;
       grown = grows_on w.table a.grown b.grown;
       unnamed = b.unnamed ∙ a.unnamed;
+      ordered = λ o. b.ordered (a.ordered o);
       means = λ all g x k.
           subst (λ (e : Term). Means w.here.names all w.here.scope t e) (sym (ap (λ (rs : List Pending). closed_all rs x) b.added ∙ closed_behind rows b.row x))
           (a.means all (grows_on m.table b.grown g) (closed b.row x) (b.means all g x k));
@@ -177,6 +183,7 @@ opens_to w m v u depth rows t rest n e whole a r p c q =
       kept = λ le. ap (λ (x : Around). x.here) c ∙ ap (λ (h : Here). cut depth h) r.kept ∙ ap (λ (x : List Entry). record { names = x; scope = take depth m.here.scope }) a.kept ∙ ap (λ (x : List Local). record { names = w.here.names; scope = x }) (ap (λ (x : List Local). take depth x) a.scope ∙ take_less depth w.here.scope a.bound le);
       grown = subst (λ (x : List Operator). Grows w.table x) (sym table) (grows_on w.table a.grown r.grown);
       unnamed = ap named_in table ∙ r.unnamed ∙ a.unnamed;
+      ordered = subst (λ (x : List Operator). KeepsOrder w.table x) (sym table) (λ o. r.ordered (a.ordered o));
       means = λ all g.
           let k : Grows v.table all = subst (λ (x : List Operator). Grows x all) table g in
           subst (λ (x : Term). Means w.here.names all w.here.scope t x) (sym q)

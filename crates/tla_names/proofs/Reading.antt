@@ -47,7 +47,7 @@ grows_on a g h = (g.0 ++ h.0, h.1 ∙ ap (λ x. x ++ h.0) g.1 ∙ append_assoc a
 -- One part behind the other.
 
 pub nothing : (w : Around) {c : Here → Option NameFault} {P : Here → List Operator → Type 0} → Always w.table (P w.here) → c w.here ≡ None → Reads w w c P
-nothing w h n = record { kept = refl; grown = grows_same w.table; unnamed = refl; means = h; fine = n }
+nothing w h n = record { kept = refl; grown = grows_same w.table; unnamed = refl; ordered = λ o. o; means = h; fine = n }
 
 pub and_then : (w m v : Around) {c d : Here → Option NameFault} {P Q : Here → List Operator → Type 0} → Reads w m c P → Reads m v d Q → Reads w v (λ h. or_else (c h) (d h)) (λ h all. P h all × Q h all)
 and_then w m v {c = c} {d = d} {Q = Q} p q =
@@ -55,13 +55,14 @@ and_then w m v {c = c} {d = d} {Q = Q} p q =
       kept = q.kept ∙ p.kept;
       grown = grows_on w.table p.grown q.grown;
       unnamed = q.unnamed ∙ p.unnamed;
+      ordered = λ o. q.ordered (p.ordered o);
       means = λ all g. (p.means all (grows_on m.table q.grown g), subst (λ (h : Here). Q h all) p.kept (q.means all g));
       fine = none_both (c w.here) (d w.here) p.fine (subst (λ (h : Here). d h ≡ None) p.kept q.fine);
     }
 
 -- another fact of what was read
 pub so : (w v : Around) {c : Here → Option NameFault} {P Q : Here → List Operator → Type 0} → Reads w v c P → ((h : Here) (all : List Operator) → P h all → Q h all) → Reads w v c Q
-so w v p f = record { kept = p.kept; grown = p.grown; unnamed = p.unnamed; means = λ all g. f w.here all (p.means all g); fine = p.fine }
+so w v p f = record { kept = p.kept; grown = p.grown; unnamed = p.unnamed; ordered = p.ordered; means = λ all g. f w.here all (p.means all g); fine = p.fine }
 
 pub refused_later : (w m : Around) {c : Here → Option NameFault} (d : Here → Option NameFault) {P : Here → List Operator → Type 0} (f : NameFault) → Reads w m c P → Complains (d m.here) f → Complains (or_else (c w.here) (d w.here)) f
 refused_later w m {c = c} d f p r = complains_later (c w.here) (d w.here) f p.fine (subst (λ (h : Here). Complains (d h) f) p.kept r)

@@ -115,6 +115,7 @@ call_row w v at n args k m ts x c e s i r =
       kept = r.kept;
       grown = r.grown;
       unnamed = r.unnamed;
+      ordered = r.ordered;
       means = λ all g. (ts, x, r.means all g, (named k m, s, e), ap (λ l. Placed at l x) (sym (level all g)));
       fine = none_both (counted n at (number_of args) (takes w.here n)) (complaints (takes w.here) args) (ap (λ (j : ℕ). counted n at j (takes w.here n)) (sym c) ∙ counted_sought w.here n at k m s) r.fine;
     }

@@ -12,12 +12,13 @@ use Rattle.tla_scopes.specs.Standing.{AreIn}
 use Rattle.tla_names.specs.Around.{Here, Around, takes}
 use Rattle.tla_names.specs.Complaints.{Takes, with_names, complaint}
 use Rattle.tla_names.specs.Means.{Means}
-use Rattle.tla_names.specs.Outcomes.{takes_in, takes_of, Complains, Grows, named_in, Always}
+use Rattle.tla_names.specs.Outcomes.{takes_in, takes_of, Complains, Grows, named_in, IsOrdered, KeepsOrder, Always}
 use Rattle.tla_names.specs.Reads.{ResolvesTo, ResolvesBody}
 use Rattle.tla_scopes.specs.Scopes.{bind}
 use Rattle.tla_names.proofs.Takes.{takes_bind}
 use Rattle.tla_names.proofs.Within.{names_refused}
 use Rattle.tla_names.proofs.MeansBelow.{body_below}
+use Rattle.tla_names.proofs.AroundLemmas.{ordered_by, smaller_by}
 
 pub body_is : (w v u : Around) (ps : List (List ℕ)) (t : Tree) (e : Term) → v ≡ record { here = record { names = w.here.names; scope = bind w.here.scope ps }; table = w.table } → ResolvesTo v u 0 t e → ResolvesBody w u ps t e
 body_is w v u ps t e b r =
@@ -27,6 +28,7 @@ body_is w v u ps t e b r =
       kept = ap (λ (h : Here). h.names) (k.kept (omega arith));
       grown = k.grown;
       unnamed = k.unnamed;
+      ordered = k.ordered;
       means = k.means;
       fine = ap (λ (g : Takes). complaint g t) (sym (takes_bind w.here.names w.here.scope ps)) ∙ k.fine;
     }
@@ -85,6 +87,8 @@ pub whole_below : (w u : Around) (names : List Entry) (table : List Operator) (p
 whole_below w u names table ps t (Ok e) n s k a b = body_below names table (subst (λ (x : List Entry). AreIn (length table) x) (b.kept ∙ n) a) [] ps t e tt (whole_means w u names table ps t e n s k b table ([], sym (append-nil table)))
 whole_below w u names table ps t (Err f) n s k a b = tt
 
-pub whole_smaller : (table : List Operator) (r : Result Term NameFault) → UsesSmaller table → OnOk r (UsesSmaller table)
-whole_smaller table (Ok e) h = h
-whole_smaller table (Err f) h = tt
+pub whole_smaller : (w u : Around) (old new : List Operator) (ps : List (List ℕ)) (t : Tree) (r : Result Term NameFault) → w.table ≡ old → new ≡ u.table → IfOk r (λ e. ResolvesBody w u ps t e) → OnOk r (UsesSmaller old → UsesSmaller new)
+whole_smaller w u old new ps t (Ok e) o n b = λ h.
+    let before : IsOrdered w.table = subst (λ (x : List Operator). IsOrdered x) (sym o) (ordered_by old h) in
+    smaller_by new (subst (λ (x : List Operator). IsOrdered x) (sym n) (b.ordered before))
+whole_smaller w u old new ps t (Err f) o n b = tt

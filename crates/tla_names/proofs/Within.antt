@@ -11,7 +11,7 @@ use Rattle.tla_scopes.specs.declared.scope.Local.TheVariants.{Bound}
 use Rattle.tla_names.specs.Around.{Around, takes}
 use Rattle.tla_names.specs.Complaints.{Takes, with_name, with_names, with_bounds, complaint}
 use Rattle.tla_names.specs.Means.{Means}
-use Rattle.tla_names.specs.Outcomes.{takes_in, Complains, Grows, named_in, Always}
+use Rattle.tla_names.specs.Outcomes.{takes_in, Complains, Grows, named_in, KeepsOrder, Always}
 use Rattle.tla_names.specs.Reads.{Reads, ResolvesTo, ResolvesWithin, ResolvesUnder}
 use Rattle.tla_scopes.specs.Scopes.{bind, bind_bounds}
 use Rattle.tla_names.proofs.Takes.{takes_bind, takes_bounds}
@@ -46,6 +46,7 @@ pub record ReadIn (m v : Around) (sc : List Local) (t : Tree) (e : Term) : Type 
   pub kept : v.here ≡ m.here
   pub grown : Grows m.table v.table
   pub unnamed : named_in v.table ≡ named_in m.table
+  pub ordered : KeepsOrder m.table v.table
   pub means : Always v.table (λ all. Means m.here.names all sc t e)
   pub fine : complaint (takes_in m.here.names sc) t ≡ None
 
@@ -54,7 +55,7 @@ read_in m v sc more t e s r =
     let below : length m.here.scope ≤ length sc = subst (λ (x : List Local). length m.here.scope ≤ length x) (sym s) (longer m.here.scope more) in
     let back : take (length m.here.scope) sc ≡ m.here.scope = ap (λ (x : List Local). take (length m.here.scope) x) s ∙ take_front m.here.scope more in
     let kept : v.here ≡ m.here = r.kept below ∙ ap (λ (x : List Local). record { names = m.here.names; scope = x }) back in
-    record { kept = kept; grown = r.grown; unnamed = r.unnamed; means = r.means; fine = r.fine }
+    record { kept = kept; grown = r.grown; unnamed = r.unnamed; ordered = r.ordered; means = r.means; fine = r.fine }
 
 pub read_back : (m m1 v : Around) (depth : ℕ) (sc more : List Local) (t : Tree) (e : Term) → m1 ≡ record { here = record { names = m.here.names; scope = sc }; table = m.table } → depth ≡ length m.here.scope → sc ≡ m.here.scope ++ more → ResolvesTo m1 v depth t e → ReadIn m v sc t e
 read_back m m1 v depth sc more t e w d s r =
@@ -69,6 +70,7 @@ names_within m m1 v depth ns t e w d r =
       kept = b.kept;
       grown = b.grown;
       unnamed = b.unnamed;
+      ordered = b.ordered;
       means = b.means;
       fine = ap (λ (g : Takes). complaint g t) (sym (takes_bind m.here.names m.here.scope ns)) ∙ b.fine;
     }
@@ -86,6 +88,7 @@ bounds_within m m1 v depth bs t e w d r =
       kept = b.kept;
       grown = b.grown;
       unnamed = b.unnamed;
+      ordered = b.ordered;
       means = b.means;
       fine = ap (λ (g : Takes). complaint g t) (sym (takes_bounds m.here.names m.here.scope bs)) ∙ b.fine;
     }
@@ -98,7 +101,7 @@ bounds_refused m m1 bs t f w c =
 pub same_within : (w v : Around) (depth : ℕ) (t : Tree) (e : Term) → depth ≡ length w.here.scope → ResolvesTo w v depth t e → Reads w v (λ h. complaint (takes h) t) (λ h all. Means h.names all h.scope t e)
 same_within w v depth t e d r =
     let b : ReadIn w v w.here.scope t e = read_back w w v depth w.here.scope [] t e refl d (nil_more w.here.scope) r in
-    record { kept = b.kept; grown = b.grown; unnamed = b.unnamed; means = b.means; fine = b.fine }
+    record { kept = b.kept; grown = b.grown; unnamed = b.unnamed; ordered = b.ordered; means = b.means; fine = b.fine }
 
 -- what a call answers that reads a tree there
 

@@ -1,7 +1,6 @@
 -- For the prover: what stands around a tree while it is resolved.
 use Rattle.std.specs.Prelude.{List, length}
 use Rattle.tla_terms.specs.declared.operator.Operator.{Operator}
-use Rattle.term_parts.specs.Slots.{UsesSmaller}
 use Rattle.tla_scopes.specs.declared.meant.Entry.{Entry}
 use Rattle.tla_scopes.specs.declared.scope.Local.{Local}
 use Rattle.tla_names.specs.Complaints.{Takes}
@@ -21,8 +20,7 @@ pub record Around : Type 0 where
 abbrev pub takes : Here → Takes
 takes h = takes_in h.names h.scope
 
--- each definition that a name means stands in the table, in which each uses those of smaller numbers alone
+-- each definition that a name means stands in the table
 pub record IsAround (names : List Entry) (scope : List Local) (table : List Operator) : Type 0 where
   pub program : AreIn (length table) names
   pub around : LocalsIn (length table) scope
-  pub smaller : UsesSmaller table

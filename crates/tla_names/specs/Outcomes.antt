@@ -1,5 +1,6 @@
 -- What the code that resolves a tree answers.
 use Rattle.std.specs.Prelude.{◌≡◌, ℕ, List, [], ◌∷◌, ◌++◌, Option, Some, option_map}
+use Rattle.term_parts.specs.Slots.{UsesSmaller}
 use Rattle.tla_terms.specs.declared.operator.Operator.{Operator}
 use Rattle.tla_names.specs.declared.fault.NameFault.{NameFault}
 use Rattle.tla_names.specs.declared.fault.NameFault.TheVariants.{UnknownName, WrongArity, Recursion, NoMemory}
@@ -44,6 +45,14 @@ unless_unnamed (c ∷ cs) o os = o ∷ os
 abbrev pub named_in : List Operator → List Operator
 named_in [] = []
 named_in (o ∷ os) = unless_unnamed o.name o (named_in os)
+
+-- each definition uses those of smaller numbers alone
+unfoldable pub IsOrdered : List Operator → Type 0
+IsOrdered ops = UsesSmaller ops
+
+-- where the first table is ordered, so is the second
+abbrev pub KeepsOrder : List Operator → List Operator → Type 0
+KeepsOrder a b = IsOrdered a → IsOrdered b
 
 -- over each table that begins with these definitions
 abbrev pub Always : List Operator → (List Operator → Type 0) → Type 0

@@ -12,7 +12,7 @@ use Rattle.tla_scopes.specs.Reaching.{reaches_right}
 use Rattle.tla_names.specs.Around.{Around, takes}
 use Rattle.tla_names.specs.Complaints.{complaint}
 use Rattle.tla_names.specs.Means.{Means}
-use Rattle.tla_names.specs.Outcomes.{Grows, named_in, Always}
+use Rattle.tla_names.specs.Outcomes.{Grows, named_in, KeepsOrder, Always}
 
 -- the meaning of a row with this last part
 abbrev pub meaning_with : Pending → Term → term.Meaning
@@ -41,6 +41,7 @@ pub record Opens (w w' : Around) (rows : List Pending) (t rest : Tree) : Type 0 
   pub scope : w'.here.scope ≡ w.here.scope ++ bound
   pub grown : Grows w.table w'.table
   pub unnamed : named_in w'.table ≡ named_in w.table
+  pub ordered : KeepsOrder w.table w'.table
   pub means : Always w'.table (λ all. (x : Term) → Means w'.here.names all w'.here.scope rest x → Means w.here.names all w.here.scope t (closed_all rows x))
   pub same : complaint (takes w.here) t ≡ complaint (takes w'.here) rest
   pub within : tree_size rest ≤ tree_size t
@@ -54,6 +55,7 @@ pub record OpensRow (w w' : Around) (rows rows' : List Pending) (t last : Tree) 
   pub scope : w'.here.scope ≡ w.here.scope ++ bound
   pub grown : Grows w.table w'.table
   pub unnamed : named_in w'.table ≡ named_in w.table
+  pub ordered : KeepsOrder w.table w'.table
   pub means : Always w'.table (λ all. (x : Term) → Means w'.here.names all w'.here.scope last x → Means w.here.names all w.here.scope t (closed row x))
   pub same : complaint (takes w.here) t ≡ complaint (takes w'.here) last
   pub within : tree_size last < tree_size t

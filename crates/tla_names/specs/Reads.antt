@@ -13,7 +13,7 @@ use Rattle.tla_scopes.specs.FirstOperands.{first_of}
 use Rattle.tla_names.specs.Around.{Here, Around, takes}
 use Rattle.tla_names.specs.Complaints.{with_name, with_names, with_bounds, counted, complaint, complaints, operands_complaint, step_complaint, steps_complaint, bounds_complaint, fields_complaint, changes_complaint, arms_complaint, definitions_complaint}
 use Rattle.tla_names.specs.Means.{Uses, Means, MeansEach, MeansOperands, MeansStep, MeansSteps, MeansBounds, MeansFields, MeansChanges, MeansArms, Defines}
-use Rattle.tla_names.specs.Outcomes.{Complains, Grows, named_in, Always}
+use Rattle.tla_names.specs.Outcomes.{Complains, Grows, named_in, KeepsOrder, Always}
 use Rattle.tla_scopes.specs.Scopes.{bind, bind_bounds}
 
 -- Something was read here, of which there is no complaint: what stands around is as it was but for a table that has grown, and over each table
@@ -22,6 +22,7 @@ pub record Reads (w w' : Around) (c : Here → Option NameFault) (P : Here → L
   pub kept : w'.here ≡ w.here
   pub grown : Grows w.table w'.table
   pub unnamed : named_in w'.table ≡ named_in w.table
+  pub ordered : KeepsOrder w.table w'.table
   pub means : Always w'.table (P w.here)
   pub fine : c w.here ≡ None
 
@@ -75,6 +76,7 @@ pub record ResolvesTo (w w' : Around) (depth : ℕ) (t : Tree) (e : Term) : Type
   pub kept : depth ≤ length w.here.scope → w'.here ≡ cut depth w.here
   pub grown : Grows w.table w'.table
   pub unnamed : named_in w'.table ≡ named_in w.table
+  pub ordered : KeepsOrder w.table w'.table
   pub means : Always w'.table (λ all. Means w.here.names all w.here.scope t e)
   pub fine : complaint (takes w.here) t ≡ None
 
@@ -83,6 +85,7 @@ pub record ResolvesBody (w w' : Around) (ps : List (List ℕ)) (t : Tree) (e : T
   pub kept : w'.here.names ≡ w.here.names
   pub grown : Grows w.table w'.table
   pub unnamed : named_in w'.table ≡ named_in w.table
+  pub ordered : KeepsOrder w.table w'.table
   pub means : Always w'.table (λ all. Means w.here.names all (bind w.here.scope ps) t e)
   pub fine : complaint (with_names (takes w.here) ps) t ≡ None
 
@@ -107,5 +110,6 @@ pub record ResolvesDefinitions (w w' : Around) (ds : tree.Definitions) (ks : Lis
   pub kept : w'.here.names ≡ w.here.names
   pub grown : Grows w.table w'.table
   pub unnamed : named_in w'.table ≡ named_in w.table
+  pub ordered : KeepsOrder w.table w'.table
   pub means : Always w'.table (λ all. Defines w.here.names all w.here.scope ds ks w'.here.scope)
   pub fine : definitions_complaint (takes w.here) ds ≡ None

@@ -35,7 +35,7 @@ fn resolve_in(
 }
 
 /// What a tree means under parameters, over a table of definitions that grows by those of its LETs, or the first name of it that means nothing.
-/// A definition uses those of smaller numbers alone, and the term those of the table.
+/// The term uses the definitions of the table alone. Where each of these used those of smaller numbers alone, it goes on to.
 /// On a refusal nothing is said of the table.
 pub fn resolve_tree(
     alloc: Global,
@@ -45,8 +45,7 @@ pub fn resolve_tree(
     tree: &Expr,
 ) -> Result<Term, NameFault>
     requires known { AreIn (length table.old) names.now }
-    requires ordered { UsesSmaller table.old }
-    ensures smaller { OnOk result (UsesSmaller table.new) }
+    ensures smaller { OnOk result (UsesSmaller table.old → UsesSmaller table.new) }
     ensures below { IfOk result (MentionsBelow (length table.new)) }
     ensures unnamed { OnOk result (named_in table.new ≡ named_in table.old) }
     ensures grown { OnOk result (Grows table.old table.new) }

@@ -6,9 +6,8 @@ ghost use Rattle.tla_terms.specs.TermViews.{node_view};
 ghost use Rattle.tla_terms.specs.Terms.{Placed};
 ghost use Rattle.tla_terms.specs.Levels.{level_for};
 ghost use Rattle.tla_names.specs.Complaints.{counted};
-ghost use Rattle.term_parts.specs.Slots.{UsesSmaller};
 ghost use Rattle.tla_names.specs.Means.{Means, local_operator};
-ghost use Rattle.tla_names.specs.Outcomes.{Complains, IsSought, takes_in};
+ghost use Rattle.tla_names.specs.Outcomes.{Complains, IsSought, KeepsOrder, takes_in};
 ghost use Rattle.tla_scopes.specs.Standing.{IsIn, AreIn};
 ghost use Rattle.tla_scopes.specs.Scopes.{bind, bind_bounds, slots};
 
@@ -52,7 +51,6 @@ impl<'a> Walk<'a> {
     /// Over these names with nothing bound.
     pub fn new(alloc: Global, names: &'a ProgramNames, table: Operators) -> Walk<'a>
         requires known { AreIn (length table) names.now }
-        requires smaller { UsesSmaller table }
         ensures names { result.here.names ≡ names.entry.now }
         ensures scope { result.here.scope ≡ [] }
         ensures table { result.table ≡ table }
@@ -68,7 +66,6 @@ impl<'a> Walk<'a> {
     pub fn into_table(self) -> Operators
         ensures table { result ≡ self.entry.table }
         ensures known { AreIn (length result) self.entry.here.names }
-        ensures smaller { UsesSmaller result }
     {
         let Walk {
             names: _,
@@ -131,6 +128,7 @@ impl<'a> Walk<'a> {
         ensures names { OnOk result (self.new.here.names ≡ self.old.here.names) }
         ensures scope { IfOk result (λ k. self.new.here.scope ≡ self.old.here.scope ++ Defined name.now k params ∷ []) }
         ensures table { OnOk result (self.new.table ≡ self.old.table ++ local_operator (slots self.old.here.scope) params body ∷ []) }
+        ensures ordered { OnOk result (KeepsOrder self.old.table self.new.table) }
     {
         let number = DefId(self.table.len());
         let outer = self.scope.slots();

@@ -1,3 +1,4 @@
+use Rattle.name_laws.proofs.Decided.{means_by_names}
 use Rattle.name_laws.proofs.Fine.{complaint_fine}
 use Rattle.name_laws.proofs.Known.{complaint_known}
 use Rattle.name_laws.proofs.More.{means_more}
@@ -15,3 +16,6 @@ returns-clause-decided c = complaint_same
 
 pub returns-clause-meanings : goal.returns-clause-meanings
 returns-clause-meanings c = λ names names' more ops sc t e h. means_more names names' more ops sc t e h
+
+pub returns-clause-free : goal.returns-clause-free
+returns-clause-free c = means_by_names

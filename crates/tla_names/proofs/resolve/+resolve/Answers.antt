@@ -213,7 +213,7 @@ resolve_definitions-define-requires t c =
 
 pub resolve_definitions-loop-tree-preserved : goal.resolve_definitions-loop-tree-preserved
 resolve_definitions-loop-tree-preserved t c =
-    defining.definitions_pushed c.args.walk.now c.loop-tree.walk c.bind.new.self c.resolve_to.new.walk c.define.new.self c.items-tree-items.result.now c.loop-tree.tree-index c.depth-depth.result c.len.result c.loop-tree.numbers c.push.new.self c.tree-item.result c.in_ok-body.body c.in_ok-number.number c.in_ok-push.ensures.pushed c.loop-tree-test.true c.tree-item.is c.loop-tree.invariant c.in_ok-not_itself.ensures.fine c.depth-depth.ensures (defining.bound_names c.loop-tree.walk c.bind.new.self c.items.result.now c.tree-item.result.params c.items.ensures c.in_ok-bind.ensures) c.in_ok-body.ensures.fine c.len.ensures c.in_ok-number.ensures.number c.in_ok-number.ensures.names c.in_ok-number.ensures.scope c.in_ok-number.ensures.table
+    defining.definitions_pushed c.args.walk.now c.loop-tree.walk c.bind.new.self c.resolve_to.new.walk c.define.new.self c.items-tree-items.result.now c.loop-tree.tree-index c.depth-depth.result c.len.result c.loop-tree.numbers c.push.new.self c.tree-item.result c.in_ok-body.body c.in_ok-number.number c.in_ok-push.ensures.pushed c.loop-tree-test.true c.tree-item.is c.loop-tree.invariant c.in_ok-not_itself.ensures.fine c.depth-depth.ensures (defining.bound_names c.loop-tree.walk c.bind.new.self c.items.result.now c.tree-item.result.params c.items.ensures c.in_ok-bind.ensures) c.in_ok-body.ensures.fine c.len.ensures c.in_ok-number.ensures.number c.in_ok-number.ensures.names c.in_ok-number.ensures.scope c.in_ok-number.ensures.table c.in_ok-number.ensures.ordered
 
 pub resolve_call-returns-in_err-meant-clause-refused : goal.resolve_call-returns-in_err-meant-clause-refused
 resolve_call-returns-in_err-meant-clause-refused t c =

@@ -24,7 +24,8 @@ returns-clause-below c =
     c.into_table.ensures.known c.resolve_in-outcome.ensures.fine
 
 pub returns-clause-smaller : goal.returns-clause-smaller
-returns-clause-smaller c = whole_smaller c.into_table.result c.resolve_in-outcome.result c.into_table.ensures.smaller
+returns-clause-smaller c =
+    whole_smaller c.new-walk.result c.resolve_in-outcome.new.walk c.args.table.now c.into_table.result c.args.params.now c.args.tree.now c.resolve_in-outcome.result (c.new-walk.ensures.table ∙ c.replace-before.ensures.value) c.into_table.ensures.table c.resolve_in-outcome.ensures.fine
 
 pub returns-clause-unnamed : goal.returns-clause-unnamed
 returns-clause-unnamed c =
