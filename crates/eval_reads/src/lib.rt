@@ -1,0 +1,2 @@
+//! Which terms can be evaluated where some values are unknown.
+#![tactic(auto)]

@@ -1,0 +1,16 @@
+use Rattle.std.proofs.Common.{refl, subst, ap, List, inl, Ok}
+use Rattle.std.specs.Prelude.{◌↔◌, IsTrue, Contains}
+use Rattle.trace_base.specs.declared.place.Place.{Place}
+use Rattle.tla_values.specs.Data.{Val}
+use Rattle.eval_sets.specs.Membership.{Belongs}
+use Rattle.tla_eval.specs.Sets.{set_at}
+use Rattle.tla_terms.specs.Terms.{place_of}
+use Rattle.evaluator.proofs.evaluate.has_part.Goals as goal
+
+pub returns-in-Ok : goal.returns-in-Ok
+returns-in-Ok c =
+    inl (
+      c.in-Ok.set,
+      subst (λ (p : Place). set_at p c.args.set (Ok c.in-Ok.set)) (ap place_of c.right.view_is) c.in-Ok.ensures.fine,
+      (c.is_within.result, subst (λ (xs : List Val). IsTrue c.is_within.result ↔ ((w : Val) → Contains xs w → Belongs c.in-Ok.set w)) c.members.ensures c.is_within.ensures, refl),
+    )

@@ -1,0 +1,13 @@
+use Rattle.tla_values.specs.Sets.{items_of}
+use Rattle.tla_eval.specs.Binders.{members_at}
+use Rattle.tla_eval.specs.Outcomes.{Then}
+use Rattle.tla_eval.specs.Sets.{IsWithin, set_at}
+use Rattle.tla_eval.proofs.Telling.{tells_then}
+use Rattle.tla_terms.specs.Terms.{place_of}
+use Rattle.evaluator.proofs.Rows.{members_of}
+use Rattle.evaluator.proofs.evaluate.is_part.Goals as goal
+
+pub returns-in-Ok : goal.returns-in-Ok
+returns-in-Ok c =
+    let p = place_of c.args.left.now in
+    tells_then (members_at p c.args.value.now) (λ us. Then (set_at (place_of c.args.right.now) c.args.set) (λ e. IsWithin e c.args.value.now)) (items_of c.args.value.now) c.has_part.result (members_of p c.args.value.now c.in-Ok.ensures) c.has_part.ensures

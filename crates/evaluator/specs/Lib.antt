@@ -1,0 +1,6 @@
+pub mod Scenes
+pub mod Walks
+pub mod BoundSets
+pub mod ReadyParts
+pub mod Following
+pub mod ChangePaths
