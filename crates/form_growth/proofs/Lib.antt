@@ -1,0 +1,9 @@
+mod Steps
+mod Timely
+mod Each
+mod Speaking
+mod Keeping
+mod Growing
+mod Arms
+mod Staying
+mod Whole

@@ -1,0 +1,16 @@
+pub mod Lists
+pub mod Finding
+pub mod Several
+pub mod Placed
+pub mod Filling
+pub mod Bounds
+pub mod Openings
+pub mod FormParts
+pub mod FormEnds
+pub mod FormFixes
+pub mod Choice
+pub mod Opened
+pub mod Simple
+pub mod Inner
+pub mod Changes
+pub mod Grounding

@@ -1,0 +1,15 @@
+-- That the values which stand in a specification are values.
+use Rattle.std.specs.Prelude.{◌≡◌, ℕ, Some, slice_get}
+use Rattle.tla_terms.specs.declared.operator.Operator.{Operator}
+use Rattle.tla_terms.specs.declared.spec.Spec.{Spec}
+use Rattle.tla_eval.specs.Contexts.{Table}
+use Rattle.tla_eval.specs.Laws.{KnowsValues}
+
+-- in the body of each definition
+abbrev pub KnowBodies : Table → Type 0
+KnowBodies ops = (k : ℕ) (o : Operator) → slice_get ops k ≡ Some o → KnowsValues o.body
+
+pub record KnowsSpecification (s : Spec) : Type 0 where
+  pub init : KnowsValues s.init
+  pub next : KnowsValues s.next
+  pub bodies : KnowBodies s.operators

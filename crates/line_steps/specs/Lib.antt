@@ -1,0 +1,3 @@
+pub mod Says
+pub mod Asks
+pub mod Steps

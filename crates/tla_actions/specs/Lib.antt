@@ -1,0 +1,5 @@
+pub mod Forms
+pub mod Reads
+pub mod Outcomes
+pub mod Holds
+pub mod Fails
