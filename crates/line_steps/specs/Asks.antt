@@ -1,5 +1,5 @@
 -- What a line of a log asks of two states.
-use Rattle.std.specs.Prelude.{◌≡◌, ℕ, Bool, true, false, ◌||◌, ◌==◌, List, [], ◌∷◌, All, filter, Option, Some, None, slice_get, length}
+use Rattle.std.specs.Prelude.{◌≡◌, ℕ, Bool, true, ◌==◌, List, [], ◌∷◌, All, filter, Option, Some, None, slice_get, length}
 use Rattle.tla_values.specs.Data.{Val}
 use Rattle.tla_core.specs.States.{Values}
 use Rattle.tla_core.specs.declared.fault.Fault.{Fault}

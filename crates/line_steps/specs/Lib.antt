@@ -1,3 +1,4 @@
 pub mod Says
 pub mod Asks
 pub mod Steps
+pub mod Logs

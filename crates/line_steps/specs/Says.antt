@@ -5,7 +5,6 @@ use Rattle.tla_values.specs.Data.{Val}
 use Rattle.tla_values.specs.IsValue.{IsValue}
 use Rattle.tla_core.specs.States.{Values}
 use Rattle.tla_core.specs.declared.fault.Fault.{Fault}
-use Rattle.tla_terms.specs.declared.ids.DefId.{DefId}
 use Rattle.tla_terms.specs.declared.operator.Operator.{Operator}
 use Rattle.tla_terms.specs.declared.spec.Spec.{Spec}
 use Rattle.tla_eval.specs.Contexts.{Context}

@@ -1,5 +1,5 @@
 -- Steps and their faults: those of a line, those that no line shows, and the first states.
-use Rattle.std.specs.Prelude.{◌≡◌, ◌⊎◌, ℕ, List, [], Option, Some, None, length}
+use Rattle.std.specs.Prelude.{◌≡◌, ◌⊎◌, List, [], Option, Some, None, length}
 use Rattle.tla_core.specs.States.{Values}
 use Rattle.tla_core.specs.declared.fault.Fault.{Fault}
 use Rattle.tla_terms.specs.declared.ids.DefId.{DefId}
@@ -30,8 +30,12 @@ Silent g s t = IsState (length g.variables) t × BothHold g (silent_act g.silent
 abbrev pub FaultSilent : Spec → VariableSet → Values → Values → Fault → Type 0
 FaultSilent g B s t f = IsState (length g.variables) t × BothFail g (silent_act g.silent) B s t f
 
+abbrev pub IsInitial : Spec → Values → Type 0
+IsInitial g t = IsState (length g.variables) t × InitHolds g t
+
+-- a first state in which what is seen at first holds
 abbrev pub IsFirst : Spec → List See → Values → Type 0
-IsFirst g sees t = IsState (length g.variables) t × InitHolds g t × AreSeen sees t
+IsFirst g sees t = IsInitial g t × AreSeen sees t
 
 abbrev pub FaultFirst : Spec → VariableSet → Values → Fault → Type 0
 FaultFirst g B t f = IsState (length g.variables) t × InitFails g B t f
