@@ -1,0 +1,49 @@
+-- Reading a file line by line.
+use Rattle.std.proofs.Common.{◌≡◌, ◌≤◌, ◌<◌, ◌+◌, ℕ, List, [], ◌∷◌, ◌++◌, length, Option, Some, None, MatchOption, Result, Ok, Err, Bor, arith, refl, sym, subst}
+use Rattle.log_lines.specs.Setting.{Setting}
+use Rattle.path_updates.specs.declared.line.Line.{Line}
+use Rattle.log_lines.specs.Lines.{LineSays}
+use Rattle.log_lines.specs.Files.{FileSays, LinesSay, behind_step, pieces_of}
+use Rattle.log_lines.specs.Walks.{IsCounted, WalksOn}
+use Rattle.log_lines.specs.declared.position.Position.{Position}
+use Rattle.log_lines.specs.declared.kind.Outcome.TheVariants.{Step}
+use Rattle.log_lines.specs.declared.file.FileLines.{FileLines}
+use Rattle.log_lines.specs.declared.file.Refusal.{Refusal}
+use Rattle.log_lines.specs.declared.file.Walk.{Walk}
+
+-- what the rest says behind the walk, the file says
+pub record IsWalked (g : Setting) (from : Position) (all : List ℕ) (walk : Walk) (rest : List ℕ) : Type 0 where
+  pub said : (r : Result FileLines Refusal) → LinesSay g walk.at walk.found (pieces_of rest) r → FileSays g from all r
+  pub room : walk.at.line + length rest ≤ 4294967294
+  pub steps : walk.at.steps < walk.at.line
+
+pub walked_on : (g : Setting) (from : Position) (all : List ℕ) (walk next : Walk) (rest piece more : List ℕ) → IsWalked g from all walk rest
+    → pieces_of rest ≡ piece ∷ pieces_of more → length more < length rest → WalksOn g walk piece (Ok next) → IsCounted walk next → IsWalked g from all next more
+walked_on g from all walk next rest piece more w e l on n = record {
+  said = λ r h. w.said r (subst (λ (ps : List (List ℕ)). LinesSay g walk.at walk.found ps r) (sym e) (on (pieces_of more) r h));
+  room = let room : walk.at.line + length rest ≤ 4294967294 = w.room in omega (arith, n.0, l, room);
+  steps = let steps : walk.at.steps < walk.at.line = w.steps in omega (arith, n.0, n.1, steps);
+}
+
+pub ended : (g : Setting) (from : Position) (all : List ℕ) (walk next : Walk) (rest piece : List ℕ) → IsWalked g from all walk rest
+    → pieces_of rest ≡ piece ∷ [] → WalksOn g walk piece (Ok next) → FileSays g from all (Ok next.found)
+ended g from all walk next rest piece w e on =
+    w.said (Ok next.found) (subst (λ (ps : List (List ℕ)). LinesSay g walk.at walk.found ps (Ok next.found)) (sym e) (on [] (Ok next.found) refl))
+
+pub stopped : (g : Setting) (from : Position) (all : List ℕ) (walk : Walk) (rest piece : List ℕ) (o : Option (Bor (List ℕ))) (refusal : Refusal) → IsWalked g from all walk rest
+    → MatchOption o (pieces_of rest ≡ piece ∷ []) (λ r. (pieces_of rest ≡ piece ∷ pieces_of r.now) × (length r.now < length rest)) → WalksOn g walk piece (Err refusal)
+    → FileSays g from all (Err refusal)
+stopped g from all walk rest piece None refusal w e on =
+    w.said (Err refusal) (subst (λ (ps : List (List ℕ)). LinesSay g walk.at walk.found ps (Err refusal)) (sym e) (on []))
+stopped g from all walk rest piece (Some r) refusal w e on =
+    w.said (Err refusal) (subst (λ (ps : List (List ℕ)). LinesSay g walk.at walk.found ps (Err refusal)) (sym e.0) (on (pieces_of r.now)))
+
+-- one more step
+pub step_taken : (g : Setting) (walk next : Walk) (piece : List ℕ) (line : Line) → LineSays g walk.at piece (Step line) → next.at ≡ behind_step walk.at line.clock
+    → next.found ≡ record { init = walk.found.init; steps = walk.found.steps ++ line ∷ [] } → WalksOn g walk piece (Ok next)
+step_taken g walk next piece line says at found = λ rest r h. (
+  Step line,
+  says,
+  subst (λ (x : Position). LinesSay g x (record { init = walk.found.init; steps = walk.found.steps ++ line ∷ [] }) rest r) at
+      (subst (λ (x : FileLines). LinesSay g next.at x rest r) found h),
+)

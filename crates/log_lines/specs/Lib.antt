@@ -1,0 +1,7 @@
+pub mod Setting
+pub mod Values
+pub mod Lines
+pub mod Files
+pub mod Laws
+pub mod Walks
+pub mod Sample
