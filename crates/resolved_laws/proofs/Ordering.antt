@@ -65,14 +65,22 @@ within : (known : NameMeanings) (ops : List Operator) (k : ℕ) → HasMeaning k
 within known ops _ (meaning k o sc t is level taken fit s h) = slice_get_within ops k o is
 
 module _ (p : Program) (c : Config) (values : List Val) (number : Numbers) (ops : List Operator) (assumes : List Term) where
-  row_name : IsTable p c values number ops → (i k : ℕ) (d : Definition) (o : Operator) → slice_get (definitions_in p.units) i ≡ Some d → number i ≡ Some k → slice_get ops k ≡ Some o → o.name ≡ d.name
-  row_name table i k d o at n e =
+  row_of : IsTable p c values number ops → (i k : ℕ) (d : Definition) (o : Operator) → slice_get (definitions_in p.units) i ≡ Some d → number i ≡ Some k → slice_get ops k ≡ Some o → (body : Term) × (unit_operator d body ≡ o)
+  row_of table i k d o at n e =
       let r : IsTabled p c values number ops i d = table.definitions i d at in
       let both : Some r.row ≡ Some k = sym r.numbered ∙ n in
       let row : r.row ≡ k = cc in
       let rows : Some (unit_operator d r.body) ≡ Some o = sym r.stands ∙ ap (slice_get ops) row ∙ e in
       let same : unit_operator d r.body ≡ o = cc in
-      sym (ap (λ (x : Operator). x.name) same)
+      (r.body, same)
+
+  row_name : IsTable p c values number ops → (i k : ℕ) (d : Definition) (o : Operator) → slice_get (definitions_in p.units) i ≡ Some d → number i ≡ Some k → slice_get ops k ≡ Some o → o.name ≡ d.name
+  row_name table i k d o at n e = sym (ap (λ (x : Operator). x.name) (row_of table i k d o at n e).1)
+
+  outermost : IsTable p c values number ops → (k : ℕ) (o : Operator) → slice_get ops k ≡ Some o → o.name ≢ [] → o.outer ≡ 0
+  outermost table k o e named =
+      let x : (i : ℕ) × (d : Definition) × (slice_get (definitions_in p.units) i ≡ Some d) × (number i ≡ Some k) = table.named k o e named in
+      sym (ap (λ (y : Operator). y.outer) (row_of table x.0 k x.1 o x.2 x.3 e).1)
 
   operators_differ : IsWellFormed p → IsTable p c values number ops → (j k : ℕ) (o q : Operator) → slice_get ops j ≡ Some o → slice_get ops k ≡ Some q → o.name ≢ [] → o.name ≡ q.name → j ≡ k
   operators_differ well table j k o q a b named same =
@@ -110,6 +118,7 @@ spec_in_order p c silent values number s well h levels steps is vars =
       few = subst (λ (l : List (List ℕ)). length l ≤ 64) (sym vars) (subst (λ (n : ℕ). n ≤ 64) (sym (as_many (variables_in p.units))) (few (variables_in p.units) 64 h.levelled.named.few));
       variables_differ = subst (λ (l : List (List ℕ)). AllPairs (λ a b. a ≢ b) l) (sym vars) well.variables_differ;
       operators_differ = operators_differ p c values number s.operators (terms_list s.assumes) well h.levelled.named.table;
+      outermost = outermost p c values number s.operators (terms_list s.assumes) h.levelled.named.table;
       smaller = h.levelled.named.table.smaller;
       bodies = λ k o r q. (let z = reached_are_in_order s (program_meaning p c values number) fit (names_meant p c values number s.operators (terms_list s.assumes) g) (λ j n. (good j n).meant) k o r q in (record { rows = z.0; bounded = reached_are_faultless s (program_meaning p c values number) (names_faultless p c values number s.operators (terms_list s.assumes) g) (λ j n. (good j n).faultless) k o r q }, z.1));
       init = (term s.init both.0.term, both.0.level);

@@ -162,7 +162,7 @@ module _ (names : List Entry) (ops : List Operator) (S : List Local → Type 0) 
   of_chain : (i : ℕ) (t : Tree) (o : InfixOperator) (os : term.Operands) (x e : Term) → Stands names ops t (chain o os x) e → AreOperands o os → InOperands P i os → Everywhere P i x → Everywhere P i e
   of_chain i t infix_operator.And os x e q a h k = plain t (term.All (term.MoreTerms (operands_list os) x)) e i q tt (omega arith) (in_operands i os h, k)
   of_chain i t infix_operator.Or os x e q a h k = plain t (term.Any (term.MoreTerms (operands_list os) x)) e i q tt (omega arith) (in_operands i os h, k)
-  of_chain i t o os x e q a h k = plain t (term.Infix o os x) e i q tt a (h, k)
+  of_chain i t o os x e q a h k = plain t (term.Infix o os x) e i q tt (refl, a) (h, k)
 
   mutual
     in_order : (g : Takes) (sc : List Local) (i : ℕ) (t : Tree) (y : Term) → Here g sc i → IsFormed t → complaint g t ≡ None → Means names ops sc t y → Everywhere P i y

@@ -18,6 +18,7 @@ use Rattle.term_parts.specs.declared.fault.LevelFault.{LevelFault}
 use Rattle.term_parts.specs.Limits.{is_above}
 use Rattle.term_parts.specs.Slots.{Mentions, UsesSmaller, MentionsBelow}
 use Rattle.term_levels.specs.Faults.{IsFault}
+use Rattle.tla_names.specs.Means.{is_junction}
 use Rattle.spec_laws.specs.Everywhere.{Everywhere}
 
 -- how many arguments an operator of a standard module takes
@@ -82,7 +83,7 @@ AreFields fs = (fields_list fs ≢ []) × AllPairs (λ f g. f.0 ≢ g.0) (fields
 abbrev pub HasParts : Meaning → Type 0
 HasParts (term.All ts) = 0 < count ts
 HasParts (term.Any ts) = 0 < count ts
-HasParts (term.Infix o os e) = AreOperands o os
+HasParts (term.Infix o os e) = (is_junction o ≡ false) × AreOperands o os
 HasParts (term.Postfix e ss s) = AreSteps ss × IsStep s
 HasParts (term.Map e bs) = AreBounds bs
 HasParts (term.Function bs e) = AreBounds bs
@@ -130,6 +131,8 @@ pub record IsSpec (s : Spec) : Type 0 where
   pub few : length s.variables ≤ 64
   pub variables_differ : AllPairs (λ a b. a ≢ b) s.variables
   pub operators_differ : (j k : ℕ) (o q : Operator) → slice_get s.operators j ≡ Some o → slice_get s.operators k ≡ Some q → o.name ≢ [] → o.name ≡ q.name → j ≡ k
+  -- a definition with a name is none of a LET: no slots stand around it
+  pub outermost : (k : ℕ) (o : Operator) → slice_get s.operators k ≡ Some o → o.name ≢ [] → o.outer ≡ 0
   pub smaller : UsesSmaller s.operators
   pub bodies : (k : ℕ) (o : Operator) → IsReached s k → slice_get s.operators k ≡ Some o → IsTerm (length s.variables) s.operators (o.outer + o.params) o.body × (o.level ≡ level_of o.body)
   pub init : IsTerm (length s.variables) s.operators 0 s.init × IsAtMost State s.init
