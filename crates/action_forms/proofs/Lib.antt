@@ -1,0 +1,11 @@
+mod Outcomes
+mod Saying
+mod Telling
+mod Opened
+mod Ordering
+mod Armed
+mod Cased
+mod Forked
+mod Kept
+mod Said
+mod Choosing

@@ -1,0 +1,5 @@
+pub mod Arms
+pub mod Forks
+pub mod Kinds
+pub mod Laws
+pub mod Says

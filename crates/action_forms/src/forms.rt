@@ -1,0 +1,68 @@
+//! What an action leaves fixed.
+
+ghost use Rattle.std.specs.Prelude.{◌≡◌, ◌≤◌, length};
+ghost use Rattle.term_parts.specs.Slots.{MentionsBelow, UsesSmaller};
+ghost use Rattle.early_reads.specs.Orderly.{IsSoundThroughout};
+ghost use Rattle.early_reads.specs.Sets.{shown};
+ghost use Rattle.action_forms.specs.Says.{FormSays, WholeSays, setting};
+
+use crate::rows::fixed_within;
+use early_reads::{Walk, all_reads, least_missing, not_fixed};
+use std::alloc::Global;
+use tla_actions::{FormFault, Which};
+use tla_core::VarSet;
+use tla_terms::{Operators, Term};
+
+/// The variables that an action leaves fixed, from left to right, where these are fixed before; or the first thing that is wrong with its form.
+pub fn fixed(
+    alloc: Global,
+    which: Which,
+    variables: u16,
+    operators: &Operators,
+    term: &Term,
+    before: VarSet,
+) -> Result<VarSet, FormFault>
+    requires few { variables ≤ 64 }
+    requires smaller { UsesSmaller operators.now }
+    requires below { MentionsBelow (length operators.now) term.now }
+    requires orderly { IsSoundThroughout operators.now variables term.now }
+    ensures { FormSays (setting which variables operators.now) term.now (shown before) result }
+{
+    match all_reads(alloc, operators) {
+        Ok(reads) => {
+            let walk = Walk {
+                alloc,
+                which,
+                variables,
+                operators,
+                reads,
+            };
+            fixed_within(&walk, operators.len(), term, before)
+        }
+        Err(_) => Err(FormFault::NoMemory),
+    }
+}
+
+/// The same of an action that must leave each variable fixed, as Init and Next.
+pub fn whole(
+    alloc: Global,
+    which: Which,
+    variables: u16,
+    operators: &Operators,
+    term: &Term,
+    before: VarSet,
+) -> Result<VarSet, FormFault>
+    requires few { variables ≤ 64 }
+    requires smaller { UsesSmaller operators.now }
+    requires below { MentionsBelow (length operators.now) term.now }
+    requires orderly { IsSoundThroughout operators.now variables term.now }
+    ensures { WholeSays (setting which variables operators.now) term.now (shown before) result }
+{
+    match fixed(alloc, which, variables, operators, term, before) {
+        Ok(set) => match not_fixed(term.at, least_missing(set, variables)) {
+            None => Ok(set),
+            Some(fault) => Err(fault),
+        },
+        Err(fault) => Err(fault),
+    }
+}

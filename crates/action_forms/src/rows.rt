@@ -1,0 +1,337 @@
+//! What terms leave fixed, row by row.
+
+ghost use Rattle.std.specs.Prelude.{◌≡◌, MatchResult};
+ghost use Rattle.trace_base.specs.declared.place.Place.{Place};
+ghost use Rattle.tla_ast.specs.declared.operators.Quantifier.TheVariants as quantifier;
+ghost use Rattle.tla_terms.specs.Lists.{terms_list};
+ghost use Rattle.tla_terms.specs.Terms.{All, AngleAction, Any, BoxAction, Case, CaseOther, If, Quantified, Use};
+ghost use Rattle.action_forms.specs.Says.{ArmsStop, CaseStops, ForkStops, IsFork, SaysAnywhere, SaysAt, SaysBody, SaysClosed, SaysFixed, TellsArms, TellsCase};
+ghost use Rattle.early_reads.specs.Sets.{shown};
+
+use crate::arms::{Arm, boxed, push_arm, together, together_with};
+use crate::checks::{given, tested, unless_early, unless_primed, unless_sets, unless_terms};
+use crate::forks::{Fork, closed, first_fork, push_fork};
+use crate::keeping::unchanged;
+use crate::kinds::{Kind, kind_of, split_of};
+use early_reads::{Walk, is_taken};
+use tla_actions::FormFault;
+use tla_core::VarSet;
+use tla_terms::{Arms, Bounds, Term, Terms};
+use trace_base::Place;
+
+/// What a term leaves fixed that uses definitions below a bound alone, where these are fixed before.
+#[cycle(fixed)]
+pub fn fixed_within<'a>(
+    walk: &Walk<'a>,
+    bound: usize,
+    term: &'a Term,
+    before: VarSet,
+) -> Result<VarSet, FormFault>
+    ensures { SaysFixed walk.now bound (shown before) term.now result }
+{
+    if !is_taken(walk.which, term.level) {
+        return tested(walk, bound, term, before);
+    }
+    match kind_of(walk.which, &term.node) {
+        Kind::Test => tested(walk, bound, term, before),
+        Kind::Given(operator, variable, left, value) => given(walk, bound, variable, value, before),
+        Kind::Both(terms) => in_order(walk, bound, terms, before),
+        Kind::OneOf(terms) => one_of(walk, bound, terms, before),
+        Kind::Exists(bounds, body) => exists(walk, bound, bounds, body, before),
+        Kind::Branch(test, then, other) => conditional(walk, bound, test, then, other, before),
+        Kind::Case(arms) => case(walk, bound, arms, before),
+        Kind::CaseOther(arms, other) => case_other(walk, bound, arms, other, before),
+        Kind::Scoped(definitions, inner) => fixed_within(walk, bound, inner, before),
+        Kind::Parenthesized(inner) => fixed_within(walk, bound, inner, before),
+        Kind::Call(number, terms) => call(walk, bound, number, terms, before),
+        Kind::BoxAction(action, subscript) => {
+            box_action(walk, bound, term.at, action, subscript, before)
+        }
+        Kind::AngleAction(action, subscript) => {
+            angle_action(walk, bound, term.at, action, subscript, before)
+        }
+        Kind::Unchanged(inner) => unchanged(walk, bound, term.at, inner, before),
+    }
+}
+
+/// Terms that must all hold, from left to right.
+#[cycle(fixed)]
+fn in_order<'a>(
+    walk: &Walk<'a>,
+    bound: usize,
+    terms: &'a Terms,
+    before: VarSet,
+) -> Result<VarSet, FormFault>
+    ensures { SaysAnywhere walk.now bound (shown before) (All terms.now) result }
+{
+    let mut set = before;
+    let items = terms.items();
+    for item in items {
+        match fixed_within(walk, bound, item, set) {
+            Ok(more) => set = more,
+            Err(fault) => return Err(fault),
+        }
+    }
+    Ok(set)
+}
+
+/// Terms of which one must hold.
+#[cycle(fixed)]
+fn one_of<'a>(
+    walk: &Walk<'a>,
+    bound: usize,
+    terms: &'a Terms,
+    before: VarSet,
+) -> Result<VarSet, FormFault>
+    ensures { SaysAnywhere walk.now bound (shown before) (Any terms.now) result }
+{
+    match arms_of(walk, bound, terms, before) {
+        Ok(arms) => together(before, &arms, walk.variables),
+        Err(fault) => Err(fault),
+    }
+}
+
+/// What each of the terms leaves fixed, from the same set.
+#[cycle(fixed)]
+fn arms_of<'a>(
+    walk: &Walk<'a>,
+    bound: usize,
+    terms: &'a Terms,
+    before: VarSet,
+) -> Result<Vec<Arm>, FormFault>
+    ensures { MatchResult result (λ v. TellsArms walk.now bound (shown before) (terms_list terms.now) v.items) (ArmsStop walk.now bound (shown before) (terms_list terms.now)) }
+{
+    let mut arms = Vec::new(walk.alloc);
+    let items = terms.items();
+    for item in items {
+        match fixed_within(walk, bound, item, before) {
+            Ok(set) => push_arm(&mut arms, item, set)?,
+            Err(fault) => return Err(fault),
+        }
+    }
+    Ok(arms)
+}
+
+/// A term for some values of bound names.
+#[cycle(fixed)]
+fn exists<'a>(
+    walk: &Walk<'a>,
+    bound: usize,
+    bounds: &'a Bounds,
+    body: &'a Term,
+    before: VarSet,
+) -> Result<VarSet, FormFault>
+    ensures { SaysAnywhere walk.now bound (shown before) (Quantified quantifier.Exists bounds.now body.now) result }
+{
+    match unless_sets(walk, bound, bounds, before) {
+        Ok(()) => fixed_within(walk, bound, body, before),
+        Err(fault) => Err(fault),
+    }
+}
+
+/// IF, and each IF that is the other arm of the one before it.
+#[cycle(fixed)]
+fn conditional<'a>(
+    walk: &Walk<'a>,
+    bound: usize,
+    test: &'a Term,
+    then: &'a Term,
+    other: &'a Term,
+    before: VarSet,
+) -> Result<VarSet, FormFault>
+    ensures { SaysAnywhere walk.now bound (shown before) (If test.now then.now other.now) result }
+{
+    let first = fork(walk, bound, test, then, other, before)?;
+    let mut forks = first_fork(walk.alloc, first)?;
+    let mut last = other;
+    while let Some(inner) = split_of(walk.which, last) {
+        match fork(walk, bound, inner.test, inner.then, inner.other, before) {
+            Ok(next) => {
+                push_fork(&mut forks, next)?;
+                last = inner.other;
+            }
+            Err(fault) => return Err(fault),
+        }
+    }
+    last_arm(walk, bound, forks, last, before)
+}
+
+/// The last of the other arms.
+#[cycle(fixed)]
+fn last_arm<'a>(
+    walk: &Walk<'a>,
+    bound: usize,
+    forks: Vec<Fork>,
+    last: &'a Term,
+    before: VarSet,
+) -> Result<VarSet, FormFault>
+    ensures { SaysClosed walk.now bound (shown before) forks.items last.now result }
+{
+    match fixed_within(walk, bound, last, before) {
+        Ok(set) => closed(walk.variables, before, forks, set),
+        Err(fault) => Err(fault),
+    }
+}
+
+/// The test of an IF, and its first arm.
+#[cycle(fixed)]
+fn fork<'a>(
+    walk: &Walk<'a>,
+    bound: usize,
+    test: &'a Term,
+    then: &'a Term,
+    other: &'a Term,
+    before: VarSet,
+) -> Result<Fork, FormFault>
+    ensures { MatchResult result (IsFork walk.now bound (shown before) test.now then.now other.now) (ForkStops walk.now bound (shown before) test.now then.now other.now) }
+{
+    match unless_early(walk, bound, test, before) {
+        Ok(()) => match fixed_within(walk, bound, then, before) {
+            Ok(set) => Ok(Fork {
+                at: then.at,
+                set,
+                other: other.at,
+            }),
+            Err(fault) => Err(fault),
+        },
+        Err(fault) => Err(fault),
+    }
+}
+
+/// CASE without OTHER.
+#[cycle(fixed)]
+fn case<'a>(
+    walk: &Walk<'a>,
+    bound: usize,
+    arms: &'a Arms,
+    before: VarSet,
+) -> Result<VarSet, FormFault>
+    ensures { SaysAnywhere walk.now bound (shown before) (Case arms.now) result }
+{
+    match case_arms(walk, bound, arms, before) {
+        Ok(ended) => together(before, &ended, walk.variables),
+        Err(fault) => Err(fault),
+    }
+}
+
+/// CASE with OTHER.
+#[cycle(fixed)]
+fn case_other<'a>(
+    walk: &Walk<'a>,
+    bound: usize,
+    arms: &'a Arms,
+    other: &'a Term,
+    before: VarSet,
+) -> Result<VarSet, FormFault>
+    ensures { SaysAnywhere walk.now bound (shown before) (CaseOther arms.now other.now) result }
+{
+    match case_arms(walk, bound, arms, before) {
+        Ok(ended) => match fixed_within(walk, bound, other, before) {
+            Ok(set) => together_with(before, ended, other, set, walk.variables),
+            Err(fault) => Err(fault),
+        },
+        Err(fault) => Err(fault),
+    }
+}
+
+/// The arms of a CASE before its OTHER.
+#[cycle(fixed)]
+fn case_arms<'a>(
+    walk: &Walk<'a>,
+    bound: usize,
+    arms: &'a Arms,
+    before: VarSet,
+) -> Result<Vec<Arm>, FormFault>
+    ensures { MatchResult result (λ v. TellsCase walk.now bound (shown before) arms.now v.items) (CaseStops walk.now bound (shown before) arms.now) }
+{
+    let mut ended = Vec::new(walk.alloc);
+    let items = arms.items();
+    for arm in items {
+        match unless_early(walk, bound, &arm.test, before) {
+            Ok(()) => match fixed_within(walk, bound, &arm.value, before) {
+                Ok(set) => push_arm(&mut ended, &arm.value, set)?,
+                Err(fault) => return Err(fault),
+            },
+            Err(fault) => return Err(fault),
+        }
+    }
+    Ok(ended)
+}
+
+/// A definition on arguments.
+#[cycle(fixed)]
+fn call<'a>(
+    walk: &Walk<'a>,
+    bound: usize,
+    number: usize,
+    terms: &'a Terms,
+    before: VarSet,
+) -> Result<VarSet, FormFault>
+    ensures { SaysAnywhere walk.now bound (shown before) (Use number terms.now) result }
+{
+    match unless_terms(walk, bound, terms, before) {
+        Ok(()) => body(walk, bound, number, before),
+        Err(fault) => Err(fault),
+    }
+}
+
+/// The body of a definition.
+#[cycle(fixed)]
+fn body<'a>(
+    walk: &Walk<'a>,
+    bound: usize,
+    number: usize,
+    before: VarSet,
+) -> Result<VarSet, FormFault>
+    ensures { SaysBody walk.now bound (shown before) number result }
+{
+    if number >= bound {
+        return Ok(before);
+    }
+    match walk.operators.get(number) {
+        Some(operator) => fixed_within(walk, number, &operator.body, before),
+        None => Ok(before),
+    }
+}
+
+/// `[A]_v`: the action, or that the subscript is UNCHANGED.
+#[cycle(fixed)]
+fn box_action<'a>(
+    walk: &Walk<'a>,
+    bound: usize,
+    at: Place,
+    action: &'a Term,
+    subscript: &'a Term,
+    before: VarSet,
+) -> Result<VarSet, FormFault>
+    ensures { SaysAt walk.now bound (shown before) at (BoxAction action.now subscript.now) result }
+{
+    match fixed_within(walk, bound, action, before) {
+        Ok(set) => match unchanged(walk, bound, at, subscript, before) {
+            Ok(same) => boxed(before, action, set, at, same, walk.variables),
+            Err(fault) => Err(fault),
+        },
+        Err(fault) => Err(fault),
+    }
+}
+
+/// `<<A>>_v`: the action, and that the subscript changes.
+#[cycle(fixed)]
+fn angle_action<'a>(
+    walk: &Walk<'a>,
+    bound: usize,
+    at: Place,
+    action: &'a Term,
+    subscript: &'a Term,
+    before: VarSet,
+) -> Result<VarSet, FormFault>
+    ensures { SaysAt walk.now bound (shown before) at (AngleAction action.now subscript.now) result }
+{
+    match fixed_within(walk, bound, action, before) {
+        Ok(set) => match unless_primed(walk, at, subscript, set) {
+            Ok(()) => Ok(set),
+            Err(fault) => Err(fault),
+        },
+        Err(fault) => Err(fault),
+    }
+}

@@ -1,0 +1,14 @@
+use Rattle.std.proofs.Common.{ap, sym, ◌∙◌}
+use Rattle.tla_actions.specs.Forms.{meaning_form}
+use Rattle.tla_terms.specs.Terms.{Infix, Term}
+use Rattle.tla_terms.specs.TermViews.{node_view}
+use Rattle.tla_terms.specs.declared.term.TermNode.{TermNode}
+use Rattle.action_rows.specs.Rows.{setting}
+use Rattle.action_rows.proofs.row.node_row.Goals as goal
+
+pub returns-in-Infix : goal.returns-in-Infix
+returns-in-Infix c = λ at.
+    let g = setting c.args.stage in
+    let n = c.args.slots in
+    c.infix_row.ensures c.args.slots at
+    ∙ ap (λ (e : Term). meaning_form g n at (Infix c.in-Infix.operator c.in-Infix.operands e)) c.deref-in-Infix.ensures ∙ ap (λ (x : TermNode). meaning_form g n at (node_view x)) (sym c.in-Infix.is)

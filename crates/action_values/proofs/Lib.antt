@@ -1,0 +1,3 @@
+pub mod BoundLemmas
+pub mod ArmLemmas
+pub mod TestLemmas

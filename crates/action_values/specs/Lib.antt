@@ -1,0 +1,2 @@
+pub mod BoundSets
+pub mod Tested

@@ -1,0 +1,33 @@
+//! The scene in which an action's terms are evaluated.
+
+ghost use Rattle.std.specs.Prelude.{◌≡◌, map};
+ghost use Rattle.action_reads.specs.Filled.{at_next};
+ghost use Rattle.action_rows.specs.Rows.{before};
+ghost use Rattle.evaluator.specs.Scenes.{context, table};
+
+use action_rows::Stage;
+use evaluator::Scene;
+use tla_actions::Which;
+use tla_core::Partial;
+use tla_values::Value;
+
+/// The scene where the next state is so far as it is: in Init it is the state itself.
+pub fn scene_at<'a>(stage: Stage<'a>, slots: &'a [&'a Value], places: &'a Partial) -> Scene<'a>
+    ensures table { table result ≡ stage.entry.operators.now }
+    ensures context { context result ≡ at_next stage.entry.which (before stage.entry (map (λ v. v.now) slots.entry.now)) places.entry.now }
+{
+    match stage.which {
+        Which::Init => Scene {
+            operators: stage.operators,
+            slots,
+            state: places,
+            next: places,
+        },
+        Which::Action => Scene {
+            operators: stage.operators,
+            slots,
+            state: stage.state,
+            next: places,
+        },
+    }
+}

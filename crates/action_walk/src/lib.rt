@@ -1,0 +1,7 @@
+//! The walk of an action from a partly filled next state: the further filled ones of which it holds, or a fault that it has.
+#![tactic(auto)]
+
+mod forms;
+mod lists;
+
+pub use forms::walk;

@@ -1,0 +1,62 @@
+//! Lists of places that are found, of slots, and of parts.
+
+ghost use Rattle.std.specs.Prelude.{◌≡◌, ◌++◌, ◌∷◌, [], IfOk, OnOk, if◌then◌else◌, map, take};
+ghost use Rattle.tla_eval.specs.Unchanged.{unchanged_of};
+ghost use Rattle.action_rows.specs.Rows.{part_term};
+
+use action_rows::Part;
+use std::alloc::{AllocError, Global};
+use tla_core::Partial;
+use tla_terms::Term;
+use tla_values::Value;
+use trace_base::Place;
+
+/// Adds places at the end.
+pub fn append(found: &mut Vec<Partial>, more: Vec<Partial>) -> Result<(), AllocError>
+    ensures { OnOk result (found.new.items ≡ found.old.items ++ more.items) }
+{
+    for places in more {
+        found.push(places)?;
+    }
+    Ok(())
+}
+
+/// Adds the places, where it holds.
+pub fn add_if(
+    alloc: Global,
+    found: &mut Vec<Partial>,
+    holds: bool,
+    places: &Partial,
+) -> Result<(), AllocError>
+    ensures { OnOk result (found.new.items ≡ found.old.items ++ (if holds then places.now ∷ [] else [])) }
+{
+    if holds {
+        let same = places.copy(alloc)?;
+        found.push(same)?;
+        return Ok(());
+    }
+    Ok(())
+}
+
+/// The outermost slots, so many of them, or all where there are fewer.
+pub fn outermost<'a, 'b>(slots: &'b [&'a Value], kept: usize) -> &'b [&'a Value]
+    ensures { map (λ v. v.now) result.now ≡ take kept (map (λ v. v.now) slots.now) }
+{
+    let count = kept.min(slots.len());
+    &slots[..count]
+}
+
+/// What `[A]_v` means: the action, or that `v` is unchanged.
+pub fn boxed_parts<'a>(
+    alloc: Global,
+    at: Place,
+    action: &'a Term,
+    subscript: &'a Term,
+) -> Result<Vec<Part<'a>>, AllocError>
+    ensures { IfOk result (λ parts. map part_term parts.items ≡ action.now ∷ unchanged_of at subscript.now ∷ []) }
+{
+    let mut parts = Vec::new(alloc);
+    parts.push(Part::Plain(action))?;
+    parts.push(Part::Unchanged(at, subscript))?;
+    Ok(parts)
+}

@@ -1,0 +1,14 @@
+pub mod Each
+pub mod Rows
+pub mod Ends
+pub mod Heights
+pub mod Early
+pub mod Shown
+pub mod Found
+pub mod Following
+pub mod Staying
+pub mod Opening
+pub mod Way
+pub mod Last
+pub mod Behind
+pub mod Changing

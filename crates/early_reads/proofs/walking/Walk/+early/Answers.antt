@@ -1,0 +1,65 @@
+use Rattle.std.proofs.Common.{◌≡◌, ◌∙◌, ◌∷◌, [], ap, sym, rules, false}
+use Rattle.tla_terms.specs.TermViews.{node_view}
+use Rattle.term_parts.specs.Parts.{part}
+use Rattle.term_parts.specs.Waiting.{waiting}
+use Rattle.term_parts.proofs.Lists.{waiting-push}
+use Rattle.early_reads.specs.Sets.{shown}
+use Rattle.early_reads.specs.Opened.{TellsFirst}
+use Rattle.early_reads.specs.Ready.{TellsEarly}
+use Rattle.early_reads.proofs.Found.{if-ok}
+use Rattle.early_reads.proofs.Opening.{opens-plain, opens-variable, opens-unchanged, opens-use, opens-box, opens-angle, opens-except}
+use Rattle.early_reads.proofs.Way.{early-begins, early-ends, early-one, early-left-lighter, early-passes, early-lighter, early-goes}
+use Rattle.early_reads.proofs.walking.Walk.+early.Goals as goal
+
+pub early_all-loop-pending-smaller-then-not-is_taken : goal.early_all-loop-pending-smaller-then-not-is_taken
+early_all-loop-pending-smaller-then-not-is_taken t c =
+    let p = c.in-Some.pending in
+    early-left-lighter c.args.self.now c.args.bound (shown c.args.before) (waiting c.args.stack.items) (part p.primed p.term.now) c.part.inside.at c.part.inside.level (node_view c.part.inside.node) c.loop-pending.found (waiting c.loop-pending.stack.items) (waiting c.pop.new.self.items) c.part.view_is (ap waiting c.in-Some.ensures.items ∙ waiting-push c.pop.new.self.items p) c.loop-pending.invariant
+
+pub early_all-loop-pending-preserved-then-not-is_taken : goal.early_all-loop-pending-preserved-then-not-is_taken
+early_all-loop-pending-preserved-then-not-is_taken t c =
+    let p = c.in-Some.pending in
+    early-passes c.args.self.now c.args.bound (shown c.args.before) (waiting c.args.stack.items) (part p.primed p.term.now) c.part.inside.at c.part.inside.level (node_view c.part.inside.node) c.loop-pending.found (waiting c.loop-pending.stack.items) (waiting c.pop.new.self.items) c.part.view_is (ap waiting c.in-Some.ensures.items ∙ waiting-push c.pop.new.self.items p) c.loop-pending.invariant (sym c.is_taken.ensures ∙ c.if-not-is_taken.true)
+
+pub early_all-loop-pending-smaller : goal.early_all-loop-pending-smaller
+early_all-loop-pending-smaller t c =
+    let p = c.in-Some.pending in
+    early-lighter c.args.self.now c.args.bound (shown c.args.before) (waiting c.args.stack.items) (part p.primed p.term.now) c.part.inside.at c.part.inside.level (node_view c.part.inside.node) c.loop-pending.found (waiting c.loop-pending.stack.items) (waiting c.pop.new.self.items) c.part.view_is (ap waiting c.in-Some.ensures.items ∙ waiting-push c.pop.new.self.items p) c.loop-pending.invariant c.in_ok-found.found (waiting c.early_row.new.stack.items) (sym c.is_taken.ensures ∙ c.if-not-is_taken.false) c.in_ok-found.ensures
+
+pub early_all-loop-pending-preserved : goal.early_all-loop-pending-preserved
+early_all-loop-pending-preserved t c =
+    let p = c.in-Some.pending in
+    early-goes c.args.self.now c.args.bound (shown c.args.before) (waiting c.args.stack.items) (part p.primed p.term.now) c.part.inside.at c.part.inside.level (node_view c.part.inside.node) c.loop-pending.found (waiting c.loop-pending.stack.items) (waiting c.pop.new.self.items) c.part.view_is (ap waiting c.in-Some.ensures.items ∙ waiting-push c.pop.new.self.items p) c.loop-pending.invariant c.in_ok-found.found (waiting c.early_row.new.stack.items) (sym c.is_taken.ensures ∙ c.if-not-is_taken.false) c.in_ok-found.ensures
+
+pub early_all-loop-pending-init : goal.early_all-loop-pending-init
+early_all-loop-pending-init t c = early-begins c.args.self.now c.args.bound (shown c.args.before) (waiting c.args.stack.items)
+
+pub early_all-returns : goal.early_all-returns
+early_all-returns t c = early-ends c.args.self.now c.args.bound (shown c.args.before) (waiting c.args.stack.items) c.loop-pending.found (waiting c.loop-pending.stack.items) (search rules) c.loop-pending.invariant
+
+pub early-returns : goal.early-returns
+early-returns t c =
+    let pushed : waiting c.push.new.stack.items ≡ part false c.args.term.now ∷ [] = search rules in
+    if-ok c.early_all.result (λ o. TellsFirst c.args.self.now c.args.bound (shown c.args.before) (waiting c.push.new.stack.items) o) (λ o. TellsEarly c.args.self.now c.args.bound (shown c.args.before) c.args.term.now o)
+    (λ o h. early-one c.args.self.now c.args.bound (shown c.args.before) c.args.term.now (waiting c.push.new.stack.items) o pushed h) c.early_all.ensures
+
+pub early_row-returns-in-Variable : goal.early_row-returns-in-Variable
+early_row-returns-in-Variable t c = opens-variable c.args.self.now c.args.bound (shown c.args.before) c.args.at (node_view c.args.node.now) c.in-Variable.variable c.early_variable-own.result c.args.found c.or_else.result (waiting c.args.stack.now.items) c.in-Variable.ensures c.early_variable-own.ensures c.or_else.ensures
+
+pub early_row-returns-in_ok-push_terms-in-Use : goal.early_row-returns-in_ok-push_terms-in-Use
+early_row-returns-in_ok-push_terms-in-Use t c = opens-use c.args.self.now c.args.bound (shown c.args.before) c.args.at (node_view c.args.node.now) c.in-Use.number c.in-Use.terms.now c.in_ok-own-in-Use.own c.args.found c.or_else-in-Use.result (waiting c.args.stack.now.items) (waiting c.push_terms.new.stack.items) c.in-Use.ensures c.in_ok-own-in-Use.ensures c.in_ok-push_terms-in-Use.ensures c.or_else-in-Use.ensures
+
+pub early_row-returns-in_ok-own-in-Unchanged : goal.early_row-returns-in_ok-own-in-Unchanged
+early_row-returns-in_ok-own-in-Unchanged t c = opens-unchanged c.args.self.now c.args.bound (shown c.args.before) c.args.at (node_view c.args.node.now) c.in-Unchanged.term.now c.in_ok-own-in-Unchanged.own c.args.found c.or_else-in-Unchanged.result (waiting c.args.stack.now.items) c.in-Unchanged.ensures c.in_ok-own-in-Unchanged.ensures c.or_else-in-Unchanged.ensures
+
+pub early_row-returns-in_ok-push_except-in-Except : goal.early_row-returns-in_ok-push_except-in-Except
+early_row-returns-in_ok-push_except-in-Except t c = opens-except c.args.self.now c.args.bound (shown c.args.before) c.args.at (node_view c.args.node.now) c.in-Except.base.now c.in-Except.changes.now c.args.found (waiting c.args.stack.now.items) (waiting c.push_except.new.stack.items) c.in-Except.ensures c.in_ok-push_except-in-Except.ensures
+
+pub early_row-returns-in_ok-push-in-BoxAction : goal.early_row-returns-in_ok-push-in-BoxAction
+early_row-returns-in_ok-push-in-BoxAction t c = opens-box c.args.self.now c.args.bound (shown c.args.before) c.args.at (node_view c.args.node.now) c.in-BoxAction.action.now c.in-BoxAction.subscript.now c.in_ok-own-in-BoxAction.own c.args.found c.or_else-in-BoxAction.result (waiting c.args.stack.now.items) (waiting c.push.new.stack.items) c.in-BoxAction.ensures c.in_ok-own-in-BoxAction.ensures c.in_ok-push-in-BoxAction.ensures c.or_else-in-BoxAction.ensures
+
+pub early_row-returns-in_ok-push-in-AngleAction : goal.early_row-returns-in_ok-push-in-AngleAction
+early_row-returns-in_ok-push-in-AngleAction t c = opens-angle c.args.self.now c.args.bound (shown c.args.before) c.args.at (node_view c.args.node.now) c.in-AngleAction.action.now c.in-AngleAction.subscript.now c.in_ok-variable-in-AngleAction.variable c.too_early.result c.args.found c.or_else-in-AngleAction.result (waiting c.args.stack.now.items) (waiting c.push-in-AngleAction.new.stack.items) c.in-AngleAction.ensures (c.in_ok-variable-in-AngleAction.ensures c.args.bound) c.too_early.ensures c.in_ok-push-in-AngleAction.ensures c.or_else-in-AngleAction.ensures
+
+pub early_row-returns-in_ok-push_parts-in-Plain : goal.early_row-returns-in_ok-push_parts-in-Plain
+early_row-returns-in_ok-push_parts-in-Plain t c = opens-plain c.args.self.now c.args.bound (shown c.args.before) c.args.at (node_view c.args.node.now) c.args.found (waiting c.args.stack.now.items) (waiting c.push_parts.new.stack.items) c.in-Plain.ensures c.in_ok-push_parts-in-Plain.ensures

@@ -1,0 +1,11 @@
+pub mod Orderly
+pub mod Sets
+pub mod Levels
+pub mod Keeping
+pub mod Weight
+pub mod Follow
+pub mod Ready
+pub mod Shapes
+pub mod Opened
+pub mod Primes
+pub mod Paths

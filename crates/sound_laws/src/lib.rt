@@ -1,0 +1,6 @@
+//! What a specification in order gives to those who ask what its actions leave fixed.
+#![tactic(auto)]
+
+mod laws;
+
+pub use laws::sound_law;
