@@ -1,0 +1,6 @@
+pub mod ListSteps
+pub mod FileLemmas
+pub mod KeptFiles
+pub mod OneFile
+pub mod OneLog
+pub mod PlaceLemmas
