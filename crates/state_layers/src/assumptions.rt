@@ -8,6 +8,7 @@ use std::alloc::{AllocError, Global};
 
 /// The answer on the first assumption that is not TRUE, or none.
 pub fn judge<S: Steps>(alloc: Global, steps: &S) -> Result<Option<Answer>, AllocError>
+    requires { S.ready steps.now }
     ensures { IfOk result (λ o. MatchOption o (AllAssumed (S.system steps.now)) (IsUnassumed (S.system steps.now))) }
 {
     for index in 0..steps.assumes() {

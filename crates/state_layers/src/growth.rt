@@ -45,6 +45,7 @@ fn list_steps<S: Steps>(
     node: &Node<S::Entry>,
     bound: u32,
 ) -> Result<Vec<S::Entry>, StepFault>
+    requires ready { S.ready steps.now }
     requires opens { IsOpen (S.system steps.now) step }
     requires source { IsSource step node.now.line node.now.silents }
     requires reached { Layer (S.system steps.now) node.now.line node.now.silents node.now.entry }
@@ -63,6 +64,7 @@ fn expand<S: Steps>(
     step: Move,
     node: &Node<S::Entry>,
 ) -> Result<Vec<S::Entry>, Stop>
+    requires ready { S.ready steps.now }
     requires small { IsSmall (S.system steps.now) }
     requires opens { IsOpen (S.system steps.now) step }
     requires source { IsSource step node.now.line node.now.silents }
@@ -128,6 +130,7 @@ fn grow<S: Steps>(
     from: usize,
     step: Move,
 ) -> Result<IndexMap<S::Entry, u32>, Stop>
+    requires ready { S.ready steps.now }
     requires small { IsSmall (S.system steps.now) }
     requires opens { IsOpen (S.system steps.now) step }
     requires kept { IsList (Upto (S.system steps.now) (line_of step) (silents_of (S.system steps.now) step)) (entries nodes.now) }
@@ -179,6 +182,7 @@ pub fn advance<S: Steps>(
     step: Move,
     widest: usize,
 ) -> Result<usize, Stop>
+    requires ready { S.ready steps.now }
     requires small { IsSmall (S.system steps.now) }
     requires opens { IsOpen (S.system steps.now) step }
     requires kept { Kept (S.system steps.now) (line_of step) (silents_of (S.system steps.now) step) nodes.old.items widest }

@@ -19,6 +19,7 @@ use std::alloc::{AllocError, Global};
 
 /// The nodes of the first layer.
 fn begin<S: Steps>(alloc: Global, steps: &S) -> Result<Vec<Node<S::Entry>>, Stop>
+    requires ready { S.ready steps.now }
     requires small { IsSmall (S.system steps.now) }
     ensures first { IfOk result (λ nodes. Kept (S.system steps.now) 0 0 nodes.items (length nodes.items)) }
     ensures some { IfOk result (λ nodes. Starts 0 nodes.items 0) }
@@ -93,6 +94,7 @@ fn wait<S: Steps>(
     line: u32,
     widest: usize,
 ) -> Result<usize, Stop>
+    requires ready { S.ready steps.now }
     requires small { IsSmall (S.system steps.now) }
     requires left { line < (S.system steps.now).count }
     requires kept { Kept (S.system steps.now) line 0 nodes.old.items widest }
@@ -122,7 +124,8 @@ fn wait<S: Steps>(
 }
 
 fn search<S: Steps>(alloc: Global, steps: &S) -> Result<Searched<S::Entry>, Stop>
-    requires { IsSmall (S.system steps.now) }
+    requires ready { S.ready steps.now }
+    requires small { IsSmall (S.system steps.now) }
     ensures answered { IfOk result (λ searched. Says (S.system steps.now) searched.answer) }
     ensures last { IfOk result (λ searched. AreLast (S.system steps.now) searched.answer searched.last.items) }
     ensures stopped { IfErr result (λ stop. IsStop (S.system steps.now) stop) }
@@ -156,7 +159,8 @@ fn search<S: Steps>(alloc: Global, steps: &S) -> Result<Searched<S::Entry>, Stop
 /// What a log says of a specification, whose assumptions are judged before all else; and, where not all lines are
 /// explained, the entries that the first of them reach, in the order in which they were found.
 pub fn search_entries<S: Steps>(alloc: Global, steps: &S) -> Result<Searched<S::Entry>, AllocError>
-    requires { IsSmall (S.system steps.now) }
+    requires ready { S.ready steps.now }
+    requires small { IsSmall (S.system steps.now) }
     ensures answer { IfOk result (λ searched. IsAnswer (S.system steps.now) searched.answer) }
     ensures last { IfOk result (λ searched. AreLast (S.system steps.now) searched.answer searched.last.items) }
 {
@@ -178,7 +182,8 @@ pub fn search_entries<S: Steps>(alloc: Global, steps: &S) -> Result<Searched<S::
 
 /// What a log says of a specification, whose assumptions are judged before all else.
 pub fn search_layers<S: Steps>(alloc: Global, steps: &S) -> Result<Answer, AllocError>
-    requires { IsSmall (S.system steps.now) }
+    requires ready { S.ready steps.now }
+    requires small { IsSmall (S.system steps.now) }
     ensures { IfOk result (λ answer. IsAnswer (S.system steps.now) answer) }
 {
     Ok(search_entries(alloc, steps)?.answer)

@@ -35,6 +35,9 @@ pub trait Steps {
 
     ghost system: { Self → System Self.Entry };
 
+    /// What holds of it wherever its steps and its assumptions are asked for.
+    ghost ready: { Self → Type 0 };
+
     /// How many lines there are.
     fn count(&self) -> u32
         ensures { result ≡ (system self.now).count };
@@ -71,10 +74,12 @@ pub trait Steps {
     /// Nothing where the assumption is TRUE, or its place where it is FALSE. Where there is none of the number, the
     /// answer tells nothing.
     fn assumed(&self, alloc: Global, index: u32) -> Result<Option<Place>, StepFault>
+        requires ready { ready self.now }
         ensures { index < (system self.now).assumes → Tells (system self.now) index result };
 
     /// The first entries, each once.
     fn initial(&self, alloc: Global, bound: u32) -> Result<Vec<Self::Entry>, StepFault>
+        requires ready { ready self.now }
         ensures { Gives (Begins (system self.now)) (system self.now).FaultInit (system self.now).InitSeen bound result };
 
     /// The entries to which a line leads from an entry, each once.
@@ -85,6 +90,7 @@ pub trait Steps {
         from: &Self::Entry,
         bound: u32,
     ) -> Result<Vec<Self::Entry>, StepFault>
+        requires ready { ready self.now }
         requires left { line < (system self.now).count }
         requires reached { IsReached (system self.now) line from.now }
         ensures { Gives ((system self.now).Step line from.now) ((system self.now).FaultStep line from.now) ((system self.now).Seen line from.now) bound result };
@@ -96,6 +102,7 @@ pub trait Steps {
         from: &Self::Entry,
         bound: u32,
     ) -> Result<Vec<Self::Entry>, StepFault>
+        requires ready { ready self.now }
         requires reached { (n : ℕ) × IsReached (system self.now) n from.now }
         ensures { Gives ((system self.now).Silent from.now) ((system self.now).FaultSilent from.now) (λ t. Unit {0}) bound result };
 

@@ -160,6 +160,8 @@ impl Steps for Table {
 
     ghost system = { λ x. system_of x.edges.items x.assumptions.items x.assumes x.count x.within x.limit x.total };
 
+    ghost ready = { λ x. Unit {0} };
+
     fn count(&self) -> u32 {
         self.count
     }

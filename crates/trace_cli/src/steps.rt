@@ -48,6 +48,8 @@ impl<'a> Steps for Form<'a> {
 
     ghost system = { λ form. first_form form.spec.now form.lines.now };
 
+    ghost ready = { λ form. Unit {0} };
+
     fn count(&self) -> u32 {
         self.lines.len() as u32
     }
