@@ -9,6 +9,7 @@ mod placing;
 
 pub use laws::logs_laws;
 pub use logs::{LogRefusal, read_logs};
+pub use placing::log_of;
 
 #[cfg(test)]
 mod tests;

@@ -11,8 +11,8 @@ use path_updates::{Line, LineList, Log, Sees};
 use std::alloc::{AllocError, Global};
 use trace_base::NoMemory;
 
-/// The log of these files.
-pub(crate) fn log_of(alloc: Global, files: Vec<FileLines>) -> Result<Log, NoMemory>
+/// The log of these files, whose steps stand each in the order of their clocks.
+pub fn log_of(alloc: Global, files: Vec<FileLines>) -> Result<Log, NoMemory>
     requires none_falls { NoneFalls (clocks_in files.items) }
     requires few_files { length files.items ≤ 4294967296 }
     requires few_lines { AreFew (clocks_in files.items) }

@@ -1,6 +1,6 @@
--- What stands in Init or Next, directly or through calls, is a row in order.
+-- What stands in Init, in Next or in the body of a definition with a name, directly or through calls, is a row in order.
 use Rattle.std.proofs.Common.{◌≡◌, refl, sym, List, [], ◌∷◌, length}
-use Rattle.std.specs.Prelude.{◌+◌, ℕ}
+use Rattle.std.specs.Prelude.{◌≢◌, ◌+◌, ℕ, Some, slice_get}
 use Rattle.std.specs.List.{AllByRecursion as Each}
 use Rattle.std.proofs.lemmas.List.Elements.{All-from_recursion}
 use Rattle.tla_terms.specs.declared.level.Level.{Level}
@@ -15,9 +15,9 @@ use Rattle.term_parts.specs.Slots.{Mentions, used, mentioned_in_part}
 use Rattle.early_reads.specs.Orderly.{HasLevel, HasNumber, IsSoundThroughout, IsSound, StandsIn, itself, stands_in_body, stands_in_part}
 use Rattle.early_reads.proofs.Each.{each-append}
 use Rattle.spec_laws.specs.Everywhere.{Everywhere}
-use Rattle.spec_laws.specs.IsSpec.{IsInRange, IsReached, IsRow, IsSpec, IsTerm, in_body, in_init, in_next, needed}
+use Rattle.spec_laws.specs.IsSpec.{IsInRange, IsReached, IsRow, IsSpec, IsTerm, has_name, in_body, in_init, in_next, needed}
 use Rattle.spec_laws.proofs.Somewhere.{parts_hold}
-use Rattle.sound_laws.specs.Sound.{SpecsAreSound}
+use Rattle.sound_laws.specs.Sound.{OperatorsAreSound, SpecsAreSound}
 
 -- LEVELS
 
@@ -77,5 +77,14 @@ module _ (s : Spec) (is : IsSpec s) where
     (λ f i. stands-sound s.next f i (0, is.next.0.rows) (λ k u. needed k (in_next k u))),
   )
 
+  pub operators-orderly : (k : ℕ) (o : Operator) → slice_get s.operators k ≡ Some o → o.name ≢ [] → IsSoundThroughout s.operators (length s.variables) o.body
+  operators-orderly k o q named =
+      let here : IsReached s k = needed k (has_name k o q named) in
+      let body : IsTerm (length s.variables) s.operators (o.outer + o.params) o.body = (is.bodies k o here q).0 in
+      λ f i. stands-sound o.body f i (o.outer + o.params, body.rows) (λ j u. in_body k o j here q u)
+
 pub all-orderly : SpecsAreSound
 all-orderly s is = specs-orderly s is
+
+pub all-operators : OperatorsAreSound
+all-operators s is k o q named = operators-orderly s is k o q named

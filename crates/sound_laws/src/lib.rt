@@ -3,4 +3,4 @@
 
 mod laws;
 
-pub use laws::sound_law;
+pub use laws::{operator_law, sound_law};

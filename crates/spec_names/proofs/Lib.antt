@@ -1,0 +1,4 @@
+pub mod SearchLemmas
+pub mod ToldLemmas
+pub mod FormLemmas
+mod Merely

@@ -1,0 +1,40 @@
+-- For the prover: what is known of the walk that is kept for the forms of operators.
+use Rattle.std.specs.Prelude.{◌≡◌, ◌≢◌, ◌≤◌, ℕ, List, [], Bool, true, false, Some, length, slice_get}
+use Rattle.tla_terms.specs.declared.operator.Operator.{Operator}
+use Rattle.tla_terms.specs.Terms.{Term}
+use Rattle.term_parts.specs.Slots.{MentionsBelow}
+use Rattle.tla_actions.specs.declared.which.Which.{Which}
+use Rattle.tla_actions.specs.declared.which.Which.TheVariants as which
+use Rattle.tla_actions.specs.Reads.{VariableSet}
+use Rattle.tla_actions.specs.Outcomes.{Fixes}
+use Rattle.early_reads.specs.declared.walking.Walk.{Walk}
+use Rattle.early_reads.specs.Orderly.{IsSoundThroughout}
+use Rattle.early_reads.specs.Ready.{IsReady, setting_of, table_of}
+
+abbrev pub is_action : Which → Bool
+is_action which.Init = false
+is_action which.Action = true
+
+-- no two definitions have one name
+abbrev pub NamesDiffer : List Operator → Type 0
+NamesDiffer ops = (j k : ℕ) (o q : Operator) → slice_get ops j ≡ Some o → slice_get ops k ≡ Some q → o.name ≢ [] → o.name ≡ q.name → j ≡ k
+
+-- the definition of that number has a name, and this body
+pub record IsNamedBody (ops : List Operator) (k : ℕ) (body : Term) : Type 0 where
+  pub operator : Operator
+  pub is : slice_get ops k ≡ Some operator
+  pub named : operator.name ≢ []
+  pub same : operator.body ≡ body
+
+abbrev pub HasNoName : List Operator → ℕ → Type 0
+HasNoName ops k = (o : Operator) → slice_get ops k ≡ Some o → o.name ≡ []
+
+-- the body is in order, where it uses definitions below a bound alone
+pub record IsBodyInOrder (w : Walk) (bound : ℕ) (body : Term) : Type 0 where
+  pub ready : IsReady w
+  pub within : bound ≤ length (table_of w)
+  pub below : MentionsBelow bound body
+  pub sound : IsSoundThroughout (table_of w) w.variables body
+
+abbrev pub HasForm : Walk → Term → VariableSet → Type 0
+HasForm w body B = (C : VariableSet) × Fixes (setting_of w) body B C
