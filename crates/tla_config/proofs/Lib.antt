@@ -5,3 +5,5 @@ pub mod Only
 pub mod Outcomes
 pub mod Walks
 pub mod Runs
+pub mod TokensHeld
+pub mod GivenWithin

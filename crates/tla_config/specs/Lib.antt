@@ -1,5 +1,6 @@
 pub mod Given
 pub mod Keywords
+pub mod Limits
 pub mod Marks
 pub mod Reads
 pub mod Statements

@@ -1,5 +1,6 @@
 //! Laws of what a configuration's text gives.
 
+ghost use Rattle.tla_config.specs.Limits.{GivensAreWithinLimits};
 ghost use Rattle.tla_config.specs.Reads.{OneConfiguration, SomeConfiguration};
 
 use tla_ast::{one_outcome, tokens_end_once};
@@ -12,3 +13,8 @@ pub fn one_configuration()
     one_outcome();
     tokens_end_once();
 }
+
+/// What an accepted configuration writes is within the limits of values.
+pub fn givens_are_within_limits()
+    ensures { GivensAreWithinLimits }
+{}

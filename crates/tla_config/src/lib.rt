@@ -14,5 +14,5 @@ mod tests;
 mod values;
 
 pub use fault::{ConfigFault, ConfigKind};
-pub use laws::one_configuration;
+pub use laws::{givens_are_within_limits, one_configuration};
 pub use reading::config;
