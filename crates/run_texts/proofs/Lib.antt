@@ -1,0 +1,2 @@
+mod OrderLaw
+mod SpelledLaw

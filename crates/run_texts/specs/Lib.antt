@@ -1,0 +1,11 @@
+pub mod Places
+pub mod Spelled
+pub mod Files
+pub mod Modules
+pub mod Configs
+pub mod Resolved
+pub mod Forms
+pub mod Logs
+pub mod States
+pub mod Ordered
+pub mod Answers

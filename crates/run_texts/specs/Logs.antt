@@ -1,0 +1,40 @@
+-- The lines on logs that are refused.
+use Rattle.std.specs.Prelude.{ℕ, ℤ, List, ◌++◌, codes, decimal}
+use Rattle.std.specs.Fmt.{signed_decimal}
+use Rattle.line_shapes.specs.Keys.{key_text}
+use Rattle.log_lines.specs.declared.kind.LogKind.{LogKind}
+use Rattle.log_lines.specs.declared.kind.LogKind.TheVariants as log
+use Rattle.log_lines.specs.declared.file.Refusal.{Refusal}
+use Rattle.run_texts.specs.Places.{detail, found_needed, refused}
+
+-- a line of a log: the log's name and the line's number in it
+abbrev pub line_text : List ℕ → ℕ → List ℕ
+line_text name line = name ++ codes ":" ++ decimal line
+
+abbrev pub at_line : List ℕ → ℕ → List ℕ
+at_line name line = codes " at " ++ line_text name line
+
+-- the clock before, and this one
+abbrev pub clocks_text : ℤ → ℤ → List ℕ
+clocks_text before now = codes " clocks " ++ signed_decimal before ++ codes " and " ++ signed_decimal now
+
+-- a line of the log is refused for this
+abbrev pub kind_refusal : List ℕ → LogKind → ℕ → List ℕ
+kind_refusal name log.NotJson line = refused (codes "O1 NotJson") (at_line name line)
+kind_refusal name log.NotObject line = refused (codes "O2 NotObject") (at_line name line)
+kind_refusal name (log.BadField key) line = refused (codes "O3 BadField") (detail (key_text key) ++ at_line name line)
+kind_refusal name log.UnknownVariable line = refused (codes "O4 UnknownVariable") (at_line name line)
+kind_refusal name log.UnknownEvent line = refused (codes "O5 UnknownEvent") (at_line name line)
+kind_refusal name (log.WrongArgs found needed) line =
+    refused (codes "O6 WrongArgs") (found_needed found needed ++ at_line name line)
+kind_refusal name (log.BadValue key) line = refused (codes "O7 BadValue") (detail (key_text key) ++ at_line name line)
+kind_refusal name log.InitNotFirst line = refused (codes "O8 InitNotFirst") (at_line name line)
+kind_refusal name log.NoClock line = refused (codes "O9 NoClock") (at_line name line)
+kind_refusal name (log.ClockBack before now) line =
+    refused (codes "O10 ClockBack") (at_line name line ++ clocks_text before now)
+kind_refusal name log.LineTooLong line = refused (codes "O11 LineTooLong") (at_line name line)
+kind_refusal name log.EventNotFixed line = refused (codes "O12 EventNotFixed") (at_line name line)
+kind_refusal name log.TooManyLines line = refused (codes "O13 TooManyLines") (at_line name line)
+
+abbrev pub log_refusal : List ℕ → Refusal → List ℕ
+log_refusal name refusal = kind_refusal name refusal.kind refusal.line

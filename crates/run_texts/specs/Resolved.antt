@@ -1,0 +1,34 @@
+-- The lines on programs that are no specification.
+use Rattle.std.specs.Prelude.{ℕ, List, [], ◌++◌, codes, decimal}
+use Rattle.tla_terms.specs.declared.level.Level.{Level}
+use Rattle.tla_terms.specs.declared.level.Level.TheVariants as level
+use Rattle.tla_levels.specs.declared.fault.ResolveFault.{ResolveFault}
+use Rattle.tla_levels.specs.declared.fault.ResolveFault.TheVariants as resolve
+use Rattle.run_texts.specs.Places.{at_place, detail, found_needed, refused}
+
+-- levels as numbers
+abbrev pub level_number : Level → ℕ
+level_number level.Constant = 0
+level_number level.State = 1
+level_number level.Action = 2
+level_number level.Temporal = 3
+
+abbrev pub found_allowed : Level → Level → List ℕ
+found_allowed found allowed =
+    codes " found=" ++ decimal (level_number found) ++ codes " allowed=" ++ decimal (level_number allowed)
+
+-- a program is refused; nothing is written where memory is wanting
+abbrev pub names_refusal : List (List ℕ) → ResolveFault → List ℕ
+names_refusal files (resolve.UnknownName name at) =
+    refused (codes "V1 UnknownName") (detail name ++ at_place files at)
+names_refusal files (resolve.WrongArity name found needed at) =
+    refused (codes "V2 WrongArity") (detail name ++ found_needed found needed ++ at_place files at)
+names_refusal files (resolve.LevelTooHigh found allowed at) =
+    refused (codes "V3 LevelTooHigh") (found_allowed found allowed ++ at_place files at)
+names_refusal files (resolve.PrimedArgument at) = refused (codes "V4 PrimedArgument") (at_place files at)
+names_refusal files (resolve.NoValue name at) = refused (codes "V5 NoValue") (detail name ++ at_place files at)
+names_refusal files (resolve.NotTheShape at) = refused (codes "V6 NotTheShape") (at_place files at)
+names_refusal files (resolve.Recursion name at) = refused (codes "V7 Recursion") (detail name ++ at_place files at)
+names_refusal files (resolve.TooManyVariables at) = refused (codes "V8 TooManyVariables") (at_place files at)
+names_refusal files (resolve.NoOperator name) = refused (codes "V9 NoOperator") (detail name)
+names_refusal files resolve.NoMemory = []

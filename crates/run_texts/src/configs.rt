@@ -1,0 +1,26 @@
+ghost use Rattle.std.specs.Prelude.{◌≡◌, IfOk, string_bytes};
+ghost use Rattle.run_texts.specs.Configs.{config_refusal};
+
+use crate::places::{refused_at, refused_detail};
+use std::alloc::Global;
+use tla_config::ConfigKind;
+use trace_base::{Names, NoMemory, Place};
+
+/// The line for a configuration that is refused. Its file stands in the list behind the program's.
+pub fn config_refusal(
+    alloc: Global,
+    files: &Names,
+    kind: &ConfigKind,
+    at: Place,
+) -> Result<String, NoMemory>
+    ensures { IfOk result (λ t. string_bytes t ≡ config_refusal files.now kind.now at) }
+{
+    match kind {
+        ConfigKind::Syntax => refused_at(alloc, files, "G1 Syntax", at),
+        ConfigKind::Unsupported(keyword) => {
+            refused_detail(alloc, files, "G2 Unsupported", keyword.as_str(), at)
+        }
+        ConfigKind::Twice(word) => refused_detail(alloc, files, "G3 Twice", word.as_str(), at),
+        ConfigKind::NoBehaviour => refused_at(alloc, files, "G4 NoBehaviour", at),
+    }
+}

@@ -1,0 +1,29 @@
+//! The lines that the program writes: what it refuses, and the report of an answer.
+#![tactic(auto)]
+
+mod answers;
+mod configs;
+mod files;
+mod forms;
+mod labels;
+mod laws;
+mod logs;
+mod modules;
+mod order;
+mod places;
+mod resolved;
+mod spelled;
+mod states;
+
+pub use answers::answer_text;
+pub use configs::config_refusal;
+pub use files::{device_text, missing_text, too_long_text, words_text};
+pub use forms::form_refusal;
+pub use labels::Labels;
+pub use laws::text_laws;
+pub use logs::log_refusal;
+pub use modules::module_refusal;
+pub use resolved::names_refusal;
+
+#[cfg(test)]
+mod tests;
