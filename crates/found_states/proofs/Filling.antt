@@ -1,8 +1,10 @@
 -- A variable gets a value.
 use Rattle.std.proofs.Common.{◌≡◌, ◌⊎◌, inl, inr, refl, sym, ◌∙◌, ap, subst, arith, tests, ℕ, zero, suc, ◌<◌, Bool, true, false, ◌||◌, ◌==◌, List, [], ◌∷◌, ◌++◌, length, map}
 use Rattle.std.specs.Prelude.{Contains, Option, Some, None, slice_get, slice_set}
+use Rattle.std.specs.List.{AllByRecursion}
 use Rattle.std.proofs.lemmas.List.{length-set}
 use Rattle.tla_values.specs.Data.{Val}
+use Rattle.tla_values.specs.IsValue.{IsValue}
 use Rattle.tla_values.specs.Ascending.{head_in, none_in}
 use Rattle.tla_core.specs.States.{Values}
 use Rattle.tla_eval.specs.Contexts.{Places}
@@ -12,7 +14,7 @@ use Rattle.path_updates.specs.Changes.{LeadsTo}
 use Rattle.path_updates.specs.declared.update.See.{See}
 use Rattle.line_steps.specs.Asks.{AreSeen, IsSeen}
 use Rattle.action_reads.specs.Filled.{Completes, Fills}
-use Rattle.found_states.specs.Walks.{Agrees}
+use Rattle.found_states.specs.Walks.{Agrees, StaysPossible}
 use Rattle.found_states.specs.Filling.{AgreesAt, Gets, HasSuch}
 use Rattle.found_states.proofs.Lists.{all_by_place, place_by_all, all_in, all_from, one_in, in_left, in_right, in_cases}
 use Rattle.found_states.proofs.Finding.{finds_here, finds_none, finds_also}
@@ -120,6 +122,28 @@ set_completes p x v t l k e = record {
   values = k.values;
 }
 
+-- a state with the value in place of its own
+set_values : (t : Values) (x : ℕ) (v : Val) → AllByRecursion IsValue t → IsValue v → AllByRecursion IsValue (slice_set t x v)
+set_values [] x v a h = tt
+set_values (w ∷ t) zero v a h = (h, a.1)
+set_values (w ∷ t) (suc x) v a h = (a.0, set_values t x v a.1 h)
+
+set_possible : (p : Places) (x : ℕ) (v : Val) → x < length p → IsValue v → StaysPossible p (slice_set p x (Some v))
+set_possible p x v l h u k = (
+  slice_set u x v,
+  record {
+    long = length-set u x v ∙ k.long ∙ sym (length-set p x (Some v));
+    has = λ y w e. elim (same_or_not y x) [
+      | inl s ↦
+          let here : slice_get (slice_set p x (Some v)) y ≡ Some (Some v) = subst (λ (z : ℕ). slice_get (slice_set p x (Some v)) z ≡ Some (Some v)) (sym s) (get_set_same p x (Some v) l) in
+          let there : slice_get (slice_set u x v) y ≡ Some v = subst (λ (z : ℕ). slice_get (slice_set u x v) z ≡ Some v) (sym s) (get_set_same u x v (omega (arith, l, k.long))) in
+          get_in_map (slice_set u x v) y w (there ∙ ap Some (same_place v w (sym here ∙ e)))
+      | inr n ↦ get_in_map (slice_set u x v) y w (get_set_other u x y v n ∙ get_of_map u y w (k.has y w (sym (get_set_other p x y (Some v) n) ∙ e)))
+    ];
+    values = all_by_place IsValue (slice_set u x v) (set_values u x v (place_by_all IsValue u k.values) h);
+  },
+)
+
 set_fills : (B : VariableSet) (p : Places) (x : ℕ) (v : Val) → x < length p → Fills B p → Fills (with_variable B x) (slice_set p x (Some v))
 set_fills B p x v l f y h = elim (same_or_not y x) [
   | inl s ↦ (
@@ -185,10 +209,10 @@ gets_other sees B p x P v e n =
     finds_none sees p _ (HasSuch x P) _ (λ t k s h. n (subst P (same_some h.0 v (sym h.1 ∙ completes_get p t x v k e)) h.2)) (λ t g k s m. m)
 
 -- the places with the value, where it has none
-pub gets_new : (sees : List See) (B : VariableSet) (p : Places) (x : ℕ) (P : Val → Type 0) (v : Val) → Fills B p → Agrees sees p → x < length p → slice_get p x ≡ Some None → AgreesAt sees x v
+pub gets_new : (sees : List See) (B : VariableSet) (p : Places) (x : ℕ) (P : Val → Type 0) (v : Val) → Fills B p → Agrees sees p → x < length p → slice_get p x ≡ Some None → AgreesAt sees x v → IsValue v
     → P v → ((w : Val) → P w → w ≡ v) → Gets sees B p x P (slice_set p x (Some v) ∷ [])
-gets_new sees B p x P v f a l e b h one = record {
-  further = λ q m. subst (λ (r : Places). (length r ≡ length p) × IsWithin p r) (one_in new q m) (length-set p x (Some v), set_within p x v e);
+gets_new sees B p x P v f a l e b valued h one = record {
+  further = λ q m. subst (λ (r : Places). (length r ≡ length p) × IsWithin p r × StaysPossible p r) (one_in new q m) (length-set p x (Some v), set_within p x v e, set_possible p x v l valued);
   agree = λ q m. subst (λ (r : Places). Agrees sees r) (one_in new q m) (set_agrees sees p x v l a b);
   filled = λ q C m i. subst (λ (r : Places). Fills C r) (one_in new q m) (with_fills B C x new i (set_fills B p x v l f));
   sound = λ q t m k. (v, completes_get new t x v (subst (λ (r : Places). Completes r t) (sym (one_in new q m)) k) (get_set_same p x (Some v) l), h);

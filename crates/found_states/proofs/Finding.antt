@@ -13,7 +13,7 @@ use Rattle.tla_actions.specs.Reads.{VariableSet}
 use Rattle.path_updates.specs.declared.update.See.{See}
 use Rattle.line_steps.specs.Asks.{AreSeen}
 use Rattle.action_reads.specs.Filled.{Completes, Fills}
-use Rattle.found_states.specs.Walks.{Agrees, Finds, Found, Meets}
+use Rattle.found_states.specs.Walks.{Agrees, Finds, Found, Meets, StaysPossible}
 use Rattle.found_states.specs.Parts.{FindsEach, FoundEach}
 use Rattle.found_states.proofs.Lists.{one_in, in_left, in_right, in_cases}
 
@@ -32,6 +32,12 @@ within_itself p x v h = h
 pub within_trans : (p q r : Places) → IsWithin p q → IsWithin q r → IsWithin p r
 within_trans p q r f g x v h = g x v (f x v h)
 
+pub possible_itself : (p : Places) → StaysPossible p p
+possible_itself p u k = (u, k)
+
+pub possible_trans : (p q r : Places) → StaysPossible p q → StaysPossible q r → StaysPossible p r
+possible_trans p q r f g u k = let t = f u k in g t.0 t.1
+
 -- what completes further places completes those before
 pub completes_less : (p q : Places) (t : Values) → length q ≡ length p → IsWithin p q → Completes q t → Completes p t
 completes_less p q t e w k = record { long = k.long ∙ e; has = λ x v h. k.has x v (w x v h); values = k.values }
@@ -40,7 +46,7 @@ completes_less p q t e w k = record { long = k.long ∙ e; has = λ x v h. k.has
 pub finds_here : (sees : List See) (p : Places) (fixes : Sets) (H : Fact) (F : Faults) → Agrees sees p → ((C : VariableSet) → fixes C → Fills C p)
     → ((t : Values) → Completes p t → H t) → ((t : Values) (f : Fault) → Completes p t → AreSeen sees t → F t f → ⊥) → Finds sees p fixes H F (p ∷ [])
 finds_here sees p fixes H F a b h n = record {
-  further = λ q m. subst (λ (x : Places). (length x ≡ length p) × IsWithin p x) (one_in p q m) (refl, within_itself p);
+  further = λ q m. subst (λ (x : Places). (length x ≡ length p) × IsWithin p x × StaysPossible p x) (one_in p q m) (refl, within_itself p, possible_itself p);
   agree = λ q m. subst (λ (x : Places). Agrees sees x) (one_in p q m) a;
   filled = λ q C m e. subst (λ (x : Places). Fills C x) (one_in p q m) (b C e);
   sound = λ q t m k. h t (subst (λ (x : Places). Completes x t) (sym (one_in p q m)) k);
@@ -77,11 +83,11 @@ finds_also sees p fixes H K L F G M qs rs i j l m a b = record {
 }
 
 pub meets_same : (sees : List See) (p : Places) (F G : Faults) (f : Fault) → ((t : Values) → Completes p t → F t f → G t f) → Meets sees p F f → Meets sees p G f
-meets_same sees p F G f m h = (h.0, h.1, h.2, h.3, λ t k. m t (completes_less p h.0 t h.1 h.2 k) (h.4 t k))
+meets_same sees p F G f m h = (h.0, h.1, h.2, h.3, λ t k. m t (completes_less p h.0 t h.1 h.2 k) (h.4 t k), h.5)
 
 -- a fault that all that completes the places has
 pub meets_here : (sees : List See) (p : Places) (F : Faults) (f : Fault) → Agrees sees p → ((t : Values) → Completes p t → F t f) → Meets sees p F f
-meets_here sees p F f a h = (p, refl, within_itself p, a, h)
+meets_here sees p F f a h = (p, refl, within_itself p, a, h, possible_itself p)
 
 -- what fills the one set, or another of which that can be said, fills the other
 abbrev pub Fixed : Places → Sets → Sets → Type 0
@@ -125,8 +131,8 @@ pub each_more : (sees : List See) (ps : List Places) (q : Places) (fixes : Sets)
     → FindsEach sees ps fixes H F rs → Finds sees q fixes H F ss → FindsEach sees (ps ++ q ∷ []) fixes H F (rs ++ ss)
 each_more sees ps q fixes H F rs ss a b = record {
   further = λ x h. elim (in_cases rs ss x h) [
-    | inl g ↦ let r = a.further x g in (r.0, in_left ps (q ∷ []) r.0 r.1, r.2, r.3)
-    | inr g ↦ (q, in_right ps (q ∷ []) q (head_in q []), (b.further x g).0, (b.further x g).1)
+    | inl g ↦ let r = a.further x g in (r.0, in_left ps (q ∷ []) r.0 r.1, r.2, r.3, r.4)
+    | inr g ↦ (q, in_right ps (q ∷ []) q (head_in q []), (b.further x g).0, (b.further x g).1, (b.further x g).2)
   ];
   agree = λ x h. elim (in_cases rs ss x h) [ inl g ↦ a.agree x g | inr g ↦ b.agree x g ];
   filled = λ x C h e. elim (in_cases rs ss x h) [ inl g ↦ a.filled x C g e | inr g ↦ b.filled x C g e ];
@@ -159,7 +165,7 @@ found_then sees p fixes others more H K L F M G qs x i j m n D e a (Ok rs) b = r
   further = λ q h.
       let s = (b D e).further q h in
       let t = a.further s.0 s.1 in
-      (s.2 ∙ t.0, within_trans p s.0 q t.1 s.3);
+      (s.2 ∙ t.0, within_trans p s.0 q t.1 s.3, possible_trans p s.0 q t.2 s.4);
   agree = λ q h. (b D e).agree q h;
   filled = λ q C h c. let d = x C c in (b d.0 d.1).filled q C h d.2;
   sound = λ q t h k.
@@ -183,5 +189,6 @@ found_then sees p fixes others more H K L F M G qs x i j m n D e a (Err (Refused
       within_trans p c.0 q s.1 c.2.2,
       c.2.3,
       λ t k. n t (fault kind at) D (a.sound c.0 t c.1 (completes_less c.0 q t c.2.1 c.2.2 k)) e (c.2.4 t k),
+      possible_trans p c.0 q s.2 c.2.5,
     )
 found_then sees p fixes others more H K L F M G qs x i j m n D e a (Err NoMemory) b = tt

@@ -18,7 +18,7 @@ use Rattle.found_states.specs.Walks.{FailsOf, HoldsOf}
 use Rattle.found_states.specs.Grounds.{Grounds}
 use Rattle.found_states.specs.Parts.{Parts, FixesAll, HoldsAll, FailsAll, WalkedAll, WalkedEach, GroundsAll, IsOnTheWay}
 use Rattle.found_states.proofs.Lists.{one_in}
-use Rattle.found_states.proofs.Finding.{completes_less, finds_here, found_then, within_trans}
+use Rattle.found_states.proofs.Finding.{completes_less, finds_here, found_then, possible_trans, within_trans}
 
 module _ (g : Setting) (d : ℕ) where
   fixes_split : (es : Parts) (e : Context × Term) (B C : VariableSet) → FixesAll g (es ++ e ∷ []) B C → (D : VariableSet) × FixesAll g es B D × Fixes g e.1 D C
@@ -122,5 +122,6 @@ module _ (g : Setting) (d : ℕ) where
         within_trans p c.0 q s.1 c.2.2,
         c.2.3,
         λ t k. fails_after done e rest B h.left.0 t (fault kind at) (h.found.sound c.0 t c.1 (completes_less c.0 q t c.2.1 c.2.2 k)) h.left.1 (c.2.4 t k),
+        possible_trans p c.0 q s.2 c.2.5,
       )
   way_refused sees B p done e rest qs NoMemory h b = tt

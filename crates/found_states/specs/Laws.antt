@@ -2,6 +2,7 @@
 use Rattle.std.specs.Prelude.{replicate, ◌≡◌, ◌⊎◌, ◌<◌, ◌++◌, ℕ, suc, zero, false, true, List, [], ◌∷◌, length, Contains, Some, None, Result, Ok, Err, slice_get, slice_set}
 use Rattle.trace_base.specs.declared.place.Place.{Place}
 use Rattle.tla_values.specs.Data.{Val}
+use Rattle.tla_values.specs.IsValue.{IsValue}
 use Rattle.tla_values.specs.Sets.{items_of}
 use Rattle.tla_values.specs.declared.fault.EvalKind.TheVariants.{Nested}
 use Rattle.tla_core.specs.declared.fault.Fault.{Fault}
@@ -106,12 +107,12 @@ PlacesAreWalked = (g : Setting) (d : ℕ) (sees : List See) (B : VariableSet) (c
     × ((ps : List Places) (q : Places) (rs ss : List Places) → WalkedEach g d sees B ps c a (Ok rs) → Walked g d sees B q c a (Ok ss) → WalkedEach g d sees B (ps ++ q ∷ []) c a (Ok (rs ++ ss)))
     × ((ps : List Places) (q : Places) (f : EvalFault) → Contains ps q → Walked g d sees B q c a (Err f) → WalkedEach g d sees B ps c a (Err f))
 
--- one value for a variable: it has it already, or another, or it gets it, if what is seen of it stands there
+-- one value for a variable: it has it already, or another, or it gets it, if what is seen of it stands there and it is a value
 abbrev pub ValuesAreGiven : Type 0
 ValuesAreGiven = (sees : List See) (B : VariableSet) (p : Places) (x : ℕ) (v : Val) → Fills B p → Agrees sees p →
     (slice_get p x ≡ Some (Some v) → Gets sees B p x (λ w. w ≡ v) (p ∷ []))
     × ((u : Val) → slice_get p x ≡ Some (Some u) → ¬ (u ≡ v) → Gets sees B p x (λ w. w ≡ v) [])
-    × (x < length p → slice_get p x ≡ Some None → AgreesAt sees x v → Gets sees B p x (λ w. w ≡ v) (slice_set p x (Some v) ∷ []))
+    × (x < length p → slice_get p x ≡ Some None → AgreesAt sees x v → IsValue v → Gets sees B p x (λ w. w ≡ v) (slice_set p x (Some v) ∷ []))
     × (¬ AgreesAt sees x v → Gets sees B p x (λ w. w ≡ v) [])
 
 -- a member of a set for a variable that has a value

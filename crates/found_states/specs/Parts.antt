@@ -16,7 +16,7 @@ use Rattle.path_updates.specs.declared.update.See.{See}
 use Rattle.line_steps.specs.Asks.{AreSeen}
 use Rattle.action_reads.specs.Filled.{Completes, Fills, at_next}
 use Rattle.action_reads.specs.Walkable.{Walkable, Walking}
-use Rattle.found_states.specs.Walks.{Agrees, FailsOf, Found, HoldsOf, Meets}
+use Rattle.found_states.specs.Walks.{Agrees, FailsOf, Found, HoldsOf, Meets, StaysPossible}
 use Rattle.found_states.specs.Grounds.{TuplesFix}
 
 -- actions, each in its context
@@ -25,7 +25,7 @@ Parts = List (Context × Term)
 
 -- From any of several places, of a fact and faults of whole states: the places that are found.
 pub record FindsEach (sees : List See) (ps : List Places) (fixes : VariableSet → Type 0) (H : Values → Type 0) (F : Values → Fault → Type 0) (qs : List Places) : Type 0 where
-  pub further : (q : Places) → Contains qs q → (p : Places) × Contains ps p × (length q ≡ length p) × IsWithin p q
+  pub further : (q : Places) → Contains qs q → (p : Places) × Contains ps p × (length q ≡ length p) × IsWithin p q × StaysPossible p q
   pub agree : (q : Places) → Contains qs q → Agrees sees q
   pub filled : (q : Places) (C : VariableSet) → Contains qs q → fixes C → Fills C q
   pub sound : (q : Places) (t : Values) → Contains qs q → Completes q t → H t

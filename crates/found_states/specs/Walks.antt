@@ -23,19 +23,24 @@ use Rattle.action_reads.specs.Filled.{Completes, Fills, at_next}
 abbrev pub Agrees : List See → Places → Type 0
 Agrees sees p = All (λ see. (v : Val) → slice_get p see.path.variable.0 ≡ Some (Some v) → LeadsTo see.path.keys v see.value) sees
 
+-- where some state completes the first places, one completes the others too
+abbrev pub StaysPossible : Places → Places → Type 0
+StaysPossible p q = (u : Values) → Completes p u → (t : Values) × Completes q t
+
 -- From p, of a fact and faults of whole states: the places that are found, where the variables of each set in `fixes` are those that are filled then.
 -- They hold just the states with what is seen of which the fact holds, and none of these states has a fault.
 pub record Finds (sees : List See) (p : Places) (fixes : VariableSet → Type 0) (H : Values → Type 0) (F : Values → Fault → Type 0) (qs : List Places) : Type 0 where
-  pub further : (q : Places) → Contains qs q → (length q ≡ length p) × IsWithin p q
+  pub further : (q : Places) → Contains qs q → (length q ≡ length p) × IsWithin p q × StaysPossible p q
   pub agree : (q : Places) → Contains qs q → Agrees sees q
   pub filled : (q : Places) (C : VariableSet) → Contains qs q → fixes C → Fills C q
   pub sound : (q : Places) (t : Values) → Contains qs q → Completes q t → H t
   pub full : (t : Values) → Completes p t → AreSeen sees t → H t → (q : Places) × Contains qs q × Completes q t
   pub clean : (t : Values) (f : Fault) → Completes p t → AreSeen sees t → F t f → ⊥
 
--- The fault is one that each state has that completes some further filled places, which agree with what is seen.
+-- The fault is one that each state has that completes some further filled places, which agree with what is seen; and there is such a state, where one
+-- completes p.
 abbrev pub Meets : List See → Places → (Values → Fault → Type 0) → Fault → Type 0
-Meets sees p F f = (q : Places) × (length q ≡ length p) × IsWithin p q × Agrees sees q × ((t : Values) → Completes q t → F t f)
+Meets sees p F f = (q : Places) × (length q ≡ length p) × IsWithin p q × Agrees sees q × ((t : Values) → Completes q t → F t f) × StaysPossible p q
 
 abbrev pub Found : List See → Places → (VariableSet → Type 0) → (Values → Type 0) → (Values → Fault → Type 0) → Result (List Places) EvalFault → Type 0
 Found sees p fixes H F (Ok qs) = Finds sees p fixes H F qs

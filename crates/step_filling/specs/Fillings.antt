@@ -2,6 +2,7 @@
 use Rattle.std.specs.Prelude.{◌≡◌, ◌⊎◌, ◌↔◌, ℕ, List, [], ◌∷◌, ◌++◌, All, Contains, Some, Ok, slice_get, slice_set}
 use Rattle.trace_base.specs.declared.place.Place.{Place}
 use Rattle.tla_values.specs.Data.{Val}
+use Rattle.tla_values.specs.IsValue.{IsValue}
 use Rattle.tla_values.specs.Sets.{items_of}
 use Rattle.eval_sets.specs.DescribedSets.{Described}
 use Rattle.eval_sets.specs.Membership.{Belongs}
@@ -32,18 +33,18 @@ Adds P a old new = (P × (new ≡ old ++ a ∷ [])) ⊎ (¬ P × (new ≡ old))
 abbrev pub IsEmpty : Places → ℕ → Type 0
 IsEmpty p x = (w : Val) → ¬ (slice_get p x ≡ Some (Some w))
 
--- the places in which the variable has the value
+-- the places in which the variable has the value, which is one where it is given now
 abbrev pub Assigns : List See → ℕ → Val → Places → List Places → Type 0
 Assigns sees x v p qs =
-    ((w : Val) × (slice_get p x ≡ Some (Some w)) × OneIf (w ≡ v) p qs) ⊎ (IsEmpty p x × OneIf (SeenIn sees x v) (slice_set p x (Some v)) qs)
+    ((w : Val) × (slice_get p x ≡ Some (Some w)) × OneIf (w ≡ v) p qs) ⊎ (IsEmpty p x × IsValue v × OneIf (SeenIn sees x v) (slice_set p x (Some v)) qs)
 
 -- the places in which a variable without a value has one of the values
 abbrev pub AreFilled : List See → ℕ → List Val → Places → List Places → Type 0
 AreFilled sees x vs p qs = (q : Places) → Contains qs q ↔ ((v : Val) × Contains vs v × SeenIn sees x v × (q ≡ slice_set p x (Some v)))
 
--- the same of the members of a set, which is listed at the place
+-- the same of the members of a set, which is listed as a value at the place
 abbrev pub FillsMembers : List See → ℕ → Described → Place → Places → List Places → Type 0
-FillsMembers sees x S at p qs = (listed : Val) × list_at at S (Ok listed) × AreFilled sees x (items_of listed) p qs
+FillsMembers sees x S at p qs = (listed : Val) × list_at at S (Ok listed) × IsValue listed × AreFilled sees x (items_of listed) p qs
 
 -- the places in which the variable has a member of the set
 abbrev pub Chooses : List See → ℕ → Described → Place → Places → List Places → Type 0

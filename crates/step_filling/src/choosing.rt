@@ -51,7 +51,10 @@ fn listed_members(
     ensures fault { IfErr result (Stops (list_at at set)) }
 {
     match list_at(alloc, set, at) {
-        Ok(listed) => Ok(fill_each(alloc, sees, places, number, listed.members())?),
+        Ok(listed) => {
+            listed.is_value();
+            Ok(fill_each(alloc, sees, places, number, listed.members())?)
+        }
         Err(fault) => Err(fault),
     }
 }

@@ -20,6 +20,7 @@ pub fn assigned(
     requires { number.0 < length places.now }
     ensures { IfOk result (λ found. Assigns sees.now number.0 value places.now found.items) }
 {
+    value.is_value();
     match places.get(number) {
         Some(known) => one_if(alloc, *known == value, places),
         None => filled(alloc, sees, places, number, value),

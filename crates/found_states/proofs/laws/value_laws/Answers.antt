@@ -10,7 +10,7 @@ pub returns-clause-values : goal.returns-clause-values
 returns-clause-values c = λ sees B p x v f a. (
   λ e. gets_same sees B p x (λ w. w ≡ v) v f a e refl,
   λ u e n. gets_other sees B p x (λ w. w ≡ v) u e n,
-  λ l e h. gets_new sees B p x (λ w. w ≡ v) v f a l e h refl (λ w i. i),
+  λ l e h k. gets_new sees B p x (λ w. w ≡ v) v f a l e h k refl (λ w i. i),
   λ n. gets_unseen sees B p x (λ w. w ≡ v) (λ w i h. n (subst (λ (u : Val). AgreesAt sees x u) i h)),
 )
 

@@ -6,4 +6,4 @@ use Rattle.step_filling.proofs.choosing.listed_members.Goals as goal
 pub returns-in_ok-fill_each-in-Ok-clause-found : goal.returns-in_ok-fill_each-in-Ok-clause-found
 returns-in_ok-fill_each-in-Ok-clause-found c =
     let found = c.in_ok-fill_each-in-Ok.field-0.items in
-    (c.in-Ok.listed, c.in-Ok.ensures, subst (λ (vs : List Val). AreFilled c.args.sees.now c.args.number.0 vs c.args.places.now found) c.members.ensures c.in_ok-fill_each-in-Ok.ensures)
+    (c.in-Ok.listed, c.in-Ok.ensures, c.is_value.ensures, subst (λ (vs : List Val). AreFilled c.args.sees.now c.args.number.0 vs c.args.places.now found) c.members.ensures c.in_ok-fill_each-in-Ok.ensures)

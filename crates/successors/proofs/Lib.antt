@@ -1,0 +1,9 @@
+mod Answering
+mod Completing
+mod Grounding
+mod Staging
+mod Each
+mod Both
+mod Listed
+mod Giving
+mod Beginning

@@ -1,0 +1,80 @@
+//! Whether a state may stay as it is in a line's step.
+
+ghost use Rattle.std.specs.Prelude.{◌≡◌, ◌≤◌, ◌↔◌, ℕ, IsTrue, OnOk, Some, length, slice_get};
+ghost use Rattle.tla_values.specs.Data.{Val};
+ghost use Rattle.tla_eval.specs.Laws.{IsWithin};
+ghost use Rattle.successors.specs.Taken.{AddsIf, MayRest};
+
+use line_moves::agrees;
+use path_updates::Line;
+use std::alloc::Global;
+use tla_core::{Partial, VarId};
+use tla_values::Value;
+use trace_base::NoMemory;
+
+/// Adds the state before to what is found, where it may stay as it is in the step of the line, whose updates make these places of it.
+pub fn add_rest(
+    alloc: Global,
+    found: &mut Vec<Partial>,
+    stutter: bool,
+    line: &Line,
+    places: &Partial,
+    whole: &Partial,
+    count: u16,
+) -> Result<(), NoMemory>
+    requires { length places.now ≤ count }
+    ensures { OnOk result (AddsIf (MayRest stutter line.now places.now whole.now) whole.now found.old.items found.new.items) }
+{
+    if !rests(stutter, line, places, whole, count) {
+        return Ok(());
+    }
+    let same = whole.copy(alloc)?;
+    found.push(same)?;
+    Ok(())
+}
+
+fn rests(stutter: bool, line: &Line, places: &Partial, whole: &Partial, count: u16) -> bool
+    requires { length places.now ≤ count }
+    ensures { IsTrue result ↔ MayRest stutter line.now places.now whole.now }
+{
+    if !stutter {
+        return false;
+    }
+    match &line.event {
+        Some(_) => false,
+        None => is_within(places, whole, count) && agrees(line.sees.items(), whole),
+    }
+}
+
+/// Whether each value of the first places is one of the second.
+fn is_within(places: &Partial, whole: &Partial, count: u16) -> bool
+    requires { length places.now ≤ count }
+    ensures { IsTrue result ↔ IsWithin places.now whole.now }
+{
+    for index in 0..count {
+        if !keeps(places, whole, VarId(index)) {
+            return false;
+        }
+    }
+    true
+}
+
+/// Whether the variable has its value in the second places too.
+fn keeps(places: &Partial, whole: &Partial, variable: VarId) -> bool
+    ensures { IsTrue result ↔ ((v : Val) → slice_get places.now variable.0 ≡ Some (Some v) → slice_get whole.now variable.0 ≡ Some (Some v)) }
+{
+    match places.get(variable) {
+        None => true,
+        Some(value) => has(whole, variable, value),
+    }
+}
+
+/// Whether the variable has this value.
+fn has(places: &Partial, variable: VarId, value: &Value) -> bool
+    ensures { IsTrue result ↔ (slice_get places.now variable.0 ≡ Some (Some value.now)) }
+{
+    match places.get(variable) {
+        None => false,
+        Some(other) => other.same(value),
+    }
+}

@@ -1,0 +1,106 @@
+ghost use Rattle.std.specs.Prelude.{◌≡◌, length};
+ghost use Rattle.tla_actions.specs.Reads.{in_none};
+ghost use Rattle.line_steps.specs.Says.{IsState};
+ghost use Rattle.line_steps.specs.Asks.{AreSeen, asks, updated};
+ghost use Rattle.line_steps.specs.Steps.{FaultSilent, FaultStep, Silent, Step};
+ghost use Rattle.state_layers.specs.Gives.{Gives};
+ghost use Rattle.successors.specs.Ready.{IsReadyLine, IsReadySpec};
+ghost use Rattle.successors.specs.Taken.{step_fault};
+
+use crate::first::no_values;
+use crate::resting::add_rest;
+use crate::walking::{Course, event_found, silent_found};
+use form_growth::whole_law;
+use found_states::ground_law;
+use line_moves::{agrees, moved, seen_laws};
+use path_updates::Line;
+use state_layers::StepFault;
+use state_sets::states_of;
+use std::alloc::Global;
+use tla_core::{Fault, Partial, State};
+use tla_eval::EvalFault;
+use tla_terms::Spec;
+use walk_grounds::orderly_law;
+
+/// The states to which the line leads from the state, each once; or a fault that its event or Next has at some state that its updates make; or that
+/// there are more than `bound`. Where it has no event and may stutter, the state itself is one, if its updates leave it as it is.
+pub fn successors(
+    alloc: Global,
+    spec: &Spec,
+    stutter: bool,
+    line: &Line,
+    from: &State,
+    bound: u32,
+) -> Result<Vec<State>, StepFault>
+    requires ready { IsReadySpec spec.now }
+    requires fits { IsReadyLine spec.now line.now }
+    requires state { IsState (length spec.now.variables) from.now }
+    ensures { Gives (Step (asks spec.now stutter line.now) from.now) (FaultStep (asks spec.now stutter line.now) (updated line.now.updates) from.now) (AreSeen line.now.sees) bound result }
+{
+    orderly_law();
+    whole_law();
+    seen_laws();
+    let Some(places) = moved(alloc, &line.updates, from)? else {
+        return Ok(Vec::new(alloc));
+    };
+    let sees = line.sees.items();
+    if !agrees(sees, &places) {
+        return Ok(Vec::new(alloc));
+    }
+    let whole = Partial::of(alloc, from)?;
+    let course = Course {
+        spec,
+        from,
+        whole: &whole,
+        sees,
+    };
+    match event_found(alloc, course, &line.event, &places) {
+        Ok(found) => {
+            let mut found = found;
+            let count = spec.variables.len() as u16;
+            add_rest(alloc, &mut found, stutter, line, &places, &whole, count)?;
+            states_of(alloc, &found, bound)
+        }
+        Err(fault) => Err(refused(fault)),
+    }
+}
+
+/// The states to which a step that no line shows leads from the state, each once; or a fault that its operator or Next has at some state; or that there
+/// are more than `bound`.
+pub fn silent_steps(
+    alloc: Global,
+    spec: &Spec,
+    from: &State,
+    bound: u32,
+) -> Result<Vec<State>, StepFault>
+    requires ready { IsReadySpec spec.now }
+    requires state { IsState (length spec.now.variables) from.now }
+    ensures { Gives (Silent spec.now from.now) (FaultSilent spec.now in_none from.now) (λ t. Unit {0}) bound result }
+{
+    orderly_law();
+    whole_law();
+    seen_laws();
+    ground_law();
+    let places = no_values(alloc, spec)?;
+    let whole = Partial::of(alloc, from)?;
+    let course = Course {
+        spec,
+        from,
+        whole: &whole,
+        sees: &[],
+    };
+    match silent_found(alloc, course, spec.silent, &places) {
+        Ok(found) => states_of(alloc, &found, bound),
+        Err(fault) => Err(refused(fault)),
+    }
+}
+
+/// The fault as one of a step.
+pub fn refused(fault: EvalFault) -> StepFault
+    ensures { result ≡ step_fault fault }
+{
+    match fault {
+        EvalFault::Refused(kind, at) => StepFault::Eval(Fault { kind, at }),
+        EvalFault::NoMemory => StepFault::NoMemory,
+    }
+}
