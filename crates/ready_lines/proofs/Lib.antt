@@ -1,0 +1,5 @@
+mod LineLemmas
+mod LogLemmas
+mod Events
+mod Variables
+pub mod UpTo

@@ -1,0 +1,48 @@
+-- What was read under the names of a specification can be asked of it.
+use Rattle.std.specs.Prelude.{ℕ, List, All, Bool, Option, Some, None, Ok}
+use Rattle.tla_terms.specs.declared.spec.Spec.{Spec}
+use Rattle.tla_eval.specs.Laws.{AreValues}
+use Rattle.spec_laws.specs.IsSpec.{IsSpec}
+use Rattle.path_updates.specs.declared.line.Event.{Event}
+use Rattle.path_updates.specs.declared.line.Line.{Line}
+use Rattle.path_updates.specs.declared.line.Log.{Log}
+use Rattle.path_updates.specs.declared.update.See.{See}
+use Rattle.log_lines.specs.Lines.{LineSays}
+use Rattle.log_lines.specs.declared.position.Position.{Position}
+use Rattle.log_lines.specs.declared.kind.Outcome.TheVariants.{Init, Step}
+use Rattle.log_lines.specs.Files.{FileSays, first_line}
+use Rattle.log_lines.specs.declared.file.FileLines.{FileLines}
+use Rattle.log_files.specs.Logs.{IsLogOf, LogsSay, sees_of}
+use Rattle.spec_names.specs.Names.{names_of}
+use Rattle.successors.specs.Ready.{AreOfVariables, IsReadyLine}
+
+-- the arguments of the event are values
+abbrev pub HasValues : Option Event → Type 0
+HasValues None = Unit {0}
+HasValues (Some e) = AreValues e.args
+
+-- each line of the log can be asked of the specification, and what it sees at first is of the specification's variables
+pub record IsReadyLog (s : Spec) (log : Log) : Type 0 where
+  pub init : AreOfVariables s log.init
+  pub lines : All (IsReadyLine s) log.lines
+
+-- what a file says can be asked of the specification, where the arguments of its events are values
+pub record IsReadyFile (s : Spec) (f : FileLines) : Type 0 where
+  pub init : AreOfVariables s (sees_of f.init)
+  pub steps : All (λ line. HasValues line.event → IsReadyLine s line) f.steps
+
+abbrev pub LinesAreReady : Type 0
+LinesAreReady = (s : Spec) (at : Position) (text : List ℕ) (line : Line) → IsSpec s → LineSays (names_of s) at text (Step line) → HasValues line.event → IsReadyLine s line
+
+abbrev pub SeesAreReady : Type 0
+SeesAreReady = (s : Spec) (at : Position) (text : List ℕ) (sees : List See) → IsSpec s → LineSays (names_of s) at text (Init sees) → AreOfVariables s sees
+
+abbrev pub LogsAreReady : Type 0
+LogsAreReady = (s : Spec) (texts : List (List ℕ)) (log : Log) → IsSpec s → LogsSay (names_of s) texts (Ok log) → All (λ line. HasValues line.event) log.lines → IsReadyLog s log
+
+abbrev pub FilesAreReady : Type 0
+FilesAreReady = (s : Spec) (file : ℕ) (many : Bool) (room : ℕ) (bytes : List ℕ) (f : FileLines) → IsSpec s → FileSays (names_of s) (first_line file many room) bytes (Ok f) → IsReadyFile s f
+
+-- the log of files that can be asked
+abbrev pub TogetherReady : Type 0
+TogetherReady = (s : Spec) (files : List FileLines) (log : Log) → IsSpec s → All (IsReadyFile s) files → IsLogOf files log → All (λ line. HasValues line.event) log.lines → IsReadyLog s log

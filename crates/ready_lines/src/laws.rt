@@ -1,0 +1,16 @@
+ghost use Rattle.ready_lines.specs.Laws.{FilesAreReady, LinesAreReady, LogsAreReady, SeesAreReady, TogetherReady};
+
+use action_forms::form_laws;
+use sound_laws::operator_law;
+
+/// Each line of a log that was read under the names of a specification changes and sees its variables, and its event can be taken.
+pub fn logs_are_ready()
+    ensures lines { LinesAreReady }
+    ensures sees { SeesAreReady }
+    ensures logs { LogsAreReady }
+    ensures files { FilesAreReady }
+    ensures together { TogetherReady }
+{
+    form_laws();
+    operator_law();
+}

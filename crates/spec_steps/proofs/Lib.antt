@@ -1,0 +1,4 @@
+mod Reaching
+mod Assumed
+mod Given
+mod Small
