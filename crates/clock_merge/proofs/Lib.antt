@@ -1,3 +1,4 @@
+pub mod Counting
 pub mod Merged
 pub mod OneOrder
 pub mod Rising

@@ -84,7 +84,7 @@ in_logs f (log ∷ logs) s h = elim (append_cases (stamps_in f 0 log) (stamps_fr
   | inr b ↦ let r = in_logs (suc f) logs s b in (suc r.0, omega (arith, r.1), r.2)
 ]
 
-logs_in : (f : ℕ) (logs : Clocks) (k i : ℕ) (log : List ℤ) (c : ℤ) → slice_get logs k ≡ Some log → slice_get log i ≡ Some c → Contains (stamps_from f logs) (c, f + k, i)
+pub logs_in : (f : ℕ) (logs : Clocks) (k i : ℕ) (log : List ℤ) (c : ℤ) → slice_get logs k ≡ Some log → slice_get log i ≡ Some c → Contains (stamps_from f logs) (c, f + k, i)
 logs_in f [] k i log c e g = cc
 logs_in f (l ∷ ls) zero i log c e g =
     let same : l ≡ log = cc in
@@ -125,14 +125,14 @@ none_distinct : IsDistinct same_line []
 unfolding IsDistinct
 none_distinct = tt
 
-logs_distinct : (f : ℕ) (logs : Clocks) → IsDistinct same_line (stamps_from f logs)
+pub logs_distinct : (f : ℕ) (logs : Clocks) → IsDistinct same_line (stamps_from f logs)
 logs_distinct f [] = none_distinct
 logs_distinct f (log ∷ logs) =
     distinct_append same_line (stamps_in f 0 log) (stamps_from (suc f) logs) (log_distinct f 0 log) (logs_distinct (suc f) logs)
     (λ s t h k. let a = in_log f 0 log s h in let b = in_logs (suc f) logs t k in other_file s t (omega (arith, a.0, b.1)))
 
 -- a listed line has its clock
-has_clock : (clocks : Clocks) (s : Stamp) → Contains (stamps_from 0 clocks) s → HasClock clocks (line_of s) s.0
+pub has_clock : (clocks : Clocks) (s : Stamp) → Contains (stamps_from 0 clocks) s → HasClock clocks (line_of s) s.0
 has_clock clocks s h =
     let r = in_logs 0 clocks s h in
     let file : r.0 ≡ s.1 = omega (arith, r.1) in
@@ -194,14 +194,14 @@ module _ {X : Type 0} where
   stands xs i x e = (i, slice_get_within xs i x e, get_or_from_slice_get xs i x x e)
 
 module _ {X Y : Type 0} (f : X → Y) where
-  map_in : (xs : List X) (x : X) → Contains xs x → Contains (map f xs) (f x)
+  pub map_in : (xs : List X) (x : X) → Contains xs x → Contains (map f xs) (f x)
   map_in [] x h = absurd (none_in x h)
   map_in (z ∷ zs) x h = elim (cons_cases z zs x h) [
     | inl e ↦ subst (λ (w : X). Contains (f z ∷ map f zs) (f w)) e (head_in (f z) (map f zs))
     | inr g ↦ tail_in (f z) (map f zs) (f x) (map_in zs x g)
   ]
 
-  in_map : (xs : List X) (y : Y) → Contains (map f xs) y → (x : X) × Contains xs x × (f x ≡ y)
+  pub in_map : (xs : List X) (y : Y) → Contains (map f xs) y → (x : X) × Contains xs x × (f x ≡ y)
   in_map [] y h = absurd (none_in y h)
   in_map (z ∷ zs) y h = elim (cons_cases (f z) (map f zs) y h) [
     | inl e ↦ (z, head_in z zs, e)

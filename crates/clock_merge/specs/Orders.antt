@@ -1,5 +1,5 @@
 -- In which orders the lines of several logs may stand.
-use Rattle.std.specs.Prelude.{◌≡◌, ◌≢◌, ◌⊎◌, ◌<◌, ◌≤◌, ℕ, ℤ, ◌<ℤ◌, ◌≤ℤ◌, List, length, map, slice_get, Some, AllPairs, Contains, Vec}
+use Rattle.std.specs.Prelude.{◌≡◌, ◌≢◌, ◌+◌, ◌⊎◌, ◌<◌, ◌≤◌, ℕ, ℤ, ◌<ℤ◌, ◌≤ℤ◌, List, [], ◌∷◌, length, map, slice_get, Some, AllPairs, Contains, Vec}
 use Rattle.std.specs.List.{AllByRecursion}
 use Rattle.std.specs.declared.alloc.Global.{Global}
 use Rattle.clock_merge.specs.declared.order.LineRef.{LineRef}
@@ -71,3 +71,12 @@ IsOnlyOrder = (clocks : Clocks) (a b : List LineRef) → IsMerged clocks a → I
 -- it is allowed where the clocks alone say what must follow
 abbrev pub IsAllowedByClock : Type 0
 IsAllowedByClock = (clocks : Clocks) (order : List LineRef) → IsMerged clocks order → IsOrder clocks (FollowsByClock clocks) order
+
+-- how many lines the logs have together
+abbrev pub lines_in : Clocks → ℕ
+lines_in [] = 0
+lines_in (log ∷ logs) = length log + lines_in logs
+
+-- it is as long as all logs together
+abbrev pub IsAsLong : Type 0
+IsAsLong = (clocks : Clocks) (order : List LineRef) → IsMerged clocks order → length order ≡ lines_in clocks

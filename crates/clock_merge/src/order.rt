@@ -1,6 +1,6 @@
 ghost use Rattle.std.specs.Prelude.{◌≡◌, ◌++◌, ◌≤◌, IfOk, OnOk, length, map};
 ghost use Rattle.std.specs.List.Sorted.{IsPermutation, IsSorted};
-ghost use Rattle.clock_merge.specs.Orders.{AreFew, IsAllowedByClock, IsMerged, IsOnlyOrder, NoneFalls, clocks_of};
+ghost use Rattle.clock_merge.specs.Orders.{AreFew, IsAllowedByClock, IsAsLong, IsMerged, IsOnlyOrder, NoneFalls, clocks_of};
 ghost use Rattle.clock_merge.specs.Stamps.{line_of, stamp_cmp, stamps_from, stamps_in};
 
 use std::alloc::{AllocError, Global};
@@ -25,10 +25,11 @@ pub fn merge(alloc: Global, clocks: &[Vec<i64>]) -> Result<Vec<LineRef>, NoMemor
     lines_of(alloc, stamps.as_slice())
 }
 
-/// That the order by clock, log and place is the only one, and one that the clocks alone allow.
+/// That the order by clock, log and place is the only one, one that the clocks alone allow, and as long as all logs together.
 pub fn order_laws()
     ensures only { IsOnlyOrder }
     ensures by_clock { IsAllowedByClock }
+    ensures long { IsAsLong }
 {}
 
 /// Each line with its clock, log by log.

@@ -1,5 +1,4 @@
-ghost use Rattle.std.specs.Prelude.{◌≡◌, ◌<◌, ◌≤◌, length};
-ghost use Rattle.tla_terms.specs.Lists.{terms_list};
+ghost use Rattle.std.specs.Prelude.{◌≡◌, ◌≤◌, length};
 ghost use Rattle.line_steps.specs.Logs.{system};
 ghost use Rattle.state_layers.specs.Gives.{IsSmall};
 ghost use Rattle.spec_steps.specs.Beside.{IsReady, asked};
@@ -24,7 +23,6 @@ pub struct SpecSteps<'a> {
     pub within: u32,
     pub limit: u32,
     pub ghost few_lines: { length log.now.lines ≤ 200000 },
-    pub ghost few_assumptions: { length (terms_list spec.now.assumes) < 4294967296 },
     pub ghost some_step: { 1 ≤ within },
     pub ghost few_steps: { within ≤ 8 },
     pub ghost small_layers: { limit ≤ 100000 },
@@ -68,12 +66,12 @@ impl<'a> Steps for SpecSteps<'a> {
         line_of(self.log, line).at
     }
 
-    fn assumes(&self) -> u32 {
-        self.spec.assumes.len() as u32
+    fn assumes(&self) -> usize {
+        self.spec.assumes.len()
     }
 
-    fn assumed(&self, alloc: Global, index: u32) -> Result<Option<Place>, StepFault> {
-        match self.spec.assumes.get(index as usize) {
+    fn assumed(&self, alloc: Global, index: usize) -> Result<Option<Place>, StepFault> {
+        match self.spec.assumes.get(index) {
             Some(term) => judged(alloc, self.spec, term),
             None => Ok(None),
         }

@@ -68,12 +68,12 @@ pub trait Steps {
         ensures { result ≡ (system self.now).expected line from.now };
 
     /// How many assumptions there are.
-    fn assumes(&self) -> u32
+    fn assumes(&self) -> usize
         ensures { result ≡ (system self.now).assumes };
 
     /// Nothing where the assumption is TRUE, or its place where it is FALSE. Where there is none of the number, the
     /// answer tells nothing.
-    fn assumed(&self, alloc: Global, index: u32) -> Result<Option<Place>, StepFault>
+    fn assumed(&self, alloc: Global, index: usize) -> Result<Option<Place>, StepFault>
         requires ready { ready self.now }
         ensures { index < (system self.now).assumes → Tells (system self.now) index result };
 

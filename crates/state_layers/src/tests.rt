@@ -91,7 +91,7 @@ impl Model for Edge {
 struct Table {
     edges: Vec<Edge>,
     assumptions: Vec<Result<Option<Place>, Fault>>,
-    assumes: u32,
+    assumes: usize,
     count: u32,
     within: u32,
     limit: u32,
@@ -192,12 +192,12 @@ impl Steps for Table {
         }
     }
 
-    fn assumes(&self) -> u32 {
+    fn assumes(&self) -> usize {
         self.assumes
     }
 
-    fn assumed(&self, _alloc: Global, index: u32) -> Result<Option<Place>, StepFault> {
-        match self.assumptions.get(index as usize) {
+    fn assumed(&self, _alloc: Global, index: usize) -> Result<Option<Place>, StepFault> {
+        match self.assumptions.get(index) {
             None => Ok(None),
             Some(Ok(told)) => Ok(*told),
             Some(Err(fault)) => Err(StepFault::Eval(*fault)),

@@ -1,6 +1,1 @@
-pub mod FormLemmas
-pub mod JsonLemmas
-pub mod JudgeLemmas
-pub mod LogLemmas
-pub mod Positions
-pub mod WordLemmas
+pub mod CallLemmas

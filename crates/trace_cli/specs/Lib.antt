@@ -1,7 +1,3 @@
-pub mod Words
-pub mod Log
-pub mod Form
-pub mod Fields
-pub mod Report
-pub mod Run
 pub mod Codes
+pub mod Calls
+pub mod Run

@@ -1,10 +1,11 @@
-ghost use Rattle.std.specs.Prelude.{◌≡◌, ◌≢◌, ◌⊎◌, ◌≤◌};
-ghost use Rattle.trace_base.specs.Device.{Rose};
-ghost use Rattle.trace_cli.specs.Words.{words_of};
+ghost use Rattle.std.specs.Prelude.{◌≡◌, ◌≢◌, ◌≤◌};
+ghost use Rattle.run_words.specs.Line.{words_of};
 ghost use Rattle.trace_cli.specs.Codes.{code_of};
-ghost use Rattle.trace_cli.specs.Run.{HoldsReport, HoldsPart};
+ghost use Rattle.trace_cli.specs.Run.{HasFailed, HoldsPart, HoldsReport};
 
-use crate::judge::{Stop, judge};
+use crate::judge::judge;
+use run_stages::Stop;
+use run_texts::device_text;
 use std::alloc::Global;
 use trace_base::{Files, Sink};
 
@@ -19,7 +20,7 @@ pub enum Status {
     Words,
     /// A file was refused, missing or too long.
     Reading,
-    /// An evaluation faults.
+    /// An evaluation faults, or an assumption is FALSE.
     Evaluation,
     /// A limit of layers was passed.
     Limit,
@@ -45,7 +46,8 @@ pub fn run<F: Files, S: Sink>(alloc: Global, words: &[String], files: &mut F, ou
     ensures report { result ≢ Status.Device → result ≢ Status.Memory
         → HoldsReport (words_of words.now) (F.holds files.old) (F.faults files.old) (F.faults files.new) result (S.written out.old) (S.written out.new) }
     ensures part { HoldsPart (words_of words.now) (F.holds files.old) (F.faults files.old) (F.faults files.new) (S.written out.old) (S.written out.new) }
-    ensures device { result ≡ Status.Device → Rose (F.faults files.old) (F.faults files.new) ⊎ Rose (S.faults out.old) (S.faults out.new) }
+    ensures device { result ≡ Status.Device → HasFailed (words_of words.now) (F.holds files.old) (F.faults files.old) (F.faults files.new)
+        (S.faults out.old) (S.faults out.new) (S.written out.old) (S.written out.new) }
     ensures same { F.holds files.new ≡ F.holds files.old }
     ensures files_later { F.faults files.old ≤ F.faults files.new }
     ensures out_later { S.faults out.old ≤ S.faults out.new }
@@ -55,7 +57,19 @@ pub fn run<F: Files, S: Sink>(alloc: Global, words: &[String], files: &mut F, ou
             Ok(()) => judged.status,
             Err(_) => Status::Device,
         },
-        Err(Stop::Device) => Status::Device,
-        Err(Stop::NoMemory) => Status::Memory,
+        Err(stop) => match stop {
+            Stop::Refused(report) => match out.put(report.as_bytes()) {
+                Ok(()) => Status::Reading,
+                Err(_) => Status::Device,
+            },
+            Stop::Device(name) => match device_text(alloc, name.as_str()) {
+                Ok(line) => {
+                    let _ = out.put(line.as_bytes());
+                    Status::Device
+                }
+                Err(_) => Status::Memory,
+            },
+            Stop::NoMemory => Status::Memory,
+        },
     }
 }

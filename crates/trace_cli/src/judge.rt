@@ -1,32 +1,21 @@
-ghost use Rattle.std.specs.Prelude.{◌≡◌, ◌≤◌, IfOk, IfErr, IsErrOf, List, codes, string_bytes, length, vec_len};
-ghost use Rattle.trace_base.specs.Device.{Rose};
-ghost use Rattle.state_layers.specs.Answers.{IsAnswer};
-ghost use Rattle.state_layers.specs.declared.answer.Answer.{Answer};
-ghost use Rattle.first_form.specs.Terms.{IsSpec};
-ghost use Rattle.trace_cli.specs.Fields.{AreFields};
-ghost use Rattle.trace_cli.specs.declared.fields.Field.{Field};
-ghost use Rattle.trace_cli.specs.Form.{first_form};
-ghost use Rattle.trace_cli.specs.Log.{LogSays, StopsBy, pieces_of};
-ghost use Rattle.first_form.specs.Module.{Spells};
-ghost use Rattle.trace_cli.specs.Report.{answer_text};
-ghost use Rattle.trace_cli.specs.Run.{Calls, Says, RefusesFile, ModuleIs, module_text, line_text, status_of};
-ghost use Rattle.trace_cli.specs.Words.{AreWords, words_of};
-ghost use Rattle.trace_cli.specs.declared.judge.Stop.TheVariants.{NoMemory};
+ghost use Rattle.std.specs.Prelude.{◌≡◌, ◌≤◌, IfOk, IfErr, length, string_bytes};
+ghost use Rattle.run_words.specs.Line.{words_of};
+ghost use Rattle.run_words.specs.Words.{JobMeets};
+ghost use Rattle.run_stages.specs.Stops.{StopsBy};
+ghost use Rattle.run_stages.specs.declared.stop.Stop.TheVariants.{NoMemory};
+ghost use Rattle.run_texts.specs.Files.{words_text};
+ghost use Rattle.spec_steps.specs.Beside.{IsReady};
+ghost use Rattle.trace_cli.specs.Calls.{Answers, Calls, status_of};
+ghost use Rattle.trace_cli.specs.Run.{IsStop, Runs};
 
-use crate::answer_report::{Labels, report_answer};
 use crate::call::Status;
-use crate::fields::sort_fields;
-use crate::log::{Line, LogFault, read_log};
-use crate::steps::Form;
-use crate::words::{Job, read_words};
-use first_form::{Spec, read_module};
+use run_stages::{Accepted, Stop, all_files, read_all};
+use run_texts::{Labels, answer_text, words_text};
+use run_words::{Job, Words, read_words};
+use spec_steps::{SpecSteps, small_law};
 use state_layers::{Answer, search_layers};
-use std::alloc::{AllocError, Global};
-use trace_base::{Files, ReadFault, read_file};
-
-const MODULE_LIMIT: usize = 1_048_576;
-
-const LOG_LIMIT: usize = 67_108_864;
+use std::alloc::Global;
+use trace_base::Files;
 
 /// A report, and the status that goes with it.
 #[derive(Drop)]
@@ -35,194 +24,77 @@ pub struct Judged {
     pub report: String,
 }
 
-/// Why there is no report.
-#[derive(Clone, Copy, Drop)]
-pub enum Stop {
-    Device,
-    NoMemory,
-}
-
-impl From<AllocError> for Stop {
-    ghost from_gives = { λ _ e. e ≡ NoMemory };
-
-    fn from(_: AllocError) -> Self {
-        Stop::NoMemory
-    }
-}
-
 /// What the words and the files call for.
 pub fn judge<F: Files>(alloc: Global, words: &[String], files: &mut F) -> Result<Judged, Stop>
-    ensures calls { IfOk result (λ j. Calls (words_of words.now) (F.holds files.old) (F.faults files.old) (F.faults files.new)
-        j.status (string_bytes j.report)) }
-    ensures device { IsErrOf result Stop.Device → Rose (F.faults files.old) (F.faults files.new) }
+    ensures runs { IfOk result (λ j. Runs (words_of words.now) (F.holds files.old) (F.faults files.old) (F.faults files.new) j.status (string_bytes j.report)) }
+    ensures stopped { IfErr result (IsStop (words_of words.now) (F.holds files.old) (F.faults files.old) (F.faults files.new)) }
     ensures same { F.holds files.new ≡ F.holds files.old }
     ensures later { F.faults files.old ≤ F.faults files.new }
 {
-    match read_words(words) {
-        Some(job) => judge_job(alloc, words, job, files),
+    let read = read_words(alloc, words)?;
+    match read {
+        Some(command) => match &command {
+            Words::Validate(job) => judge_job(alloc, job, files),
+            Words::Check(_, _) => refuse_words(alloc),
+            Words::SelfRun(_) => refuse_words(alloc),
+        },
         None => refuse_words(alloc),
     }
 }
 
 fn refuse_words(alloc: Global) -> Result<Judged, Stop>
     ensures status { IfOk result (λ j. j.status ≡ Status.Words) }
-    ensures report { IfOk result (λ j. string_bytes j.report ≡ codes "WORDS REFUSED\n") }
-    ensures device { ¬ IsErrOf result Stop.Device }
+    ensures report { IfOk result (λ j. string_bytes j.report ≡ words_text) }
+    ensures stopped { IfErr result (λ stop. stop ≡ NoMemory) }
 {
     Ok(Judged {
         status: Status::Words,
-        report: String::from_str(alloc, "WORDS REFUSED\n")?,
+        report: words_text(alloc)?,
     })
 }
 
-/// Reads the module's file.
-fn judge_job<F: Files>(
-    alloc: Global,
-    words: &[String],
-    job: Job<'_>,
-    files: &mut F,
-) -> Result<Judged, Stop>
-    requires { AreWords (words_of words.now) job.name.now job.module.now job.log.now }
-    ensures calls { IfOk result (λ j. Calls (words_of words.now) (F.holds files.old) (F.faults files.old) (F.faults files.new)
-        j.status (string_bytes j.report)) }
-    ensures device { IsErrOf result Stop.Device → Rose (F.faults files.old) (F.faults files.new) }
+/// What a job of `validate` calls for.
+fn judge_job<F: Files>(alloc: Global, job: &Job, files: &mut F) -> Result<Judged, Stop>
+    requires { JobMeets job.now }
+    ensures calls { IfOk result (λ j. Calls (F.holds files.old) (F.faults files.old) (F.faults files.new) job.now j.status (string_bytes j.report)) }
+    ensures stopped { IfErr result (StopsBy (F.holds files.old) (F.faults files.old) (F.faults files.new) job.now) }
     ensures same { F.holds files.new ≡ F.holds files.old }
     ensures later { F.faults files.old ≤ F.faults files.new }
 {
-    match read_file(alloc, files, job.module, MODULE_LIMIT) {
-        Ok(text) => judge_module(alloc, words, job, &text, files),
-        Err(fault) => refuse_file(alloc, fault, job.module),
-    }
+    let accepted = read_all(alloc, job, files)?;
+    answer(alloc, job, &accepted)
 }
 
-/// Reads the module's text.
-fn judge_module<F: Files>(
-    alloc: Global,
-    words: &[String],
-    job: Job<'_>,
-    text: &[u8],
-    files: &mut F,
-) -> Result<Judged, Stop>
-    requires { ModuleIs (words_of words.now) (F.holds files.old) job.name.now job.module.now job.log.now text.now }
-    ensures calls { IfOk result (λ j. Calls (words_of words.now) (F.holds files.old) (F.faults files.old) (F.faults files.new)
-        j.status (string_bytes j.report)) }
-    ensures device { IsErrOf result Stop.Device → Rose (F.faults files.old) (F.faults files.new) }
-    ensures same { F.holds files.new ≡ F.holds files.old }
-    ensures later { F.faults files.old ≤ F.faults files.new }
+/// What is true of the specification beside the log.
+fn answer(alloc: Global, job: &Job, accepted: &Accepted) -> Result<Judged, Stop>
+    requires meets { JobMeets job.now }
+    requires ready { IsReady accepted.now.spec accepted.now.log }
+    requires few_lines { length accepted.now.log.lines ≤ 200000 }
+    ensures answers { IfOk result (λ j. Answers job.now accepted.now.program accepted.now.config accepted.now.spec accepted.now.log j.status (string_bytes j.report)) }
+    ensures stopped { IfErr result (λ stop. stop ≡ NoMemory) }
 {
-    match read_module(alloc, job.name, text)? {
-        Some(spec) => judge_spec(alloc, words, job, text, &spec, files),
-        None => refuse_module(alloc, job.module),
-    }
-}
-
-fn refuse_module(alloc: Global, file: &str) -> Result<Judged, Stop>
-    ensures status { IfOk result (λ j. j.status ≡ Status.Reading) }
-    ensures report { IfOk result (λ j. string_bytes j.report ≡ module_text file.now) }
-    ensures device { ¬ IsErrOf result Stop.Device }
-{
-    Ok(Judged {
-        status: Status::Reading,
-        report: format!(in alloc; "REFUSED P4 OutOfProfile FIRST at {file}:1:1\n")?,
-    })
-}
-
-/// Reads the log's file.
-fn judge_spec<F: Files>(
-    alloc: Global,
-    words: &[String],
-    job: Job<'_>,
-    text: &[u8],
-    spec: &Spec,
-    files: &mut F,
-) -> Result<Judged, Stop>
-    requires module_is { ModuleIs (words_of words.now) (F.holds files.old) job.name.now job.module.now job.log.now text.now }
-    requires spells { Spells job.name.now spec.now text.now }
-    requires sound { IsSpec spec.now }
-    ensures calls { IfOk result (λ j. Calls (words_of words.now) (F.holds files.old) (F.faults files.old) (F.faults files.new)
-        j.status (string_bytes j.report)) }
-    ensures device { IsErrOf result Stop.Device → Rose (F.faults files.old) (F.faults files.new) }
-    ensures same { F.holds files.new ≡ F.holds files.old }
-    ensures later { F.faults files.old ≤ F.faults files.new }
-{
-    match read_file(alloc, files, job.log, LOG_LIMIT) {
-        Ok(log_text) => judge_log(alloc, spec, job.module, job.log, log_text),
-        Err(fault) => refuse_file(alloc, fault, job.log),
-    }
-}
-
-/// Reads the log's lines.
-fn judge_log(
-    alloc: Global,
-    spec: &Spec,
-    file: &str,
-    log: &str,
-    text: Vec<u8>,
-) -> Result<Judged, Stop>
-    requires sound { IsSpec spec.now }
-    requires short { length text.items ≤ 67108864 }
-    ensures says { IfOk result (λ j. Says spec.now file.now log.now text.items j.status (string_bytes j.report)) }
-    ensures device { ¬ IsErrOf result Stop.Device }
-{
-    match read_lines(alloc, spec, text) {
-        Ok(lines) => judge_lines(alloc, spec, file, log, &lines),
-        Err(LogFault::NoMemory) => Err(Stop::NoMemory),
-        Err(LogFault::Refused(line)) => refuse_line(alloc, log, line),
-    }
-}
-
-/// The log's lines. Its bytes are let go before the search.
-fn read_lines(alloc: Global, spec: &Spec, text: Vec<u8>) -> Result<Vec<Line>, LogFault>
-    requires sound { IsSpec spec.now }
-    requires short { length text.items ≤ 67108864 }
-    ensures says { IfOk result (λ lines. LogSays spec.now.variables (pieces_of text.items) lines.items) }
-    ensures few { IfOk result (λ lines. vec_len lines ≤ 200000) }
-    ensures stops { IfErr result (StopsBy spec.now.variables (pieces_of text.items)) }
-{
-    read_log(alloc, &spec.variables, &text)
-}
-
-fn refuse_line(alloc: Global, log: &str, line: u32) -> Result<Judged, Stop>
-    ensures status { IfOk result (λ j. j.status ≡ Status.Reading) }
-    ensures report { IfOk result (λ j. string_bytes j.report ≡ line_text log.now line) }
-    ensures device { ¬ IsErrOf result Stop.Device }
-{
-    let mut report = format!(in alloc; "REFUSED O3 BadField FIRST at {log}")?;
-    write!(report, ":{line}\n")?;
-    Ok(Judged {
-        status: Status::Reading,
-        report,
-    })
-}
-
-/// Searches the layers of states for an answer.
-fn judge_lines(
-    alloc: Global,
-    spec: &Spec,
-    file: &str,
-    log: &str,
-    lines: &[Line],
-) -> Result<Judged, Stop>
-    requires sound { IsSpec spec.now }
-    requires few { length lines.now ≤ 200000 }
-    ensures answer { IfOk result (λ j. (fields : List Field) × (a : Answer) × AreFields spec.now.variables fields
-        × IsAnswer (first_form spec.now lines.now) a × (j.status ≡ status_of a)
-        × (string_bytes j.report ≡ answer_text file.now log.now (length lines.now) fields a)) }
-    ensures device { ¬ IsErrOf result Stop.Device }
-{
-    let form = Form { spec, lines };
-    let answer = search_layers(alloc, &form)?;
-    let fields = sort_fields(alloc, &spec.variables)?;
-    let labels = Labels {
-        file,
-        log,
-        lines: lines.len(),
-        fields: &fields,
+    let limit = job.options.limit;
+    let steps = SpecSteps {
+        spec: &accepted.spec,
+        log: &accepted.log,
+        stutter: job.options.stutter,
+        within: job.options.within,
+        limit,
     };
-    let report = report_answer(alloc, labels, &answer)?;
+    small_law(&steps);
+    let answer = search_layers(alloc, &steps)?;
+    let files = all_files(alloc, &accepted.program, &accepted.config)?;
+    let labels = Labels {
+        files: &files,
+        logs: &job.logs,
+        variables: &accepted.spec.variables,
+        unchecked: &accepted.spec.unchecked,
+        lines: accepted.log.lines.len(),
+        limit,
+    };
     Ok(Judged {
         status: status_of(&answer),
-        report,
+        report: answer_text(alloc, &labels, &answer)?,
     })
 }
 
@@ -231,31 +103,13 @@ fn status_of(answer: &Answer) -> Status
 {
     match answer {
         Answer::Explained { .. } => Status::Done,
-        Answer::NotExplained { .. } | Answer::NoInitial => Status::Not,
-        Answer::InitFault { .. }
-        | Answer::Fault { .. }
-        | Answer::AssumeFault { .. }
-        | Answer::AssumeFalse { .. } => Status::Evaluation,
-        Answer::LayerLimit { .. } | Answer::TotalLimit { .. } => Status::Limit,
-    }
-}
-
-/// The report of a file that is missing or too long.
-fn refuse_file(alloc: Global, fault: ReadFault, name: &str) -> Result<Judged, Stop>
-    ensures status { IfOk result (λ j. j.status ≡ Status.Reading) }
-    ensures report { IfOk result (λ j. RefusesFile fault (string_bytes j.report) name.now) }
-    ensures device { IsErrOf result Stop.Device → fault ≡ ReadFault.Failed }
-{
-    match fault {
-        ReadFault::Missing => Ok(Judged {
-            status: Status::Reading,
-            report: format!(in alloc; "REFUSED Missing {name}\n")?,
-        }),
-        ReadFault::TooLong => Ok(Judged {
-            status: Status::Reading,
-            report: format!(in alloc; "REFUSED TooLong {name}\n")?,
-        }),
-        ReadFault::Failed => Err(Stop::Device),
-        ReadFault::NoMemory => Err(Stop::NoMemory),
+        Answer::NotExplained { .. } => Status::Not,
+        Answer::NoInitial => Status::Not,
+        Answer::InitFault { .. } => Status::Evaluation,
+        Answer::Fault { .. } => Status::Evaluation,
+        Answer::AssumeFault { .. } => Status::Evaluation,
+        Answer::AssumeFalse { .. } => Status::Evaluation,
+        Answer::LayerLimit { .. } => Status::Limit,
+        Answer::TotalLimit { .. } => Status::Limit,
     }
 }

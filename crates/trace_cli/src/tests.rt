@@ -1,17 +1,32 @@
-ghost use Rattle.std.specs.Prelude.{◌≡◌, IfOk, vec_len};
-
 use crate::{Status, run};
 use std::alloc::{AllocError, Global};
 use std::rt::HostRuntime;
 use std::test::Fail;
 use trace_base::{MemoryFiles, MemorySink, Text};
 
-/// The files of a call, the calls on them that fail, and the room of the sink.
+const COUNTER: &[u8] =
+    b"---- MODULE Counter ----\nEXTENDS Integers\nVARIABLE x\nInit == x = 0\nNext == x' = x + 1\n====\n";
+
+const TWO_LINES: &[u8] = b"{\"see\":[[\"x\",1]]}\n{\"see\":[[\"x\",2]]}\n";
+
+const CONFIGURATION: &[u8] = b"SPECIFICATION Spec\n";
+
+const SPECIFIED: &[u8] =
+    b"---- MODULE Specified ----\nEXTENDS Counter\nSpec == Init /\\ [][Next]_x\nJump(n) == x' = n\n====\n";
+
+const EVENTS: &[u8] = b"{\"event\":\"Jump\",\"args\":[2]}\n{\"update\":[[\"set\",\"x\",2]]}\n";
+
+const SILENT: &str =
+    "EXPLAINED lines=2 widest=1\n{\"state\":{\"x\":0},\"step\":\"init\"}\n{\"state\":{\"x\":1},\"step\":\"silent\"}\n{\"file\":1,\"line\":1,\"state\":{\"x\":2},\"step\":\"line\"}\n{\"file\":1,\"line\":2,\"state\":{\"x\":2},\"step\":\"line\"}\n";
+
+const EXPLAINED: &str =
+    "EXPLAINED lines=2 widest=1\n{\"state\":{\"x\":0},\"step\":\"init\"}\n{\"file\":1,\"line\":1,\"state\":{\"x\":1},\"step\":\"line\"}\n{\"file\":1,\"line\":2,\"state\":{\"x\":2},\"step\":\"line\"}\n";
+
+/// The calls on the files that fail, those on the sink that fail, and the room of the sink.
 #[derive(Clone, Copy, Drop)]
 struct Given<'a> {
-    module: &'a [u8],
-    log: &'a [u8],
-    failing: &'a [u64],
+    reads: &'a [u64],
+    writes: &'a [u64],
     room: usize,
 }
 
@@ -23,85 +38,137 @@ fn words_of(alloc: Global, words: &[&str]) -> Result<Vec<String>, AllocError> {
     Ok(list)
 }
 
-/// What `run` answers where `Counter.tla` and `c.log` are the files, and what the sink then holds.
+/// What `run` answers where the texts above are the files, and what the sink then holds.
 fn answer(alloc: Global, words: &[&str], given: Given) -> Result<(Status, Vec<u8>), AllocError> {
     let words = words_of(alloc, words)?;
     let module = (
         Text::from_text(alloc, "Counter.tla")?,
-        Vec::from_slice(alloc, given.module)?,
+        Vec::from_slice(alloc, COUNTER)?,
     );
     let log = (
         Text::from_text(alloc, "c.log")?,
-        Vec::from_slice(alloc, given.log)?,
+        Vec::from_slice(alloc, TWO_LINES)?,
     );
-    let files = Vec::from_array(alloc, [module, log])?;
-    let mut files = MemoryFiles::new(files, Vec::from_slice(alloc, given.failing)?);
+    let specified = (
+        Text::from_text(alloc, "Specified.tla")?,
+        Vec::from_slice(alloc, SPECIFIED)?,
+    );
+    let configuration = (
+        Text::from_text(alloc, "s.cfg")?,
+        Vec::from_slice(alloc, CONFIGURATION)?,
+    );
+    let events = (
+        Text::from_text(alloc, "e.log")?,
+        Vec::from_slice(alloc, EVENTS)?,
+    );
+    let files = Vec::from_array(alloc, [module, log, specified, configuration, events])?;
+    let mut files = MemoryFiles::new(files, Vec::from_slice(alloc, given.reads)?);
     let buffer = Vec::with_capacity(alloc, given.room)?;
-    let mut sink = MemorySink::new(buffer, given.room, Vec::new(alloc));
+    let mut sink = MemorySink::new(buffer, given.room, Vec::from_slice(alloc, given.writes)?);
     let status = run(alloc, &words, &mut files, &mut sink);
     Ok((status, Vec::from_slice(alloc, sink.written())?))
 }
 
-const COUNTER: &[u8] =
-    b"---- MODULE Counter ----\nEXTENDS Integers\nVARIABLE x\nInit == x = 0\nNext == x' = x + 1\n====\n";
-
-/// The words of a call where Counter explains one line, its failing calls and its room, and what it answers.
+/// The words of a call, its failing reads and writes and its room, and what it answers.
 #[derive(Drop)]
-struct Case<'a>(&'a [&'a str], &'a [u64], usize, Status, &'a str);
+struct Case<'a>(&'a [&'a str], &'a [u64], &'a [u64], usize, Status, &'a str);
 
-const CASES: [Case<'static>; 9] = [
-    Case(&[], &[], 99, Status::Words, "WORDS REFUSED\n"),
+const CASES: [Case<'static>; 12] = [
+    Case(&[], &[], &[], 999, Status::Words, "WORDS REFUSED\n"),
     Case(
         &["validate", "Counter.tla"],
         &[],
-        99,
+        &[],
+        999,
         Status::Words,
         "WORDS REFUSED\n",
     ),
     Case(
-        &["validate", "Counter.tla", "-c.log"],
+        &["selfrun", "5"],
         &[],
-        99,
+        &[],
+        999,
         Status::Words,
         "WORDS REFUSED\n",
+    ),
+    Case(
+        &["validate", "Counter.tla", "c.log"],
+        &[],
+        &[],
+        999,
+        Status::Done,
+        EXPLAINED,
+    ),
+    Case(
+        &[
+            "validate",
+            "--config",
+            "s.cfg",
+            "--within",
+            "2",
+            "--silent",
+            "Next",
+            "--stutter",
+            "Specified.tla",
+            "e.log",
+        ],
+        &[],
+        &[],
+        999,
+        Status::Done,
+        SILENT,
     ),
     Case(
         &["validate", "Other.tla", "c.log"],
         &[],
-        99,
+        &[],
+        999,
         Status::Reading,
         "REFUSED Missing Other.tla\n",
     ),
     Case(
         &["validate", "Counter.tla", "d.log"],
         &[],
-        99,
+        &[],
+        999,
         Status::Reading,
         "REFUSED Missing d.log\n",
     ),
     Case(
         &["validate", "Counter.tla", "c.log"],
         &[1],
-        99,
+        &[],
+        999,
         Status::Device,
-        "",
-    ),
-    Case(
-        &["validate", "Counter.tla", "c.log"],
-        &[2],
-        99,
-        Status::Device,
-        "",
+        "DEVICE FAULT Counter.tla\n",
     ),
     Case(
         &["validate", "Counter.tla", "c.log"],
         &[4],
-        99,
+        &[],
+        999,
+        Status::Device,
+        "DEVICE FAULT c.log\n",
+    ),
+    Case(
+        &["validate", "Counter.tla", "c.log"],
+        &[1],
+        &[1],
+        999,
         Status::Device,
         "",
     ),
     Case(
         &["validate", "Counter.tla", "c.log"],
+        &[],
+        &[1],
+        999,
+        Status::Device,
+        "",
+    ),
+    Case(
+        &["validate", "Counter.tla", "c.log"],
+        &[],
         &[],
         9,
         Status::Device,
@@ -112,11 +179,10 @@ const CASES: [Case<'static>; 9] = [
 #[test]
 fn words_and_files(rt: HostRuntime) -> Result<(), Fail> {
     let alloc = rt.alloc();
-    for Case(words, failing, room, status, report) in &CASES {
+    for Case(words, reads, writes, room, status, report) in &CASES {
         let given = Given {
-            module: COUNTER,
-            log: b"{}",
-            failing,
+            reads,
+            writes,
             room: *room,
         };
         let told = answer(alloc, words, given)?;

@@ -1,5 +1,41 @@
-use Rattle.trace_cli.proofs.JudgeLemmas.{calls_no_device}
+use Rattle.std.proofs.Common.{◌∙◌, ap, List, ℕ}
+use Rattle.run_texts.specs.Files.{device_text}
+use Rattle.trace_cli.proofs.CallLemmas.{device_part, device_stop, put_device, refused_stop, report_part, runs_no_device}
 use Rattle.trace_cli.proofs.call.run.Goals as goal
 
+pub returns-in-Ok-put-clause-part : goal.returns-in-Ok-put-clause-part
+returns-in-Ok-put-clause-part g c =
+    report_part c.put.result _ _ _ _ _ _ _ _ _ c.in-Ok.ensures.runs c.as_bytes.ensures.value c.put.ensures.appended c.put.ensures.part
+
 pub returns-in-Ok-put-clause-device : goal.returns-in-Ok-put-clause-device
-returns-in-Ok-put-clause-device g c = λ e. absurd (calls_no_device _ _ _ _ _ _ c.in-Ok.ensures.calls e)
+returns-in-Ok-put-clause-device g c = λ e. absurd (runs_no_device _ _ _ _ _ _ c.in-Ok.ensures.runs e)
+
+pub returns-in-Ok-clause-part : goal.returns-in-Ok-clause-part
+returns-in-Ok-clause-part g c =
+    report_part c.put.result _ _ _ _ _ _ _ _ _ c.in-Ok.ensures.runs c.as_bytes.ensures.value c.put.ensures.appended c.put.ensures.part
+
+pub returns-in-Ok-put-2-clause-part : goal.returns-in-Ok-put-2-clause-part
+returns-in-Ok-put-2-clause-part g c =
+    let put = c.put-in-Refused in
+    report_part put.result _ _ _ _ _ _ _ _ _ (refused_stop _ _ _ _ _ _ c.in-Refused.is c.in-Err.ensures.stopped) c.as_bytes-in-Refused.ensures.value
+    put.ensures.appended put.ensures.part
+
+pub returns-in-Refused-clause-part : goal.returns-in-Refused-clause-part
+returns-in-Refused-clause-part g c =
+    let put = c.put-in-Refused in
+    report_part put.result _ _ _ _ _ _ _ _ _ (refused_stop _ _ _ _ _ _ c.in-Refused.is c.in-Err.ensures.stopped) c.as_bytes-in-Refused.ensures.value
+    put.ensures.appended put.ensures.part
+
+pub returns-in-Ok-device_text-clause-part : goal.returns-in-Ok-device_text-clause-part
+returns-in-Ok-device_text-clause-part g c =
+    let failed = device_stop _ _ _ _ _ _ c.in-Device.is c.in-Err.ensures.stopped in
+    let line = c.as_bytes-in-Ok-device_text.ensures.value ∙ c.in-Ok-device_text.ensures ∙ ap (λ (name : List ℕ). device_text name) c.as_str.ensures in
+    let put = c.put-in-Ok-device_text in
+    device_part put.result _ _ _ _ _ _ _ _ failed.1 line put.ensures.appended put.ensures.part
+
+pub returns-in-Ok-device_text-clause-device : goal.returns-in-Ok-device_text-clause-device
+returns-in-Ok-device_text-clause-device g c =
+    let failed = device_stop _ _ _ _ _ _ c.in-Device.is c.in-Err.ensures.stopped in
+    let line = c.as_bytes-in-Ok-device_text.ensures.value ∙ c.in-Ok-device_text.ensures ∙ ap (λ (name : List ℕ). device_text name) c.as_str.ensures in
+    let put = c.put-in-Ok-device_text in
+    λ _. put_device put.result _ _ _ _ _ _ _ _ _ _ failed.0 failed.1 line put.ensures.appended put.ensures.failed

@@ -1,13 +1,14 @@
-use Rattle.std.proofs.Common.{ap, Err}
-use Rattle.trace_cli.specs.Run.{no_module, long_module}
-use Rattle.trace_cli.proofs.JudgeLemmas.{calls_refused, calls_earlier}
+use Rattle.std.proofs.Common.{◌≡◌, subst, sym}
+use Rattle.run_stages.specs.Stops.{StopsBy}
+use Rattle.run_stages.specs.declared.stop.Stop.TheVariants.{NoMemory}
+use Rattle.run_stages.proofs.Stopping.{err_mapped}
+use Rattle.trace_cli.proofs.CallLemmas.{calls_answered}
 use Rattle.trace_cli.proofs.judge.judge_job.Goals as goal
 
-pub returns-in-Ok-clause-calls : goal.returns-in-Ok-clause-calls
-returns-in-Ok-clause-calls g c =
-    calls_earlier _ _ _ _ _ _ c.judge_module.result c.in-Ok.ensures.later c.in-Ok.ensures.same c.judge_module.ensures.calls
+pub returns-clause-calls : goal.returns-clause-calls
+returns-clause-calls g c = calls_answered _ _ _ _ _ _ _ _ c.answer.result c.in_ok-accepted.ensures.accepted c.answer.ensures.answers
 
-pub returns-in-Err-clause-calls : goal.returns-in-Err-clause-calls
-returns-in-Err-clause-calls g c =
-    calls_refused _ _ _ _ c.refuse_file.result c.in-Err.fault _ c.refuse_file.ensures.status c.refuse_file.ensures.report
-    (λ e. no_module _ _ _ c.requires (c.in-Err.ensures.missing (ap Err e))) (λ e. long_module _ _ _ c.requires (c.in-Err.ensures.too_long (ap Err e)))
+pub returns-clause-stopped : goal.returns-clause-stopped
+returns-clause-stopped g c =
+    let stops = StopsBy (g.F.Files.holds c.args.files.now) (g.F.Files.faults c.args.files.now) (g.F.Files.faults c.read_all.new.files) c.args.job.now in
+    err_mapped (λ stop. stop ≡ NoMemory) stops c.answer.result (λ stop e. subst stops (sym e) tt) c.answer.ensures.stopped

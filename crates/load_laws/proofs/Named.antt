@@ -1,0 +1,145 @@
+-- Each definition of a module that is read has a name.
+use Rattle.std.proofs.Common.{◌≡◌, ◌≢◌, inl, inr, ℕ, List, [], ◌∷◌, ◌++◌, refl, sym, ap, subst}
+use Rattle.std.proofs.lemmas.List.Elements.{All-cons, All-nil, All-append}
+use Rattle.std.specs.Prelude.{All}
+use Rattle.trace_base.specs.declared.place.Place.{Place}
+use Rattle.tla_ast.specs.declared.laid.Laid.{Laid}
+use Rattle.tla_ast.specs.declared.laid.Laid.TheVariants.{Plain, ListOpen, ListItem, ListClose}
+use Rattle.tla_ast.specs.declared.module.Declared.{Declared}
+use Rattle.tla_ast.specs.declared.module.Module.{Module}
+use Rattle.tla_ast.specs.declared.module.Unit.{Unit as ModuleUnit}
+use Rattle.tla_ast.specs.declared.module.Unit.TheVariants.{Variables, Constants, Define, Assume, Passed}
+use Rattle.tla_ast.specs.declared.token.Kind.{Kind}
+use Rattle.tla_ast.specs.declared.token.Kind.TheVariants as kinds
+use Rattle.tla_ast.specs.declared.token.Symbol.TheVariants as symbols
+use Rattle.tla_ast.specs.declared.token.Word.TheVariants as words
+use Rattle.tla_ast.specs.Grammar.{Span, ◌⨟◌, either, token, some_token, word, NamesText, Text}
+use Rattle.tla_ast.specs.Laid.{tokens_of}
+use Rattle.tla_ast.specs.Modules.{DeclaredNamesText, MaybeTitle, ExtendsText, SomeExpression, UnitText, UnitsText, SpellsModule, variable_word, constant_word, assume_word, theorem_word}
+use Rattle.tla_ast.specs.Trees.{Tree}
+use Rattle.tla_exprs.specs.LawsOfExtents.{LocalText, LocalDefinition}
+use Rattle.tla_program.specs.InUnits.{definitions_in}
+use Rattle.tla_program.specs.Names.{names_defined}
+use Rattle.tla_config.proofs.TokensHeld.{Holds, AllHold}
+
+-- what each token among laid ones holds
+abbrev LaidHold : List Laid → Type 0
+LaidHold [] = Unit {0}
+LaidHold (Plain t ∷ xs) = Holds t.kind × LaidHold xs
+LaidHold (ListOpen b at ∷ xs) = LaidHold xs
+LaidHold (ListItem b at ∷ xs) = LaidHold xs
+LaidHold (ListClose at ∷ xs) = LaidHold xs
+
+laid_hold : (xs : List Laid) → AllHold (tokens_of xs) → LaidHold xs
+laid_hold [] h = tt
+laid_hold (Plain t ∷ xs) h = (h.0, laid_hold xs h.1)
+laid_hold (ListOpen b at ∷ xs) h = laid_hold xs h
+laid_hold (ListItem b at ∷ xs) h = laid_hold xs h.1
+laid_hold (ListClose at ∷ xs) h = laid_hold xs h
+
+behind : (text xs : List Laid) → LaidHold (text ++ xs) → LaidHold xs
+behind [] xs h = h
+behind (Plain t ∷ text) xs h = behind text xs h.1
+behind (ListOpen b at ∷ text) xs h = behind text xs h
+behind (ListItem b at ∷ text) xs h = behind text xs h
+behind (ListClose at ∷ text) xs h = behind text xs h
+
+-- ---- parts, behind which the same holds
+
+abbrev Keeps : Span → Type 0
+Keeps R = (xs ys : List Laid) → R xs ys → LaidHold xs → LaidHold ys
+
+keeps_then : (R S : Span) → Keeps R → Keeps S → Keeps (R ⨟ S)
+keeps_then R S f g xs zs h k = g h.0 zs h.2 (f xs h.0 h.1 k)
+
+keeps_either : (R S : Span) → Keeps R → Keeps S → Keeps (either R S)
+keeps_either R S f g xs ys (inl h) k = f xs ys h k
+keeps_either R S f g xs ys (inr h) k = g xs ys h k
+
+keeps_token : (at : Place) (kind : Kind) → Keeps (token at kind)
+keeps_token at kind xs ys e k = let h : LaidHold (Plain (record { kind = kind; place = at }) ∷ ys) = subst LaidHold e k in h.1
+
+keeps_some : (kind : Kind) → Keeps (some_token kind)
+keeps_some kind xs ys h k = keeps_token h.0 kind xs ys h.1 k
+
+keeps_names : (ns : List (List ℕ)) → Keeps (NamesText ns)
+keeps_names [] xs ys h k = absurd h
+keeps_names (n ∷ []) xs ys h k = keeps_some (kinds.Name n) xs ys h k
+keeps_names (n ∷ m ∷ ns) xs ys h k = keeps_names (m ∷ ns) h.2.0 ys h.2.2 (keeps_some (kinds.Symbol symbols.Comma) h.0 h.2.0 h.2.1 (keeps_some (kinds.Name n) xs h.0 h.1 k))
+
+keeps_extends : (ns : List (List ℕ)) → Keeps (ExtendsText ns)
+keeps_extends [] xs ys e k = subst LaidHold e k
+keeps_extends (n ∷ ns) xs ys h k = keeps_names (n ∷ ns) h.0 ys h.2 (keeps_some (kinds.Word words.Extends) xs h.0 h.1 k)
+
+keeps_declared : (ds : List Declared) → Keeps (DeclaredNamesText ds)
+keeps_declared [] xs ys h k = absurd h
+keeps_declared (d ∷ []) xs ys h k = keeps_token d.at (kinds.Name d.name) xs ys h k
+keeps_declared (d ∷ e ∷ ds) xs ys h k = keeps_declared (e ∷ ds) h.2.0 ys h.2.2 (keeps_some (kinds.Symbol symbols.Comma) h.0 h.2.0 h.2.1 (keeps_token d.at (kinds.Name d.name) xs h.0 h.1 k))
+
+keeps_title : Keeps MaybeTitle
+keeps_title xs ys (inl e) k = subst LaidHold e k
+keeps_title xs ys (inr h) k = keeps_some (kinds.Symbol symbols.Defined) h.1.0 ys h.1.2 (keeps_some (kinds.Name h.0) xs h.1.0 h.1.1 k)
+
+keeps_two : (k l : Kind) → Keeps (either (some_token k) (some_token l))
+keeps_two k l = keeps_either (some_token k) (some_token l) (keeps_some k) (keeps_some l)
+
+keeps_variable : Keeps variable_word
+keeps_variable = keeps_two (kinds.Word words.Variable) (kinds.Word words.Variables)
+
+keeps_constant : Keeps constant_word
+keeps_constant = keeps_two (kinds.Word words.Constant) (kinds.Word words.Constants)
+
+keeps_assume : Keeps assume_word
+keeps_assume = keeps_either (word words.Assume) _ (keeps_some (kinds.Word words.Assume)) (keeps_two (kinds.Word words.Assumption) (kinds.Word words.Axiom))
+
+keeps_theorem : Keeps theorem_word
+keeps_theorem = keeps_either _ _ (keeps_two (kinds.Word words.Theorem) (kinds.Word words.Lemma)) (keeps_two (kinds.Word words.Proposition) (kinds.Word words.Corollary))
+
+keeps_text : LocalText → (e : Tree) → Keeps (Text e)
+keeps_text local e xs ys h k = let p = local e xs ys h in behind p.0 ys (subst LaidHold p.1 k)
+
+keeps_expression : LocalText → Keeps SomeExpression
+keeps_expression local xs ys h k = keeps_text local h.0 xs ys h.1.text k
+
+keeps_unit : LocalText → LocalDefinition → (u : ModuleUnit) → Keeps (UnitText u)
+keeps_unit local definition (Variables ds) xs ys h k = keeps_declared ds h.0 ys h.2 (keeps_variable xs h.0 h.1 k)
+keeps_unit local definition (Constants ds) xs ys h k = keeps_declared ds h.0 ys h.2 (keeps_constant xs h.0 h.1 k)
+keeps_unit local definition (Define d) xs ys h k = let p = definition d.name d.at d.params d.body xs ys h in behind p.0 ys (subst LaidHold p.1 k)
+keeps_unit local definition (Assume e) xs ys h k = keeps_text local e h.2.0 ys h.2.2 (keeps_title h.0 h.2.0 h.2.1 (keeps_assume xs h.0 h.1 k))
+keeps_unit local definition Passed xs ys (inl h) k = keeps_some kinds.Dashes xs ys h k
+keeps_unit local definition Passed xs ys (inr h) k = keeps_expression local h.2.0 ys h.2.2 (keeps_title h.0 h.2.0 h.2.1 (keeps_theorem xs h.0 h.1 k))
+
+-- ---- names
+
+abbrev pub AreNamed : List ModuleUnit → Type 0
+AreNamed us = All (λ n. n ≢ []) (names_defined (definitions_in us))
+
+named_before : (u : ModuleUnit) (us : List ModuleUnit) (xs ys : List Laid) → UnitText u xs ys → LaidHold xs → AreNamed us → AreNamed (u ∷ us)
+named_before (Variables ds) us xs ys h k n = n
+named_before (Constants ds) us xs ys h k n = n
+named_before (Define d) us xs ys h k n =
+    let t : LaidHold (Plain (record { kind = kinds.Name d.name; place = d.at }) ∷ h.0) = subst LaidHold h.1 k in
+    All-cons (λ n. n ≢ []) d.name (names_defined (definitions_in us)) t.0.0 n
+named_before (Assume e) us xs ys h k n = n
+named_before Passed us xs ys h k n = n
+
+units_named : LocalText → LocalDefinition → (us : List ModuleUnit) (xs ys : List Laid) → UnitsText us xs ys → LaidHold xs → AreNamed us
+units_named local definition [] xs ys h k = All-nil _
+units_named local definition (u ∷ us) xs ys h k = named_before u us xs h.0 h.1 k (units_named local definition us h.0 ys h.2 (keeps_unit local definition u xs h.0 h.1 k))
+
+pub module_named : LocalText → LocalDefinition → (m : Module) (laid : List Laid) → SpellsModule m laid → AllHold (tokens_of laid) → AreNamed m.units
+module_named local definition m laid s h =
+    let t = s.text in
+    units_named local definition m.units _ _ t.2.2.2.2.2.1
+    (keeps_extends m.extends _ _ t.2.2.2.2.1 (keeps_some kinds.Dashes _ _ t.2.2.2.1 (keeps_token m.at (kinds.Name m.name) _ _ t.2.2.1 (keeps_some (kinds.Word words.Module) _ _ t.2.1 (keeps_some kinds.Dashes _ _ t.1 (laid_hold laid h))))))
+
+names_append : (us vs : List ModuleUnit) → names_defined (definitions_in (us ++ vs)) ≡ names_defined (definitions_in us) ++ names_defined (definitions_in vs)
+names_append [] vs = refl
+names_append (Variables ds ∷ us) vs = names_append us vs
+names_append (Constants ds ∷ us) vs = names_append us vs
+names_append (Define d ∷ us) vs = ap (λ (ns : List (List ℕ)). d.name ∷ ns) (names_append us vs)
+names_append (Assume e ∷ us) vs = names_append us vs
+names_append (Passed ∷ us) vs = names_append us vs
+
+pub named_append : (us vs : List ModuleUnit) → AreNamed us → AreNamed vs → AreNamed (us ++ vs)
+named_append us vs h k = subst (λ (ns : List (List ℕ)). All (λ n. n ≢ []) ns) (sym (names_append us vs)) (All-append (λ n. n ≢ []) (names_defined (definitions_in us)) (names_defined (definitions_in vs)) h k)

@@ -1,0 +1,26 @@
+ghost use Rattle.load_laws.specs.Loaded.{ConfigurationsAreSpelled, ConfigurationsHaveOneForm, LoadedAreWellFormed, LoadedHaveFewFiles, PlainHasOneForm, PlainIsSpelled};
+
+use spec_laws::form_laws;
+use tla_config::givens_are_within_limits;
+use tla_exprs::laws_of_extents;
+
+/// A program that `load` accepts is well formed: its trees are those of the grammar, no two variables have one name and no two definitions, and each
+/// definition has a name. It has at most 32 files.
+pub fn load_laws()
+    ensures well_formed { LoadedAreWellFormed }
+    ensures few { LoadedHaveFewFiles }
+{
+    form_laws();
+    laws_of_extents();
+}
+
+/// What `config` accepts, and the configuration that stands where none is read, is as `resolve` asks for: each value is within the limits of values, and
+/// there is SPECIFICATION alone, or INIT and NEXT without it.
+pub fn configuration_laws()
+    ensures spelled { ConfigurationsAreSpelled }
+    ensures form { ConfigurationsHaveOneForm }
+    ensures plain_spelled { PlainIsSpelled }
+    ensures plain_form { PlainHasOneForm }
+{
+    givens_are_within_limits();
+}

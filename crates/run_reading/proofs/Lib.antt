@@ -1,0 +1,3 @@
+pub mod Unread
+pub mod Later
+pub mod Parts

@@ -1,0 +1,76 @@
+-- How far reading comes. The module and those that it extends are read first, then the configuration, then names and levels are
+-- resolved and the forms of Init, Next and the silent operator tested; then the logs are read in the order of the words, each
+-- tested whole before the next is opened.
+use Rattle.std.specs.Prelude.{◌≡◌, ◌+◌, ℕ, List, [], ◌∷◌, length, Option, Some, None, Result, Ok, Err}
+use Rattle.trace_base.specs.Device.{File}
+use Rattle.trace_base.specs.declared.reading.ReadFault.TheVariants.{Failed}
+use Rattle.tla_ast.specs.declared.config.Config.{Config}
+use Rattle.tla_ast.specs.declared.module.Program.{Program}
+use Rattle.tla_modules.specs.declared.fault.LoadWhy.TheVariants.{Read}
+use Rattle.tla_modules.specs.Flattened.{Flattened}
+use Rattle.tla_modules.specs.Loads.{IsProgram}
+use Rattle.tla_modules.specs.Paths.{IsPath}
+use Rattle.tla_modules.specs.Refusals.{module_limit}
+use Rattle.tla_config.specs.Reads.{Reads}
+use Rattle.tla_terms.specs.declared.spec.Spec.{Spec}
+use Rattle.tla_levels.specs.Resolved.{Resolved}
+use Rattle.spec_forms.specs.Forms.{AreWhole}
+use Rattle.log_lines.specs.Files.{FileSays, first_line}
+use Rattle.log_lines.specs.declared.file.FileLines.{FileLines}
+use Rattle.log_lines.specs.declared.file.Refusal.{Refusal}
+use Rattle.log_files.specs.Logs.{IsLogOf}
+use Rattle.path_updates.specs.declared.line.Log.{Log}
+use Rattle.spec_names.specs.Names.{names_of}
+use Rattle.run_words.specs.declared.job.Job.{Job}
+use Rattle.run_reading.specs.Texts.{HasText, LogsRead, are_several, bytes_left, config_limit, no_logs, steps_left, with_log, without_file}
+
+-- how far it came, with what was accepted
+pub data Stage : Type 0 where
+  begun : Stage
+  loaded : Program → Stage
+  configured : Program → Config → Stage
+  resolved : Program → Config → Spec → Stage
+  -- with what the logs before say, and the names of those that are still to be read
+  logged : Program → Config → Spec → LogsRead → List (List ℕ) → Stage
+
+-- this is the text of the next log
+abbrev pub IsLog : Option (List File) → LogsRead → List ℕ → List ℕ → Type 0
+IsLog holds read name text = HasText holds name (bytes_left read) text
+
+-- what its text says: files of logs are numbered from 1, and each has the room for steps that those before it left
+abbrev pub LogSays : Job → Spec → LogsRead → List ℕ → Result FileLines Refusal → Type 0
+LogSays job s read text r = FileSays (names_of s) (first_line (1 + length read.found) (are_several job.logs) (steps_left read)) text r
+
+-- it comes so far, and nothing before is refused
+pub data Reaches (holds : Option (List File)) (job : Job) : Stage → Type 0 where
+  begins : Reaches holds job begun
+  loads : (folder name : List ℕ) (p : Program) → IsPath job.module folder name → IsProgram holds folder name p → Reaches holds job (loaded p)
+  needs_no_configuration : (p : Program) → Reaches holds job (loaded p) → job.config ≡ None → Reaches holds job (configured p without_file)
+  reads_configuration : (p : Program) (name text : List ℕ) (c : Config) → Reaches holds job (loaded p) → job.config ≡ Some name
+      → HasText holds name config_limit text → Reads (length p.files) name text (Ok c) → Reaches holds job (configured p c)
+  resolves : (p : Program) (c : Config) (s : Spec) → Reaches holds job (configured p c) → Resolved p c job.silent (Ok s) → Reaches holds job (resolved p c s)
+  has_forms : (p : Program) (c : Config) (s : Spec) → Reaches holds job (resolved p c s) → AreWhole s → Reaches holds job (logged p c s no_logs job.logs)
+  reads_log : (p : Program) (c : Config) (s : Spec) (read : LogsRead) (name : List ℕ) (names : List (List ℕ)) (text : List ℕ) (f : FileLines)
+      → Reaches holds job (logged p c s read (name ∷ names)) → IsLog holds read name text → LogSays job s read text (Ok f)
+      → Reaches holds job (logged p c s (with_log read text f) names)
+
+-- The file that is read next, and how many bytes it may have. A module's file is next where a failure of its read would be the refusal of the modules:
+-- such a failure has no other cause, so that this says no more of the file than that it is sought and that nothing before it is refused.
+pub data IsNext (holds : Option (List File)) (job : Job) : Stage → List ℕ → ℕ → Type 0 where
+  module_next : (folder name : List ℕ) (modules : List (List ℕ)) (file : List ℕ) → IsPath job.module folder name
+      → Flattened holds folder name (Err (modules, Read file Failed)) → IsNext holds job begun file module_limit
+  config_next : (p : Program) (name : List ℕ) → job.config ≡ Some name → IsNext holds job (loaded p) name config_limit
+  log_next : (p : Program) (c : Config) (s : Spec) (read : LogsRead) (name : List ℕ) (names : List (List ℕ))
+      → IsNext holds job (logged p c s read (name ∷ names)) name (bytes_left read)
+
+-- the file is read next, with this limit, and nothing before it is refused
+pub record Wants (holds : Option (List File)) (job : Job) (name : List ℕ) (limit : ℕ) : Type 0 where
+  pub stage : Stage
+  pub reaches : Reaches holds job stage
+  pub is_next : IsNext holds job stage name limit
+
+-- All texts are read and none is refused: this is the specification, and this the log of all files, in the one order of their lines.
+pub record AllRead (holds : Option (List File)) (job : Job) (p : Program) (c : Config) (s : Spec) (log : Log) : Type 0 where
+  pub read : LogsRead
+  pub reaches : Reaches holds job (logged p c s read [])
+  pub merged : IsLogOf read.found log

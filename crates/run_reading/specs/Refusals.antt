@@ -1,0 +1,67 @@
+-- The first refusal in the order of reading, with its report.
+use Rattle.std.specs.Prelude.{◌≡◌, ◌++◌, ℕ, List, [], ◌∷◌, length, Option, Some, None, Ok, Err}
+use Rattle.trace_base.specs.Device.{File, IsLonger, Lacks}
+use Rattle.trace_base.specs.declared.place.Place.{Place}
+use Rattle.tla_ast.specs.declared.config.Config.{Config}
+use Rattle.tla_ast.specs.declared.module.Program.{Program}
+use Rattle.tla_modules.specs.declared.fault.LoadWhy.{LoadWhy}
+use Rattle.tla_modules.specs.declared.fault.LoadWhy.TheVariants.{Read, Lex, Lay, Parse, Cycle, TooMany, Twice, WrongName}
+use Rattle.tla_modules.specs.declared.so_far.SoFar.{SoFar}
+use Rattle.tla_modules.specs.Flattened.{Flattened}
+use Rattle.tla_modules.specs.Loads.{files_of}
+use Rattle.tla_modules.specs.Paths.{IsPath}
+use Rattle.tla_modules.specs.Twice.{Repeats, declared_in}
+use Rattle.tla_config.specs.declared.fault.ConfigKind.{ConfigKind}
+use Rattle.tla_config.specs.Reads.{Reads}
+use Rattle.tla_terms.specs.declared.spec.Spec.{Spec}
+use Rattle.tla_levels.specs.Resolved.{Resolved}
+use Rattle.tla_levels.specs.declared.fault.ResolveFault.{ResolveFault}
+use Rattle.tla_actions.specs.declared.fault.FormFault.{FormFault}
+use Rattle.spec_forms.specs.Forms.{IsFirstFault}
+use Rattle.log_lines.specs.declared.file.Refusal.{Refusal}
+use Rattle.run_words.specs.declared.job.Job.{Job}
+use Rattle.run_texts.specs.Files.{missing_text, too_long_text}
+use Rattle.run_texts.specs.Modules.{module_refusal}
+use Rattle.run_texts.specs.Configs.{config_refusal}
+use Rattle.run_texts.specs.Resolved.{names_refusal}
+use Rattle.run_texts.specs.Forms.{form_refusal}
+use Rattle.run_texts.specs.Logs.{log_refusal}
+use Rattle.run_reading.specs.Texts.{HasText, LogsRead, config_limit}
+use Rattle.run_reading.specs.Reaches.{IsLog, LogSays, Reaches, Stage, Wants, begun, loaded, configured, resolved, logged}
+
+-- the refusal is one of a module's text or of modules together, not of a file that is not read
+abbrev pub IsOfText : LoadWhy → Type 0
+IsOfText (Read file fault) = ⊥
+IsOfText (Lex why at) = Unit {0}
+IsOfText (Lay at) = Unit {0}
+IsOfText (Parse fault) = Unit {0}
+IsOfText (Cycle names) = Unit {0}
+IsOfText (TooMany name) = Unit {0}
+IsOfText (Twice name later earlier) = Unit {0}
+IsOfText (WrongName name at) = Unit {0}
+
+-- the files that places speak of: those of the modules, and behind them that of the configuration
+abbrev pub all_files : Program → Config → List (List ℕ)
+all_files p c = p.files ++ c.file ∷ []
+
+-- what is read or tested next is refused, and this is the report
+pub data Rejects (holds : Option (List File)) (job : Job) : Stage → List ℕ → Type 0 where
+  in_a_module : (folder name : List ℕ) (modules : List (List ℕ)) (why : LoadWhy) → IsPath job.module folder name
+      → Flattened holds folder name (Err (modules, why)) → IsOfText why → Rejects holds job begun (module_refusal (files_of folder modules) why)
+  in_all_modules : (folder name : List ℕ) (all : SoFar) (why : LoadWhy) → IsPath job.module folder name → Flattened holds folder name (Ok all)
+      → Repeats all.standard (declared_in all.units) why → Rejects holds job begun (module_refusal (files_of folder all.modules) why)
+  in_the_configuration : (p : Program) (name text : List ℕ) (kind : ConfigKind) (at : Place) → job.config ≡ Some name → HasText holds name config_limit text
+      → Reads (length p.files) name text (Err (kind, at)) → Rejects holds job (loaded p) (config_refusal (p.files ++ name ∷ []) kind at)
+  in_names : (p : Program) (c : Config) (fault : ResolveFault) → Resolved p c job.silent (Err fault)
+      → Rejects holds job (configured p c) (names_refusal (all_files p c) fault)
+  in_forms : (p : Program) (c : Config) (s : Spec) (fault : FormFault) → IsFirstFault s fault
+      → Rejects holds job (resolved p c s) (form_refusal (all_files p c) s.variables fault)
+  in_a_log : (p : Program) (c : Config) (s : Spec) (read : LogsRead) (name : List ℕ) (names : List (List ℕ)) (text : List ℕ) (refusal : Refusal)
+      → IsLog holds read name text → LogSays job s read text (Err refusal)
+      → Rejects holds job (logged p c s read (name ∷ names)) (log_refusal name refusal)
+
+-- The report of the first refusal: a file is missing, which the files tell, or else their count of faults rose; it is too long; or a text is refused.
+pub data IsRefusal (holds : Option (List File)) (before now : ℕ) (job : Job) : List ℕ → Type 0 where
+  is_missing : (name : List ℕ) (limit : ℕ) → Wants holds job name limit → Lacks name holds before now → IsRefusal holds before now job (missing_text name)
+  is_too_long : (name : List ℕ) (limit : ℕ) → Wants holds job name limit → IsLonger name holds limit → IsRefusal holds before now job (too_long_text name)
+  is_refused : (stage : Stage) (report : List ℕ) → Reaches holds job stage → Rejects holds job stage report → IsRefusal holds before now job report

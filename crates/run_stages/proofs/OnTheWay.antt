@@ -1,0 +1,106 @@
+-- The logs are read one behind the other.
+use Rattle.std.proofs.Common.{◌≡◌, ◌≤◌, ◌<◌, ◌+◌, ◌-◌, refl, sym, subst, ap, ℕ, suc, List, map, [], ◌∷◌, ◌++◌, length, length-append, All, AllPairs, Option, Result, Ok, Err, Bool, nat_lt, arith}
+use Rattle.std.specs.List.{AllZip}
+use Rattle.std.proofs.lemmas.List.{length-map}
+use Rattle.std.proofs.lemmas.List.Elements.{All-nil, All-push, All-weaker}
+use Rattle.trace_base.specs.Device.{File}
+use Rattle.log_lines.specs.Files.{FileSays, first_line}
+use Rattle.log_lines.specs.Laws.{Precedes, StepsKeep}
+use Rattle.log_lines.specs.declared.file.FileLines.{FileLines}
+use Rattle.log_lines.specs.declared.file.Refusal.{Refusal}
+use Rattle.path_updates.specs.declared.line.Line.{Line}
+use Rattle.path_updates.specs.declared.line.Log.{Log}
+use Rattle.clock_merge.specs.declared.order.LineRef.{LineRef}
+use Rattle.clock_merge.specs.Orders.{AreFew, NoneFalls, lines_in}
+use Rattle.clock_merge.proofs.Counting.{as_long}
+use Rattle.log_files.specs.Logs.{IsLogOf, StandsAt, clocks_in}
+use Rattle.log_files.proofs.KeptFiles as kept
+use Rattle.spec_names.specs.Names.{names_of}
+use Rattle.run_reading.specs.Texts.{HasText, LogsRead, no_logs}
+use Rattle.run_reading.specs.Reaches.{Reaches, Wants, log_next, logged, reads_log}
+use Rattle.run_stages.specs.declared.logs.Course.{Course}
+use Rattle.run_stages.specs.declared.logs.LogsSoFar.{LogsSoFar}
+use Rattle.run_stages.specs.Logs.{AreKept, IsOnTheWay, read_of}
+
+-- one file more has its steps more
+lines_more : (files : List FileLines) (f : FileLines) → lines_in (clocks_in (files ++ f ∷ [])) ≡ lines_in (clocks_in files) + length f.steps
+lines_more [] f = let size : length (map (λ (l : Line). l.clock) f.steps) ≡ length f.steps = length-map f.steps (λ l. l.clock) in omega (arith, size)
+lines_more (g ∷ gs) f = let h = lines_more gs f in omega (arith, h)
+
+-- as many lines as places
+as_many : (files : List FileLines) (order : List LineRef) (lines : List Line) → AllZip (StandsAt files) order lines → length lines ≡ length order
+as_many files [] [] h = refl
+as_many files [] (y ∷ ys) h = absurd h
+as_many files (x ∷ xs) [] h = absurd h
+as_many files (x ∷ xs) (y ∷ ys) h = ap suc (as_many files xs ys h.1)
+
+abbrev pub IsKept : FileLines → Type 0
+IsKept f = AllPairs Precedes f.steps × (length f.steps ≤ 200000)
+
+module _ (holds : Option (List File)) (course : Course) where
+  pub wants_next : (so : LogsSoFar) (name : List ℕ) (rest : List (List ℕ)) → IsOnTheWay holds course so (name ∷ rest) → Wants holds course.job.now name (67108864 - so.bytes)
+  wants_next so name rest way = record {
+    stage = logged course.program.now course.config.now course.spec.now (read_of so) (name ∷ rest);
+    reaches = way.reaches;
+    is_next = log_next course.program.now course.config.now course.spec.now (read_of so) name rest;
+  }
+
+  -- what the next log says, by its number
+  pub log_said : (so : LogsSoFar) (name text : List ℕ) (rest : List (List ℕ)) (r : Result FileLines Refusal) → IsOnTheWay holds course so (name ∷ rest)
+      → FileSays (names_of course.spec.now) (first_line so.number (nat_lt 1 (length course.job.now.logs)) (200000 - so.steps)) text r
+      → FileSays (names_of course.spec.now) (first_line (1 + length so.found.items) (nat_lt 1 (length course.job.now.logs)) (200000 - so.steps)) text r
+  log_said so name text rest r way says =
+      subst (λ (n : ℕ). FileSays (names_of course.spec.now) (first_line n (nat_lt 1 (length course.job.now.logs)) (200000 - so.steps)) text r) way.number says
+
+  -- one log more
+  pub next_way : (so next : LogsSoFar) (name text : List ℕ) (rest : List (List ℕ)) (f : FileLines) → StepsKeep (names_of course.spec.now) → IsOnTheWay holds course so (name ∷ rest)
+      → HasText holds name (67108864 - so.bytes) text
+      → FileSays (names_of course.spec.now) (first_line so.number (nat_lt 1 (length course.job.now.logs)) (200000 - so.steps)) text (Ok f)
+      → next.number ≡ so.number + 1 → next.bytes ≡ so.bytes + length text → next.steps ≡ so.steps + length f.steps → next.found.items ≡ so.found.items ++ f ∷ []
+      → IsOnTheWay holds course next rest
+  next_way so next name text rest f law way has says en eb es ef =
+      let keep = law so.number (nat_lt 1 (length course.job.now.logs)) (200000 - so.steps) text f says in
+      let few : length f.steps ≤ 200000 - so.steps = keep.1 in
+      let short : length text ≤ 67108864 - so.bytes = has.short in
+      let at = log_said so name text rest (Ok f) way says in
+      let all = All-push IsKept so.found.items f way.kept.each (keep.0, omega (arith, few)) in
+      let bound : so.steps ≤ 200000 = way.kept.few in
+      let bytes : so.bytes ≤ 67108864 = way.bytes in
+      record {
+        reaches = rw (eb, es, ef) (reads_log course.program.now course.config.now course.spec.now (read_of so) name rest text f way.reaches has at);
+        kept = record {
+          each = subst (λ (fs : List FileLines). All IsKept fs) (sym ef) all;
+          total = rw ef (omega (arith, es, way.kept.total, lines_more so.found.items f));
+          few = omega (arith, few, bound, es);
+        };
+        number = rw ef (omega (arith, en, way.number, length-append so.found.items (f ∷ [])));
+        bytes = omega (arith, eb, short, bytes);
+        count = rw ef (omega (arith, way.count, length-append so.found.items (f ∷ [])));
+      }
+
+  -- before the first
+  pub first_way : (so : LogsSoFar) → Reaches holds course.job.now (logged course.program.now course.config.now course.spec.now no_logs course.job.now.logs) → length course.job.now.logs ≤ 64
+      → so.number ≡ 1 → so.bytes ≡ 0 → so.steps ≡ 0 → so.found.items ≡ [] → IsOnTheWay holds course so course.job.now.logs
+  first_way so reaches few en eb es ef = record {
+    reaches = rw (eb, es, ef) reaches;
+    kept = record { each = rw ef (All-nil IsKept); total = rw ef es; few = omega (arith, es) };
+    number = rw (en, ef) refl;
+    bytes = omega (arith, eb);
+    count = rw ef (omega (arith, few));
+  }
+
+  as_kept : (so : LogsSoFar) (names : List (List ℕ)) → IsOnTheWay holds course so names → kept.AreKept (length so.found.items) so.found.items
+  as_kept so names way = record { each = All-weaker IsKept kept.IsKept (λ f h. (h.0, omega (arith, h.1))) so.found.items way.kept.each; count = refl }
+
+  pub none_falls : (so : LogsSoFar) (names : List (List ℕ)) → IsOnTheWay holds course so names → NoneFalls (clocks_in so.found.items)
+  none_falls so names way = kept.none_falls (length so.found.items) so.found.items (as_kept so names way)
+
+  pub are_few : (so : LogsSoFar) (names : List (List ℕ)) → IsOnTheWay holds course so names → AreFew (clocks_in so.found.items)
+  are_few so names way = kept.are_few (length so.found.items) so.found.items (as_kept so names way)
+
+  -- the log of what was read has no more lines than all files may have
+  pub few_lines : (so : LogsSoFar) (names : List (List ℕ)) → IsOnTheWay holds course so names → (log : Log) → IsLogOf so.found.items log → length log.lines ≤ 200000
+  few_lines so names way log is =
+      let lines = as_many so.found.items is.order log.lines is.lines in
+      let long = as_long (clocks_in so.found.items) is.order is.merged in
+      omega (arith, lines, long, way.kept.total, way.kept.few)

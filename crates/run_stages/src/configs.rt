@@ -1,0 +1,78 @@
+ghost use Rattle.std.specs.Prelude.{◌≡◌, ◌≤◌, ◌++◌, ◌∷◌, [], IfOk, IfErr, Ok, Err, length};
+ghost use Rattle.trace_base.specs.declared.place.Place.{Place};
+ghost use Rattle.tla_config.specs.Reads.{Reads};
+ghost use Rattle.tla_config.specs.declared.fault.ConfigKind.{ConfigKind};
+ghost use Rattle.run_texts.specs.Configs.{config_refusal};
+ghost use Rattle.run_reading.specs.Texts.{config_limit, without_file};
+ghost use Rattle.run_reading.specs.Reaches.{Reaches, configured, loaded};
+ghost use Rattle.run_stages.specs.Stops.{RefusedWith, StopsBy};
+
+use crate::files::with_file;
+use crate::stop::Stop;
+use crate::wanted::read_wanted;
+use load_laws::load_laws;
+use run_texts::config_refusal;
+use run_words::Job;
+use std::alloc::Global;
+use tla_ast::{Config, Givens, Program};
+use tla_config::{ConfigFault, config};
+use trace_base::{Files, Names, NoMemory, Text};
+
+/// How many bytes a configuration's file may have.
+const CONFIG_LIMIT: usize = 65_536;
+
+/// The configuration that the job names, or the one that holds where it names none.
+pub(crate) fn read_config<F: Files>(
+    alloc: Global,
+    job: &Job,
+    program: &Program,
+    files: &mut F,
+) -> Result<Config, Stop>
+    requires reaches { Reaches (F.holds files.now) job.now (loaded program.now) }
+    ensures accepted { IfOk result (λ c. Reaches (F.holds files.old) job.now (configured program.now c)) }
+    ensures stopped { IfErr result (StopsBy (F.holds files.old) (F.faults files.old) (F.faults files.new) job.now) }
+    ensures same { F.holds files.new ≡ F.holds files.old }
+    ensures later { F.faults files.old ≤ F.faults files.new }
+{
+    load_laws();
+    match &job.config {
+        None => Ok(without_file(alloc)?),
+        Some(name) => {
+            let text = read_wanted(alloc, job, files, name, CONFIG_LIMIT)?;
+            config_of(alloc, program, name, text.as_slice())
+        }
+    }
+}
+
+/// The configuration of a text, whose file is counted behind those of the program.
+fn config_of(alloc: Global, program: &Program, name: &Text, text: &[u8]) -> Result<Config, Stop>
+    requires few { length program.now.files ≤ 32 }
+    requires short { length text.now ≤ config_limit }
+    ensures accepted { IfOk result (λ c. Reads (length program.now.files) name.now text.now (Ok c)) }
+    ensures refused { IfErr result (RefusedWith (λ report. (kind : ConfigKind) × (at : Place) × Reads (length program.now.files) name.now text.now (Err (kind, at))
+        × (report ≡ config_refusal (program.now.files ++ name.now ∷ []) kind at))) }
+{
+    let number = program.files.len() as u32;
+    match config(alloc, number, name.as_str(), text) {
+        Ok(config) => Ok(config),
+        Err(ConfigFault::Refused(kind, at)) => {
+            let files = with_file(alloc, &program.files, name)?;
+            Err(Stop::Refused(config_refusal(alloc, &files, &kind, at)?))
+        }
+        Err(ConfigFault::NoMemory) => Err(Stop::NoMemory),
+    }
+}
+
+/// The configuration that holds where none is read: `INIT Init NEXT Next`.
+fn without_file(alloc: Global) -> Result<Config, NoMemory>
+    ensures { IfOk result (λ c. c ≡ without_file) }
+{
+    Ok(Config {
+        file: Text::from_text(alloc, "")?,
+        init: Some(Text::from_text(alloc, "Init")?),
+        next: Some(Text::from_text(alloc, "Next")?),
+        specification: None,
+        givens: Givens::new(alloc),
+        unchecked: Names::new(alloc),
+    })
+}

@@ -1,0 +1,25 @@
+ghost use Rattle.std.specs.Prelude.{◌≡◌, ◌++◌, ◌∷◌, [], IfOk};
+ghost use Rattle.run_reading.specs.Refusals.{all_files};
+
+use std::alloc::Global;
+use tla_ast::{Config, Program};
+use trace_base::{Names, NoMemory, Text};
+
+/// The names of the files that places speak of: those of the modules, and behind them that of the configuration.
+pub fn all_files(alloc: Global, program: &Program, config: &Config) -> Result<Names, NoMemory>
+    ensures { IfOk result (λ all. all ≡ all_files program.now config.now) }
+{
+    with_file(alloc, &program.files, &config.file)
+}
+
+/// The names of files, and one more.
+pub(crate) fn with_file(alloc: Global, files: &Names, name: &Text) -> Result<Names, NoMemory>
+    ensures { IfOk result (λ all. all ≡ files.now ++ name.now ∷ []) }
+{
+    let mut all = Names::new(alloc);
+    for file in files.items() {
+        all.push(file.copy()?)?;
+    }
+    all.push(name.copy()?)?;
+    Ok(all)
+}

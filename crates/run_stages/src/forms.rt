@@ -1,0 +1,40 @@
+ghost use Rattle.std.specs.Prelude.{◌≡◌, IfOk, IfErr};
+ghost use Rattle.tla_actions.specs.declared.fault.FormFault.{FormFault};
+ghost use Rattle.spec_laws.specs.IsSpec.{IsSpec};
+ghost use Rattle.spec_forms.specs.Forms.{AreWhole, IsFirstFault};
+ghost use Rattle.successors.specs.Ready.{IsReadySpec};
+ghost use Rattle.run_texts.specs.Forms.{form_refusal};
+ghost use Rattle.run_reading.specs.Refusals.{all_files};
+ghost use Rattle.run_stages.specs.Stops.{RefusedWith};
+
+use crate::files::all_files;
+use crate::stop::Stop;
+use ready_laws::ready_forms;
+use run_texts::form_refusal;
+use std::alloc::Global;
+use tla_actions::FormFault;
+use tla_ast::{Config, Program};
+use tla_terms::Spec;
+
+/// Tests the forms of Init, Next and the silent operator.
+pub(crate) fn test_forms(
+    alloc: Global,
+    program: &Program,
+    config: &Config,
+    spec: &Spec,
+) -> Result<(), Stop>
+    requires { IsSpec spec.now }
+    ensures accepted { IfOk result (λ u. AreWhole spec.now) }
+    ensures ready { IfOk result (λ u. IsReadySpec spec.now) }
+    ensures refused { IfErr result (RefusedWith (λ report. (fault : FormFault) × IsFirstFault spec.now fault
+        × (report ≡ form_refusal (all_files program.now config.now) spec.now.variables fault))) }
+{
+    match ready_forms(alloc, spec) {
+        Ok(()) => Ok(()),
+        Err(FormFault::NoMemory) => Err(Stop::NoMemory),
+        Err(fault) => {
+            let files = all_files(alloc, program, config)?;
+            Err(Stop::Refused(form_refusal(alloc, &files, &spec.variables, fault)?))
+        }
+    }
+}

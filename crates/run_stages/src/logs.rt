@@ -1,0 +1,115 @@
+ghost use Rattle.std.specs.Prelude.{◌≡◌, ◌≤◌, ◌∷◌, ℕ, List, IfOk, IfErr, length};
+ghost use Rattle.log_files.specs.Logs.{IsLogOf};
+ghost use Rattle.spec_laws.specs.IsSpec.{IsSpec};
+ghost use Rattle.spec_names.specs.Names.{names_of};
+ghost use Rattle.run_reading.specs.Texts.{LogsRead, no_logs};
+ghost use Rattle.run_reading.specs.Reaches.{AllRead, Reaches, logged};
+ghost use Rattle.run_stages.specs.Stops.{StopsBy};
+ghost use Rattle.run_stages.specs.Logs.{AreKept, IsOnTheWay};
+
+use crate::stop::Stop;
+use crate::wanted::read_wanted;
+use log_files::log_of;
+use log_lines::{FileLines, line_laws, read_log};
+use path_updates::Log;
+use run_texts::log_refusal;
+use run_words::Job;
+use spec_names::LogNames;
+use std::alloc::Global;
+use tla_ast::{Config, Program};
+use tla_terms::Spec;
+use trace_base::{Files, Text};
+
+/// How many bytes all logs may have together, and how many steps.
+const LOGS_LIMIT: usize = 67_108_864;
+
+const MAX_STEPS: u32 = 200_000;
+
+/// What was accepted before the logs are read.
+#[derive(Clone, Copy, Drop)]
+pub(crate) struct Course<'a> {
+    pub(crate) job: &'a Job,
+    pub(crate) program: &'a Program,
+    pub(crate) config: &'a Config,
+    pub(crate) spec: &'a Spec,
+}
+
+/// What was read of the logs: the number of the next, from 1, the bytes and the steps of those before together, and what each says.
+#[derive(Drop)]
+pub(crate) struct LogsSoFar {
+    pub(crate) number: u32,
+    pub(crate) bytes: usize,
+    pub(crate) steps: u32,
+    pub(crate) found: Vec<FileLines>,
+}
+
+/// The log of all files, each read and tested whole before the next.
+pub(crate) fn read_logs<F: Files>(
+    alloc: Global,
+    course: Course<'_>,
+    files: &mut F,
+) -> Result<Log, Stop>
+    requires ordered { IsSpec course.spec.now }
+    requires few { length course.job.now.logs ≤ 64 }
+    requires reaches { Reaches (F.holds files.now) course.job.now (logged course.program.now course.config.now course.spec.now no_logs course.job.now.logs) }
+    ensures accepted { IfOk result (AllRead (F.holds files.old) course.entry.job.now course.entry.program.now course.entry.config.now course.entry.spec.now) }
+    ensures few { IfOk result (λ log. length log.lines ≤ 200000) }
+    ensures stopped { IfErr result (StopsBy (F.holds files.old) (F.faults files.old) (F.faults files.new) course.entry.job.now) }
+    ensures same { F.holds files.new ≡ F.holds files.old }
+    ensures later { F.faults files.old ≤ F.faults files.new }
+{
+    let names = LogNames::new(alloc, course.spec)?;
+    let mut so = LogsSoFar {
+        number: 1,
+        bytes: 0,
+        steps: 0,
+        found: Vec::new(alloc),
+    };
+    for name in course.job.logs.items() {
+        so = read_next(alloc, course, &names, name, so, files)?;
+    }
+    let log = log_of(alloc, so.found)?;
+    Ok(log)
+}
+
+/// Reads the next log.
+fn read_next<F: Files>(
+    alloc: Global,
+    course: Course<'_>,
+    names: &LogNames<'_>,
+    name: &Text,
+    so: LogsSoFar,
+    files: &mut F,
+) -> Result<LogsSoFar, Stop>
+    requires names { names.now.spec.now ≡ course.spec.now }
+    requires way { (rest : List (List ℕ)) × IsOnTheWay (F.holds files.now) course so (name.now ∷ rest) }
+    ensures read { IfOk result (λ next. (rest : List (List ℕ)) → IsOnTheWay (F.holds files.old) course.entry so (name.now ∷ rest) → IsOnTheWay (F.holds files.old) course.entry next rest) }
+    ensures stopped { IfErr result (StopsBy (F.holds files.old) (F.faults files.old) (F.faults files.new) course.entry.job.now) }
+    ensures same { F.holds files.new ≡ F.holds files.old }
+    ensures later { F.faults files.old ≤ F.faults files.new }
+{
+    let LogsSoFar {
+        number,
+        bytes,
+        steps,
+        found,
+    } = so;
+    let text = read_wanted(alloc, course.job, files, name, LOGS_LIMIT - bytes)?;
+    let piece = text.as_slice();
+    let many = course.job.logs.len() > 1;
+    line_laws(names);
+    match read_log(alloc, names, number, many, MAX_STEPS - steps, piece)? {
+        Ok(file) => {
+            let count = file.steps.len() as u32;
+            let mut found = found;
+            found.push(file)?;
+            Ok(LogsSoFar {
+                number: number + 1,
+                bytes: bytes + piece.len(),
+                steps: steps + count,
+                found,
+            })
+        }
+        Err(refusal) => Err(Stop::Refused(log_refusal(alloc, name.as_str(), refusal)?)),
+    }
+}

@@ -1,0 +1,41 @@
+ghost use Rattle.std.specs.Prelude.{◌≡◌, ◌≤◌, IfOk, IfErr};
+ghost use Rattle.run_words.specs.Names.{IsModule};
+ghost use Rattle.run_reading.specs.Reaches.{Reaches, loaded};
+ghost use Rattle.run_stages.specs.Stops.{IsModuleStop, StopsBy};
+
+use crate::stop::{Stop, unread};
+use run_texts::module_refusal;
+use run_words::Job;
+use std::alloc::Global;
+use tla_ast::Program;
+use tla_modules::{LoadFault, LoadWhy, load};
+use trace_base::{Files, Names, NoMemory};
+
+/// The program of the job's module and of those that it extends.
+pub(crate) fn load_program<F: Files>(
+    alloc: Global,
+    job: &Job,
+    files: &mut F,
+) -> Result<Program, Stop>
+    requires { IsModule job.now.module }
+    ensures accepted { IfOk result (λ p. Reaches (F.holds files.old) job.now (loaded p)) }
+    ensures stopped { IfErr result (StopsBy (F.holds files.old) (F.faults files.old) (F.faults files.new) job.now) }
+    ensures same { F.holds files.new ≡ F.holds files.old }
+    ensures later { F.faults files.old ≤ F.faults files.new }
+{
+    match load(alloc, files, job.module.as_str()) {
+        Ok(program) => Ok(program),
+        Err(LoadFault::Refused(sought, why)) => Err(refused(alloc, &sought, &why)?),
+        Err(LoadFault::NoMemory) => Err(Stop::NoMemory),
+    }
+}
+
+/// The stop at modules that are refused.
+fn refused(alloc: Global, sought: &Names, why: &LoadWhy) -> Result<Stop, NoMemory>
+    ensures { IfOk result (IsModuleStop sought.now why.now) }
+{
+    match why {
+        LoadWhy::Read(name, fault) => unread(alloc, *fault, name),
+        _ => Ok(Stop::Refused(module_refusal(alloc, sought, why)?)),
+    }
+}

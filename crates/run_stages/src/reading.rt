@@ -1,0 +1,65 @@
+ghost use Rattle.std.specs.Prelude.{◌≡◌, ◌≤◌, IfOk, IfErr, length};
+ghost use Rattle.spec_steps.specs.Beside.{IsReady};
+ghost use Rattle.run_words.specs.Words.{JobMeets};
+ghost use Rattle.run_reading.specs.Reaches.{AllRead};
+ghost use Rattle.run_stages.specs.Stops.{StopsBy};
+
+use crate::configs::read_config;
+use crate::forms::test_forms;
+use crate::logs::{Course, read_logs};
+use crate::modules::load_program;
+use crate::resolving::resolve_spec;
+use crate::stop::Stop;
+use load_laws::{configuration_laws, load_laws};
+use path_updates::Log;
+use ready_lines::{known_values, logs_are_ready};
+use resolved_laws::resolved_laws;
+use run_words::Job;
+use std::alloc::Global;
+use tla_ast::{Config, Program};
+use tla_terms::Spec;
+use trace_base::Files;
+
+/// What was made of the texts of a job: the program, its configuration, the specification of both, and the log of all files.
+#[derive(Drop)]
+pub struct Accepted {
+    pub program: Program,
+    pub config: Config,
+    pub spec: Spec,
+    pub log: Log,
+}
+
+/// Reads the texts of a job in their order: the module and those that it extends, the configuration, then the logs, after names, levels and forms are
+/// tested. The first refusal ends the reading; nothing is read behind it.
+pub fn read_all<F: Files>(alloc: Global, job: &Job, files: &mut F) -> Result<Accepted, Stop>
+    requires { JobMeets job.now }
+    ensures accepted { IfOk result (λ a. AllRead (F.holds files.old) job.now a.program a.config a.spec a.log) }
+    ensures ready { IfOk result (λ a. IsReady a.spec a.log) }
+    ensures few_lines { IfOk result (λ a. length a.log.lines ≤ 200000) }
+    ensures stopped { IfErr result (StopsBy (F.holds files.old) (F.faults files.old) (F.faults files.new) job.now) }
+    ensures same { F.holds files.new ≡ F.holds files.old }
+    ensures later { F.faults files.old ≤ F.faults files.new }
+{
+    load_laws();
+    configuration_laws();
+    resolved_laws();
+    let program = load_program(alloc, job, files)?;
+    let config = read_config(alloc, job, &program, files)?;
+    let spec = resolve_spec(alloc, job, &program, &config)?;
+    test_forms(alloc, &program, &config, &spec)?;
+    let course = Course {
+        job,
+        program: &program,
+        config: &config,
+        spec: &spec,
+    };
+    let log = read_logs(alloc, course, files)?;
+    logs_are_ready();
+    known_values(&log);
+    Ok(Accepted {
+        program,
+        config,
+        spec,
+        log,
+    })
+}

@@ -1,0 +1,45 @@
+ghost use Rattle.std.specs.Prelude.{◌≡◌, IfOk};
+ghost use Rattle.run_stages.specs.declared.stop.Stop.TheVariants as stops;
+ghost use Rattle.run_stages.specs.Stops.{IsUnreadBy};
+
+use run_texts::{missing_text, too_long_text};
+use std::alloc::{AllocError, AllocFailed, Global};
+use trace_base::{NoMemory, ReadFault, Text};
+
+/// Why not all texts of a job are accepted.
+#[derive(Drop)]
+pub enum Stop {
+    /// A file is missing or too long, or a text is refused: the report.
+    Refused(String),
+    /// A read of the file of this name failed.
+    Device(Text),
+    NoMemory,
+}
+
+impl From<AllocError> for Stop {
+    ghost from_gives = { λ _ stop. stop ≡ stops.NoMemory };
+
+    fn from(_: AllocError) -> Self {
+        Stop::NoMemory
+    }
+}
+
+impl<T: Drop> From<AllocFailed<T>> for Stop {
+    ghost from_gives = { λ _ stop. stop ≡ stops.NoMemory };
+
+    fn from(_: AllocFailed<T>) -> Self {
+        Stop::NoMemory
+    }
+}
+
+/// The stop at a file of that name that is not read.
+pub(crate) fn unread(alloc: Global, fault: ReadFault, name: &Text) -> Result<Stop, NoMemory>
+    ensures { IfOk result (IsUnreadBy fault name.now) }
+{
+    Ok(match fault {
+        ReadFault::Missing => Stop::Refused(missing_text(alloc, name.as_str())?),
+        ReadFault::TooLong => Stop::Refused(too_long_text(alloc, name.as_str())?),
+        ReadFault::Failed => Stop::Device(name.copy()?),
+        ReadFault::NoMemory => Stop::NoMemory,
+    })
+}

@@ -1,0 +1,59 @@
+-- What a job calls for: one status and one report, by the first refusal in the order of reading, or else by what is true of the specification beside the log.
+use Rattle.std.specs.Prelude.{◌≡◌, ℕ, List, Option, length}
+use Rattle.trace_base.specs.Device.{File}
+use Rattle.tla_ast.specs.declared.config.Config.{Config}
+use Rattle.tla_ast.specs.declared.module.Program.{Program}
+use Rattle.tla_terms.specs.declared.spec.Spec.{Spec}
+use Rattle.path_updates.specs.declared.line.Log.{Log}
+use Rattle.line_steps.specs.Logs.{Asked, system}
+use Rattle.state_layers.specs.Answers.{IsAnswer}
+use Rattle.state_layers.specs.declared.answer.Answer.{Answer}
+use Rattle.state_layers.specs.declared.answer.Answer.TheVariants.{Explained, NotExplained, NoInitial, InitFault, Fault, AssumeFault, AssumeFalse, LayerLimit, TotalLimit}
+use Rattle.run_words.specs.declared.job.Job.{Job}
+use Rattle.run_words.specs.declared.job.Options.{Options}
+use Rattle.run_reading.specs.Reaches.{AllRead}
+use Rattle.run_reading.specs.Refusals.{IsRefusal, all_files}
+use Rattle.run_texts.specs.Answers.{Named, answer_text}
+use Rattle.spec_steps.specs.Beside.{asked}
+use Rattle.trace_cli.specs.declared.call.Status.{Status}
+use Rattle.trace_cli.specs.declared.call.Status.TheVariants.{Done, Not, Reading, Evaluation, Limit}
+
+-- the status that goes with an answer
+abbrev pub status_of : Answer → Status
+status_of (Explained w widest) = Done
+status_of (NotExplained prefix all after w) = Not
+status_of NoInitial = Not
+status_of (InitFault kind at) = Evaluation
+status_of (Fault after silent s kind at) = Evaluation
+status_of (AssumeFault kind at) = Evaluation
+status_of (AssumeFalse at) = Evaluation
+status_of (LayerLimit after silent) = Limit
+status_of (TotalLimit after silent) = Limit
+
+-- what the options ask for beside the specification and the log
+abbrev pub asked_by : Options → Asked
+asked_by options = asked options.stutter options.within options.limit
+
+-- what a report names
+abbrev pub named_in : Job → Program → Config → Spec → Log → Named
+named_in job p c s log = record {
+  files = all_files p c;
+  logs = job.logs;
+  variables = s.variables;
+  unchecked = s.unchecked;
+  lines = length log.lines;
+  limit = job.options.limit;
+}
+
+-- The answer is true of the specification beside the log; these are its status and its report.
+pub record Answers (job : Job) (p : Program) (c : Config) (s : Spec) (log : Log) (status : Status) (report : List ℕ) : Type 0 where
+  pub answer : Answer
+  pub is_true : IsAnswer (system s log (asked_by job.options)) answer
+  pub status_is : status ≡ status_of answer
+  pub report_is : report ≡ answer_text (named_in job p c s log) answer
+
+-- what the job calls for; the files' count of faults was before and is now
+pub data Calls (holds : Option (List File)) (before now : ℕ) (job : Job) : Status → List ℕ → Type 0 where
+  is_refused : (report : List ℕ) → IsRefusal holds before now job report → Calls holds before now job Reading report
+  is_answered : (p : Program) (c : Config) (s : Spec) (log : Log) (status : Status) (report : List ℕ) → AllRead holds job p c s log
+      → Answers job p c s log status report → Calls holds before now job status report

@@ -1,0 +1,7 @@
+---- MODULE Instance ----
+EXTENDS Integers
+INSTANCE Sums
+VARIABLE x
+Init == x = 0
+Next == x' = Plus(x, 1)
+====

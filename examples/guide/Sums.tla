@@ -1,0 +1,4 @@
+---- MODULE Sums ----
+EXTENDS Integers
+Plus(a, b) == a + b
+====
