@@ -1,0 +1,8 @@
+pub mod Asks
+pub mod Cleans
+pub mod Verdicts
+pub mod Laws
+pub mod Tellings
+pub mod Founds
+pub mod Passes
+pub mod Table
