@@ -6,6 +6,3 @@ mod copy;
 mod rows;
 
 pub use copy::copy_term;
-
-#[cfg(test)]
-mod tests;

@@ -11,6 +11,3 @@ mod shape;
 pub use note::Note;
 pub use noting::{assumption_fault, note_of, notes};
 pub use shape::{Shape, specification};
-
-#[cfg(test)]
-mod tests;

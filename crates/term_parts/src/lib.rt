@@ -15,6 +15,3 @@ pub use ordered::{mentions_below, uses_smaller};
 pub use pending::{Pending, push, push_parts, push_terms};
 pub use slots::Slots;
 pub use special::{Special, special_of};
-
-#[cfg(test)]
-mod tests;

@@ -12,6 +12,3 @@ mod unit_levels;
 
 pub use fault::ResolveFault;
 pub use resolving::resolve;
-
-#[cfg(test)]
-mod tests;

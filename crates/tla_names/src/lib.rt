@@ -11,6 +11,3 @@ mod walk;
 
 pub use fault::NameFault;
 pub use tree::resolve_tree;
-
-#[cfg(test)]
-mod tests;

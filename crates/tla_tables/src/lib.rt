@@ -12,6 +12,3 @@ pub use assumed::assumption_terms;
 pub use fault::first_name_fault;
 pub use table::{Table, program_table};
 pub use values::{constant_values, first_without_value, one_too_many};
-
-#[cfg(test)]
-mod tests;

@@ -8,8 +8,6 @@ mod listings;
 mod products;
 mod sequences;
 mod sets;
-#[cfg(test)]
-mod tests;
 
 pub use functions::{apply_at, domain, except_one, merge, single};
 pub use integers::{add, at_most, div, division_law, less, modulo, mul, negate, power, sub};
