@@ -6,7 +6,7 @@ use trace_base::Text;
 use value_ops::{
     add, append, apply_at, at_most, big_union, cardinality, concat, div, domain, except_one,
     function_set, head, intersect, interval, len_of, less, merge, minus, modulo, mul, negate,
-    power, powerset, product, record_set, records, single, sub, subseq, tail, tuples, union,
+    power, powerset, product, record_set, single, sub, subseq, tail, tuples, union,
 };
 
 fn ints(alloc: Global, numbers: &[i64]) -> Result<Vec<Value>, AllocError> {

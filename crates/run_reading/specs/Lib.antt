@@ -1,3 +1,4 @@
 pub mod Texts
 pub mod Reaches
 pub mod Refusals
+pub mod Given

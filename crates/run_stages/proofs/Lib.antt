@@ -1,3 +1,4 @@
 pub mod Stopping
 pub mod Reached
 pub mod OnTheWay
+pub mod GivenStopping

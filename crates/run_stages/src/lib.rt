@@ -4,6 +4,7 @@
 mod configs;
 mod files;
 mod forms;
+mod given;
 mod logs;
 mod modules;
 mod reading;
@@ -12,5 +13,6 @@ mod stop;
 mod wanted;
 
 pub use files::all_files;
+pub use given::{Given, read_given};
 pub use reading::{Accepted, read_all};
 pub use stop::Stop;

@@ -9,3 +9,6 @@ pub mod Logs
 pub mod States
 pub mod Ordered
 pub mod Answers
+pub mod GivenStates
+pub mod Verdicts
+pub mod Smoke

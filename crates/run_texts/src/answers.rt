@@ -133,7 +133,7 @@ fn no_initial(alloc: Global, unchecked: &Names) -> Result<String, NoMemory>
 }
 
 /// A line on what went wrong in an evaluation.
-fn faulted(
+pub(crate) fn faulted(
     alloc: Global,
     front: &str,
     files: &Names,

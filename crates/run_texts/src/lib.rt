@@ -5,6 +5,7 @@ mod answers;
 mod configs;
 mod files;
 mod forms;
+mod given_states;
 mod labels;
 mod laws;
 mod logs;
@@ -12,18 +13,20 @@ mod modules;
 mod order;
 mod places;
 mod resolved;
+mod smoke;
 mod spelled;
 mod states;
+mod verdicts;
 
 pub use answers::answer_text;
 pub use configs::config_refusal;
 pub use files::{device_text, missing_text, too_long_text, words_text};
 pub use forms::form_refusal;
+pub use given_states::states_refusal;
 pub use labels::Labels;
 pub use laws::text_laws;
 pub use logs::log_refusal;
 pub use modules::module_refusal;
 pub use resolved::names_refusal;
-
-#[cfg(test)]
-mod tests;
+pub use smoke::smoke_text;
+pub use verdicts::verdict_text;

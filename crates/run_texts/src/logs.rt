@@ -52,8 +52,13 @@ fn push_at_line(text: &mut String, name: &str, line: u32) -> Result<(), NoMemory
     push_line(text, name, line)
 }
 
-/// The line of a refusal that has a line of a log alone.
-fn refused_line(alloc: Global, what: &str, name: &str, line: u32) -> Result<String, NoMemory>
+/// The line of a refusal that has a line of a file alone.
+pub(crate) fn refused_line(
+    alloc: Global,
+    what: &str,
+    name: &str,
+    line: u32,
+) -> Result<String, NoMemory>
     ensures { IfOk result (λ t. string_bytes t ≡ refused what.now (at_line name.now line)) }
 {
     let mut text = refusal(alloc, what)?;
@@ -72,8 +77,21 @@ fn refused_key(
 ) -> Result<String, NoMemory>
     ensures { IfOk result (λ t. string_bytes t ≡ refused what.now (detail (key_text key) ++ at_line name.now line)) }
 {
+    refused_told(alloc, what, key.text(), name, line)
+}
+
+/// The line of a refusal that has a detail and a line of a file.
+pub(crate) fn refused_told(
+    alloc: Global,
+    what: &str,
+    told: &str,
+    name: &str,
+    line: u32,
+) -> Result<String, NoMemory>
+    ensures { IfOk result (λ t. string_bytes t ≡ refused what.now (detail told.now ++ at_line name.now line)) }
+{
     let mut text = refusal(alloc, what)?;
-    push_detail(&mut text, key.text())?;
+    push_detail(&mut text, told)?;
     push_at_line(&mut text, name, line)?;
     text.push_str("\n")?;
     Ok(text)

@@ -28,7 +28,7 @@ pub(crate) fn push_states(
     Ok(())
 }
 
-fn push_shown(
+pub(crate) fn push_shown(
     alloc: Global,
     text: &mut String,
     names: &Names,

@@ -5,3 +5,5 @@ pub mod WalkLemmas
 pub mod OneReading
 pub mod KeyOrder
 pub mod MemberLemmas
+pub mod UpTo
+pub mod LongStates

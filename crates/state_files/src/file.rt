@@ -1,8 +1,10 @@
-ghost use Rattle.std.specs.Prelude.{◌≡◌, ◌<◌, ◌==◌, ◌∷◌, [], IfOk, IfSome, MatchOption, position, length};
+ghost use Rattle.std.specs.Prelude.{◌≡◌, ◌<◌, ◌==◌, ◌∷◌, [], All, IfOk, IfSome, MatchOption, position, length};
+ghost use Rattle.tla_values.specs.IsValue.{IsValue};
 ghost use Rattle.state_files.specs.Files.{StateFileSays, pieces_of};
 ghost use Rattle.state_files.specs.Walks.{WalksOn};
 
 use crate::kind::StateLine;
+use crate::known::said_values;
 use crate::line::read_line;
 use crate::refusal::StateRefusal;
 use std::alloc::Global;
@@ -16,9 +18,13 @@ pub fn read_states(
     bytes: &[u8],
 ) -> Result<Result<Behaviour, StateRefusal>, NoMemory>
     requires short { length bytes.now < 4294967295 }
-    ensures { IfOk result (StateFileSays variables.now bytes.now) }
+    ensures says { IfOk result (StateFileSays variables.now bytes.now) }
+    ensures long { IfOk result (λ r. IfOk r (λ w. All (λ x. length x.state ≡ length variables.now) w)) }
+    ensures values { IfOk result (λ r. IfOk r (λ w. All (λ x. All IsValue x.state) w)) }
 {
-    read_lines(alloc, variables.items(), bytes)
+    let said = read_lines(alloc, variables.items(), bytes)?;
+    said_values(&said);
+    Ok(said)
 }
 
 /// Reads line by line.

@@ -4,6 +4,7 @@
 mod fields;
 mod file;
 mod kind;
+mod known;
 mod laws;
 mod line;
 mod members;
@@ -15,6 +16,3 @@ pub use file::read_states;
 pub use kind::StateKind;
 pub use laws::state_laws;
 pub use refusal::StateRefusal;
-
-#[cfg(test)]
-mod tests;

@@ -1,6 +1,6 @@
 -- From what each stage ensures to what the words and the files call for, and to what the sink then holds.
 use Rattle.std.proofs.Common.{ap, ◌≡◌, ℕ, List, length, Option, Some, None, Result, Ok, Err, IfOk, IfErr, string_bytes, sym, ◌∙◌, subst, inl, inr}
-use Rattle.std.specs.Prelude.{OnOk, OnErr, String}
+use Rattle.std.specs.Prelude.{◌≤◌, IfSome, OnOk, OnErr, String}
 use Rattle.std.specs.declared.alloc.Global.{Global}
 use Rattle.std.proofs.Math.Seq.{take-length}
 use Rattle.trace_base.specs.Device.{File, Rose, Appended, AppendedPart}
@@ -9,24 +9,37 @@ use Rattle.tla_ast.specs.declared.config.Config.{Config}
 use Rattle.tla_ast.specs.declared.module.Program.{Program}
 use Rattle.tla_terms.specs.declared.spec.Spec.{Spec}
 use Rattle.path_updates.specs.declared.line.Log.{Log}
+use Rattle.tla_core.specs.declared.state.Shown.{Shown}
+use Rattle.line_steps.specs.Logs.{system}
+use Rattle.state_layers.specs.Answers.{AllAssumed, IsAnswer}
+use Rattle.state_layers.specs.Says.{IsUnassumed}
 use Rattle.state_layers.specs.declared.answer.Answer.{Answer}
 use Rattle.state_layers.specs.declared.answer.Answer.TheVariants.{Explained, NotExplained, NoInitial, InitFault, Fault, AssumeFault, AssumeFalse, LayerLimit, TotalLimit}
+use Rattle.state_verdicts.specs.Verdicts.{IsVerdict}
+use Rattle.state_verdicts.specs.declared.verdict.Verdict.{Verdict}
+use Rattle.state_verdicts.specs.declared.verdict.Verdict.TheVariants as verdict
+use Rattle.spec_pairs.specs.Filling.{pair_asks}
+use Rattle.ring_files.specs.Ring.{ring_files, ring_job}
 use Rattle.run_words.specs.declared.job.Job.{Job}
 use Rattle.run_words.specs.declared.job.Words.TheVariants.{Validate, Check, SelfRun}
 use Rattle.run_words.specs.declared.job.Words.{Words}
-use Rattle.run_words.specs.Words.{AreWords, Reads}
+use Rattle.run_words.specs.Words.{AreWords, JobMeets, MeetsRules, Reads}
 use Rattle.run_reading.specs.Reaches.{AllRead}
+use Rattle.run_reading.specs.Given.{AllGiven}
 use Rattle.run_stages.specs.declared.stop.Stop.{Stop}
 use Rattle.run_stages.specs.declared.stop.Stop.TheVariants as stop
 use Rattle.run_stages.specs.Stops.{StopsBy}
+use Rattle.run_stages.specs.GivenStops.{GivenStopsBy}
 use Rattle.trace_cli.specs.declared.judge.Judged.{Judged}
 use Rattle.trace_cli.specs.declared.call.Status.{Status}
 use Rattle.trace_cli.specs.declared.call.Status.TheVariants as status
-use Rattle.trace_cli.specs.Calls.{Answers, Calls, is_refused, is_answered, named_in, status_of}
+use Rattle.trace_cli.specs.Calls.{Answers, AnswersGiven, Calls, CallsGiven, asked_by, is_answered, is_answered_given, is_judged, is_refused, is_refused_given, is_unassumed, named_in, status_of, status_of_verdict}
 use Rattle.run_reading.specs.Refusals.{all_files}
 use Rattle.run_texts.specs.Answers.{Named, answer_text}
-use Rattle.run_texts.specs.Files.{device_text, words_text}
-use Rattle.trace_cli.specs.Run.{HasFailed, HoldsPart, IsNotThere, IsStop, IsWanted, Runs, in_no_form, not_there, validates, of_report, of_device}
+use Rattle.run_texts.specs.Verdicts.{verdict_text}
+use Rattle.run_texts.specs.Files.{device_text}
+use Rattle.trace_cli.specs.Smoke.{IsSmokeStop, SmokeTests, is_not_explained, is_sure}
+use Rattle.trace_cli.specs.Run.{HasFailed, HoldsPart, IsStop, IsWanted, Runs, checks, in_no_form, tests_itself, validates, of_report, of_device}
 
 -- what a job calls for, the words being that job
 pub runs_job : (words : List (List ℕ)) (holds : Option (List File)) (b n : ℕ) (job : Job) (r : Result Judged Stop) → AreWords words (Validate job)
@@ -47,13 +60,60 @@ stop_of : (words : List (List ℕ)) (holds : Option (List File)) (b n : ℕ) (jo
     → StopsBy holds b n job x → IsStop words holds b n x
 stop_of words holds b n job (stop.Refused report) form by =
     validates job status.Reading (string_bytes report) form (is_refused (string_bytes report) by)
-stop_of words holds b n job (stop.Device name) form by = (by.0, record { job = job; limit = by.1.0; form = form; wants = by.1.1 })
+stop_of words holds b n job (stop.Device name) form by = (by.0, record { command = Validate job; form = form; wants = by.1 })
 stop_of words holds b n job stop.NoMemory form by = tt
 
 pub stops_job : (words : List (List ℕ)) (holds : Option (List File)) (b n : ℕ) (job : Job) (r : Result Judged Stop) → AreWords words (Validate job)
     → IfErr r (StopsBy holds b n job) → IfErr r (IsStop words holds b n)
 stops_job words holds b n job (Ok j) form by = tt
 stops_job words holds b n job (Err x) form by = stop_of words holds b n job x form by
+
+-- what a job of `check` calls for, the words being that job
+pub runs_given : (words : List (List ℕ)) (holds : Option (List File)) (b n : ℕ) (job : Job) (witness : List ℕ) (r : Result Judged Stop) → AreWords words (Check job witness)
+    → IfOk r (λ j. CallsGiven holds b n job witness j.status (string_bytes j.report))
+    → IfOk r (λ j. Runs words holds b n j.status (string_bytes j.report))
+runs_given words holds b n job witness (Ok j) form calls = checks job witness j.status (string_bytes j.report) form calls
+runs_given words holds b n job witness (Err x) form calls = tt
+
+given_stop_of : (words : List (List ℕ)) (holds : Option (List File)) (b n : ℕ) (job : Job) (witness : List ℕ) (x : Stop) → AreWords words (Check job witness)
+    → GivenStopsBy holds b n job witness x → IsStop words holds b n x
+given_stop_of words holds b n job witness (stop.Refused report) form by =
+    checks job witness status.Reading (string_bytes report) form (is_refused_given (string_bytes report) by)
+given_stop_of words holds b n job witness (stop.Device name) form by = (by.0, record { command = Check job witness; form = form; wants = by.1 })
+given_stop_of words holds b n job witness stop.NoMemory form by = tt
+
+pub stops_given : (words : List (List ℕ)) (holds : Option (List File)) (b n : ℕ) (job : Job) (witness : List ℕ) (r : Result Judged Stop) → AreWords words (Check job witness)
+    → IfErr r (GivenStopsBy holds b n job witness) → IfErr r (IsStop words holds b n)
+stops_given words holds b n job witness (Ok j) form by = tt
+stops_given words holds b n job witness (Err x) form by = given_stop_of words holds b n job witness x form by
+
+-- the rules that a job of `check` meets
+pub check_meets : (read : Option Words) (w : Words) (job : Job) (witness : List ℕ) → IfSome read MeetsRules → read ≡ Some w → w ≡ Check job witness → JobMeets job
+check_meets read w job witness meets is same =
+    (subst (λ (x : Words). MeetsRules x) same (subst (λ (r : Option Words). IfSome r MeetsRules) is meets)).0
+
+-- what the smoke test calls for, the words being that command
+pub runs_smoke : (words : List (List ℕ)) (holds : Option (List File)) (b n count : ℕ) (r : Result Judged Stop) → AreWords words (SelfRun count)
+    → IfOk r (λ j. SmokeTests count j.status (string_bytes j.report))
+    → IfOk r (λ j. Runs words holds b n j.status (string_bytes j.report))
+runs_smoke words holds b n count (Ok j) form tests = tests_itself count j.status (string_bytes j.report) form tests
+runs_smoke words holds b n count (Err x) form tests = tt
+
+smoke_stop_of : (words : List (List ℕ)) (holds : Option (List File)) (b n count : ℕ) (x : Stop) → AreWords words (SelfRun count) → IsSmokeStop count x
+    → IsStop words holds b n x
+smoke_stop_of words holds b n count (stop.Refused report) form by = tests_itself count status.Reading (string_bytes report) form by
+smoke_stop_of words holds b n count (stop.Device name) form by = absurd by
+smoke_stop_of words holds b n count stop.NoMemory form by = tt
+
+pub stops_smoke : (words : List (List ℕ)) (holds : Option (List File)) (b n count : ℕ) (r : Result Judged Stop) → AreWords words (SelfRun count)
+    → IfErr r (IsSmokeStop count) → IfErr r (IsStop words holds b n)
+stops_smoke words holds b n count (Ok j) form by = tt
+stops_smoke words holds b n count (Err x) form by = smoke_stop_of words holds b n count x form by
+
+-- the number of lines of the smoke test
+pub smoke_meets : (read : Option Words) (w : Words) (count : ℕ) → IfSome read MeetsRules → read ≡ Some w → w ≡ SelfRun count → 1 ≤ count
+smoke_meets read w count meets is same =
+    (subst (λ (x : Words). MeetsRules x) same (subst (λ (r : Option Words). IfSome r MeetsRules) is meets)).0
 
 -- no report goes with a failed call on the files or on the sink
 status_no_device : (a : Answer) → status_of a ≡ status.Device → ⊥
@@ -71,11 +131,31 @@ calls_no_device : (holds : Option (List File)) (b n : ℕ) (job : Job) (s : Stat
 calls_no_device holds b n job s report (is_refused _ refusal) e = cc
 calls_no_device holds b n job s report (is_answered p c g log _ _ read answers) e = status_no_device answers.answer (sym answers.status_is ∙ e)
 
+verdict_no_device : (v : Verdict) → status_of_verdict v ≡ status.Device → ⊥
+verdict_no_device verdict.Valid e = cc
+verdict_no_device (verdict.Invalid index reason) e = cc
+verdict_no_device (verdict.Fault index kind at) e = cc
+
+answers_no_device : (job : Job) (p : Program) (c : Config) (g : Spec) (log : Log) (w : List Shown) (s : Status) (report : List ℕ)
+    → AnswersGiven job p c g log w s report → s ≡ status.Device → ⊥
+answers_no_device job p c g log w s report (is_unassumed answer is at told) e = status_no_device answer (sym at ∙ e)
+answers_no_device job p c g log w s report (is_judged v all is at told) e = verdict_no_device v (sym at ∙ e)
+
+given_no_device : (holds : Option (List File)) (b n : ℕ) (job : Job) (witness : List ℕ) (s : Status) (report : List ℕ) → CallsGiven holds b n job witness s report
+    → s ≡ status.Device → ⊥
+given_no_device holds b n job witness s report (is_refused_given _ refusal) e = cc
+given_no_device holds b n job witness s report (is_answered_given p c g log w _ _ read answers) e = answers_no_device job p c g log w s report answers e
+
+smoke_no_device : (count : ℕ) (s : Status) (report : List ℕ) → SmokeTests count s report → s ≡ status.Device → ⊥
+smoke_no_device count s report (is_sure p c g log w widest read is valid) e = cc
+smoke_no_device count s report (is_not_explained _ _ calls other) e = calls_no_device (Some (ring_files count)) 0 0 ring_job s report calls e
+
 pub runs_no_device : (words : List (List ℕ)) (holds : Option (List File)) (b n : ℕ) (s : Status) (report : List ℕ) → Runs words holds b n s report
     → s ≡ status.Device → ⊥
 runs_no_device words holds b n s report (in_no_form none) e = cc
-runs_no_device words holds b n s report (not_there w form there) e = cc
 runs_no_device words holds b n s report (validates job _ _ form calls) e = calls_no_device holds b n job s report calls e
+runs_no_device words holds b n s report (checks job witness _ _ form calls) e = given_no_device holds b n job witness s report calls e
+runs_no_device words holds b n s report (tests_itself count _ _ form tests) e = smoke_no_device count s report tests e
 
 -- a whole piece is a first part of itself
 pub whole_part : (old new : Option (List ℕ)) (piece : List ℕ) → Appended old piece new → AppendedPart old piece new
@@ -109,6 +189,40 @@ pub calls_answered : (holds : Option (List File)) (b n : ℕ) (job : Job) (p : P
 calls_answered holds b n job p c s log (Ok j) read answers = is_answered p c s log j.status (string_bytes j.report) read answers
 calls_answered holds b n job p c s log (Err x) read answers = tt
 
+-- what a job of `check` calls for, all texts being read
+pub given_answered : (holds : Option (List File)) (b n : ℕ) (job : Job) (witness : List ℕ) (p : Program) (c : Config) (s : Spec) (log : Log) (w : List Shown) (r : Result Judged Stop)
+    → AllGiven holds job witness p c s log w → IfOk r (λ j. AnswersGiven job p c s log w j.status (string_bytes j.report))
+    → IfOk r (λ j. CallsGiven holds b n job witness j.status (string_bytes j.report))
+given_answered holds b n job witness p c s log w (Ok j) read answers = is_answered_given p c s log w j.status (string_bytes j.report) read answers
+given_answered holds b n job witness p c s log w (Err x) read answers = tt
+
+-- an answer with its status and its report
+pub answered : (job : Job) (p : Program) (c : Config) (s : Spec) (log : Log) (a : Answer) (r : Result Judged Stop) → IsAnswer (system s log (asked_by job.options)) a
+    → IfOk r (λ j. j.status ≡ status_of a) → IfOk r (λ j. string_bytes j.report ≡ answer_text (named_in job p c s log) a)
+    → IfOk r (λ j. Answers job p c s log j.status (string_bytes j.report))
+answered job p c s log a (Ok j) is at told = record { answer = a; is_true = is; status_is = at; report_is = told }
+answered job p c s log a (Err x) is at told = tt
+
+-- an assumption that is not TRUE, beside given states
+pub unassumed_told : (job : Job) (p : Program) (c : Config) (s : Spec) (log : Log) (w : List Shown) (a : Answer) (r : Result Judged Stop)
+    → IsUnassumed (system s log (asked_by job.options)) a → IfOk r (λ j. j.status ≡ status_of a)
+    → IfOk r (λ j. string_bytes j.report ≡ answer_text (named_in job p c s log) a) → IfOk r (λ j. AnswersGiven job p c s log w j.status (string_bytes j.report))
+unassumed_told job p c s log w a (Ok j) is at told = is_unassumed a is at told
+unassumed_told job p c s log w a (Err x) is at told = tt
+
+-- a verdict with its status and its report
+pub judged_told : (job : Job) (p : Program) (c : Config) (s : Spec) (log : Log) (w : List Shown) (v : Verdict) (r : Result Judged Stop)
+    → AllAssumed (system s log (asked_by job.options)) → IsVerdict (pair_asks s log (asked_by job.options)) w v → IfOk r (λ j. j.status ≡ status_of_verdict v)
+    → IfOk r (λ j. string_bytes j.report ≡ verdict_text (all_files p c) (length w) v) → IfOk r (λ j. AnswersGiven job p c s log w j.status (string_bytes j.report))
+judged_told job p c s log w v (Ok j) all is at told = is_judged v all is at told
+judged_told job p c s log w v (Err x) all is at told = tt
+
+-- the report of a verdict, by the files and the number of states
+pub verdict_told : (p : Program) (c : Config) (w : List Shown) (v : Verdict) (files : List (List ℕ)) (count : ℕ) (report : List ℕ) → files ≡ all_files p c → count ≡ length w
+    → report ≡ verdict_text files count v → report ≡ verdict_text (all_files p c) (length w) v
+verdict_told p c w v files count report are is told =
+    told ∙ ap (λ (fs : List (List ℕ)). verdict_text fs count v) are ∙ ap (λ (n : ℕ). verdict_text (all_files p c) n v) is
+
 -- the command that was read
 pub form_of : (words : List (List ℕ)) (read : Option Words) (w v : Words) → Reads words (Ok read) → read ≡ Some w → w ≡ v → AreWords words v
 form_of words read w v reads is same = subst (λ (x : Words). AreWords words x) same (subst (λ (r : Option Words). Reads words (Ok r)) is reads)
@@ -131,19 +245,6 @@ device_stop words holds b n x name is by = subst (λ (y : Stop). IsStop words ho
 -- no command was read
 pub no_form : (words : List (List ℕ)) (read : Option Words) → Reads words (Ok read) → read ≡ None → (w : Words) → AreWords words w → ⊥
 no_form words read reads is = subst (λ (r : Option Words). Reads words (Ok r)) is reads
-
--- the words are a command that is not there yet
-pub not_yet : (words : List (List ℕ)) (holds : Option (List File)) (b n : ℕ) (read : Option Words) (w v : Words) → Reads words (Ok read) → read ≡ Some w → w ≡ v
-    → IsNotThere v → Runs words holds b n status.Words words_text
-not_yet words holds b n read w v reads is same there = not_there v (form_of words read w v reads is same) there
-
-pub not_yet_check : (words : List (List ℕ)) (holds : Option (List File)) (b n : ℕ) (read : Option Words) (w : Words) (job : Job) (witness : List ℕ) → Reads words (Ok read)
-    → read ≡ Some w → w ≡ Check job witness → Runs words holds b n status.Words words_text
-not_yet_check words holds b n read w job witness reads is same = not_yet words holds b n read w (Check job witness) reads is same tt
-
-pub not_yet_selfrun : (words : List (List ℕ)) (holds : Option (List File)) (b n : ℕ) (read : Option Words) (w : Words) (count : ℕ) → Reads words (Ok read)
-    → read ≡ Some w → w ≡ SelfRun count → Runs words holds b n status.Words words_text
-not_yet_selfrun words holds b n read w count reads is same = not_yet words holds b n read w (SelfRun count) reads is same tt
 
 -- the report of an answer, by what the labels are
 pub report_told : (job : Job) (p : Program) (c : Config) (s : Spec) (log : Log) (answer : Answer) (files : List (List ℕ)) (lines : ℕ) (report : List ℕ)

@@ -6,15 +6,23 @@ use Rattle.tla_ast.specs.declared.module.Program.{Program}
 use Rattle.tla_terms.specs.declared.spec.Spec.{Spec}
 use Rattle.path_updates.specs.declared.line.Log.{Log}
 use Rattle.line_steps.specs.Logs.{Asked, system}
-use Rattle.state_layers.specs.Answers.{IsAnswer}
+use Rattle.state_layers.specs.Answers.{AllAssumed, IsAnswer}
+use Rattle.state_layers.specs.Says.{IsUnassumed}
 use Rattle.state_layers.specs.declared.answer.Answer.{Answer}
 use Rattle.state_layers.specs.declared.answer.Answer.TheVariants.{Explained, NotExplained, NoInitial, InitFault, Fault, AssumeFault, AssumeFalse, LayerLimit, TotalLimit}
+use Rattle.tla_core.specs.declared.state.Shown.{Shown}
+use Rattle.state_verdicts.specs.Verdicts.{IsVerdict}
+use Rattle.state_verdicts.specs.declared.verdict.Verdict.{Verdict}
+use Rattle.state_verdicts.specs.declared.verdict.Verdict.TheVariants as verdict
 use Rattle.run_words.specs.declared.job.Job.{Job}
 use Rattle.run_words.specs.declared.job.Options.{Options}
 use Rattle.run_reading.specs.Reaches.{AllRead}
 use Rattle.run_reading.specs.Refusals.{IsRefusal, all_files}
+use Rattle.run_reading.specs.Given.{AllGiven, IsGivenRefusal}
 use Rattle.run_texts.specs.Answers.{Named, answer_text}
+use Rattle.run_texts.specs.Verdicts.{verdict_text}
 use Rattle.spec_steps.specs.Beside.{asked}
+use Rattle.spec_pairs.specs.Filling.{pair_asks}
 use Rattle.trace_cli.specs.declared.call.Status.{Status}
 use Rattle.trace_cli.specs.declared.call.Status.TheVariants.{Done, Not, Reading, Evaluation, Limit}
 
@@ -57,3 +65,23 @@ pub data Calls (holds : Option (List File)) (before now : ℕ) (job : Job) : Sta
   is_refused : (report : List ℕ) → IsRefusal holds before now job report → Calls holds before now job Reading report
   is_answered : (p : Program) (c : Config) (s : Spec) (log : Log) (status : Status) (report : List ℕ) → AllRead holds job p c s log
       → Answers job p c s log status report → Calls holds before now job status report
+
+-- the status that goes with a verdict
+abbrev pub status_of_verdict : Verdict → Status
+status_of_verdict verdict.Valid = Done
+status_of_verdict (verdict.Invalid index reason) = Not
+status_of_verdict (verdict.Fault index kind at) = Evaluation
+
+-- What is true of given states beside the specification and the log, with its status and its report: the first assumption that is not TRUE, of which
+-- `validate` says the same; and where all are TRUE, the verdict on the states.
+pub data AnswersGiven (job : Job) (p : Program) (c : Config) (s : Spec) (log : Log) (w : List Shown) (status : Status) (report : List ℕ) : Type 0 where
+  is_unassumed : (answer : Answer) → IsUnassumed (system s log (asked_by job.options)) answer → status ≡ status_of answer
+      → report ≡ answer_text (named_in job p c s log) answer → AnswersGiven job p c s log w status report
+  is_judged : (v : Verdict) → AllAssumed (system s log (asked_by job.options)) → IsVerdict (pair_asks s log (asked_by job.options)) w v
+      → status ≡ status_of_verdict v → report ≡ verdict_text (all_files p c) (length w) v → AnswersGiven job p c s log w status report
+
+-- what the job of `check` calls for, the file of states being this one
+pub data CallsGiven (holds : Option (List File)) (before now : ℕ) (job : Job) (witness : List ℕ) : Status → List ℕ → Type 0 where
+  is_refused_given : (report : List ℕ) → IsGivenRefusal holds before now job witness report → CallsGiven holds before now job witness Reading report
+  is_answered_given : (p : Program) (c : Config) (s : Spec) (log : Log) (w : List Shown) (status : Status) (report : List ℕ)
+      → AllGiven holds job witness p c s log w → AnswersGiven job p c s log w status report → CallsGiven holds before now job witness status report

@@ -1,3 +1,5 @@
 pub mod Codes
 pub mod Calls
+pub mod Smoke
+pub mod Tested
 pub mod Run

@@ -6,32 +6,35 @@ use Rattle.run_words.specs.declared.job.Words.{Words}
 use Rattle.run_words.specs.declared.job.Words.TheVariants.{Validate, Check, SelfRun}
 use Rattle.run_words.specs.Words.{AreWords}
 use Rattle.run_reading.specs.Reaches.{Wants}
+use Rattle.run_reading.specs.Given.{GivenWants}
 use Rattle.run_stages.specs.declared.stop.Stop.{Stop}
 use Rattle.run_stages.specs.declared.stop.Stop.TheVariants as stop
 use Rattle.run_texts.specs.Files.{device_text, words_text}
 use Rattle.trace_cli.specs.declared.call.Status.{Status}
 use Rattle.trace_cli.specs.declared.call.Status.TheVariants as status
-use Rattle.trace_cli.specs.Calls.{Calls}
+use Rattle.trace_cli.specs.Calls.{Calls, CallsGiven}
+use Rattle.trace_cli.specs.Smoke.{SmokeTests}
 
--- the words are a command that is not there yet
-abbrev pub IsNotThere : Words → Type 0
-IsNotThere (Validate job) = ⊥
-IsNotThere (Check job witness) = Unit {0}
-IsNotThere (SelfRun n) = Unit {0}
-
--- What the words and the files call for. Words that are in no form of a command are refused; so are, for now, those of `check` and `selfrun`.
+-- What the words and the files call for. Words that are in no form of a command are refused.
 pub data Runs (words : List (List ℕ)) (holds : Option (List File)) (before now : ℕ) : Status → List ℕ → Type 0 where
   in_no_form : ((w : Words) → AreWords words w → ⊥) → Runs words holds before now status.Words words_text
-  not_there : (w : Words) → AreWords words w → IsNotThere w → Runs words holds before now status.Words words_text
   validates : (job : Job) (s : Status) (report : List ℕ) → AreWords words (Validate job) → Calls holds before now job s report
       → Runs words holds before now s report
+  checks : (job : Job) (witness : List ℕ) (s : Status) (report : List ℕ) → AreWords words (Check job witness) → CallsGiven holds before now job witness s report
+      → Runs words holds before now s report
+  tests_itself : (n : ℕ) (s : Status) (report : List ℕ) → AreWords words (SelfRun n) → SmokeTests n s report → Runs words holds before now s report
 
--- the words ask for a file that is read next, nothing before it being refused
+-- the command asks for a file that is read next, nothing before it being refused
+abbrev pub AsksFor : Option (List File) → List ℕ → Words → Type 0
+AsksFor holds name (Validate job) = (limit : ℕ) × Wants holds job name limit
+AsksFor holds name (Check job witness) = (limit : ℕ) × GivenWants holds job witness name limit
+AsksFor holds name (SelfRun n) = ⊥
+
+-- so do the words
 pub record IsWanted (words : List (List ℕ)) (holds : Option (List File)) (name : List ℕ) : Type 0 where
-  pub job : Job
-  pub limit : ℕ
-  pub form : AreWords words (Validate job)
-  pub wants : Wants holds job name limit
+  pub command : Words
+  pub form : AreWords words command
+  pub wants : AsksFor holds name command
 
 -- The call stops: a first refusal is its report; or a read of a file failed that is read next; or memory is wanting.
 abbrev pub IsStop : List (List ℕ) → Option (List File) → ℕ → ℕ → Stop → Type 0

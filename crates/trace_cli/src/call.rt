@@ -12,9 +12,9 @@ use trace_base::{Files, Sink};
 /// How a call ended.
 #[derive(Clone, Copy, Debug, Drop, PartialEq, Eq)]
 pub enum Status {
-    /// The log is explained.
+    /// The log is explained, or the given states are valid.
     Done,
-    /// The log is not explained, or no state can be the first.
+    /// The log is not explained, no state can be the first, or the given states are not valid.
     Not,
     /// The words are of no form.
     Words,

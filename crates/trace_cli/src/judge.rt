@@ -1,14 +1,19 @@
 ghost use Rattle.std.specs.Prelude.{◌≡◌, ◌≤◌, IfOk, IfErr, length, string_bytes};
+ghost use Rattle.line_steps.specs.Logs.{system};
+ghost use Rattle.state_layers.specs.Answers.{IsAnswer};
 ghost use Rattle.run_words.specs.Line.{words_of};
 ghost use Rattle.run_words.specs.Words.{JobMeets};
 ghost use Rattle.run_stages.specs.Stops.{StopsBy};
 ghost use Rattle.run_stages.specs.declared.stop.Stop.TheVariants.{NoMemory};
 ghost use Rattle.run_texts.specs.Files.{words_text};
+ghost use Rattle.run_texts.specs.Answers.{answer_text};
 ghost use Rattle.spec_steps.specs.Beside.{IsReady};
-ghost use Rattle.trace_cli.specs.Calls.{Answers, Calls, status_of};
+ghost use Rattle.trace_cli.specs.Calls.{Answers, Calls, asked_by, named_in, status_of};
 ghost use Rattle.trace_cli.specs.Run.{IsStop, Runs};
 
 use crate::call::Status;
+use crate::given::judge_given;
+use crate::smoke::judge_smoke;
 use run_stages::{Accepted, Stop, all_files, read_all};
 use run_texts::{Labels, answer_text, words_text};
 use run_words::{Job, Words, read_words};
@@ -35,8 +40,8 @@ pub fn judge<F: Files>(alloc: Global, words: &[String], files: &mut F) -> Result
     match read {
         Some(command) => match &command {
             Words::Validate(job) => judge_job(alloc, job, files),
-            Words::Check(_, _) => refuse_words(alloc),
-            Words::SelfRun(_) => refuse_words(alloc),
+            Words::Check(job, witness) => judge_given(alloc, job, witness, files),
+            Words::SelfRun(lines) => judge_smoke(alloc, *lines),
         },
         None => refuse_words(alloc),
     }
@@ -73,16 +78,42 @@ fn answer(alloc: Global, job: &Job, accepted: &Accepted) -> Result<Judged, Stop>
     ensures answers { IfOk result (λ j. Answers job.now accepted.now.program accepted.now.config accepted.now.spec accepted.now.log j.status (string_bytes j.report)) }
     ensures stopped { IfErr result (λ stop. stop ≡ NoMemory) }
 {
-    let limit = job.options.limit;
+    let answer = search_log(alloc, job, accepted)?;
+    told(alloc, job, accepted, &answer)
+}
+
+/// The answer of a search for what explains the log.
+pub(crate) fn search_log(alloc: Global, job: &Job, accepted: &Accepted) -> Result<Answer, Stop>
+    requires meets { JobMeets job.now }
+    requires ready { IsReady accepted.now.spec accepted.now.log }
+    requires few_lines { length accepted.now.log.lines ≤ 200000 }
+    ensures is_true { IfOk result (IsAnswer (system accepted.now.spec accepted.now.log (asked_by job.now.options))) }
+    ensures stopped { IfErr result (λ stop. stop ≡ NoMemory) }
+{
     let steps = SpecSteps {
         spec: &accepted.spec,
         log: &accepted.log,
         stutter: job.options.stutter,
         within: job.options.within,
-        limit,
+        limit: job.options.limit,
     };
     small_law(&steps);
     let answer = search_layers(alloc, &steps)?;
+    Ok(answer)
+}
+
+/// The status and the report of an answer.
+pub(crate) fn told(
+    alloc: Global,
+    job: &Job,
+    accepted: &Accepted,
+    answer: &Answer,
+) -> Result<Judged, Stop>
+    ensures status { IfOk result (λ j. j.status ≡ status_of answer.now) }
+    ensures report { IfOk result (λ j. string_bytes j.report
+        ≡ answer_text (named_in job.now accepted.now.program accepted.now.config accepted.now.spec accepted.now.log) answer.now) }
+    ensures stopped { IfErr result (λ stop. stop ≡ NoMemory) }
+{
     let files = all_files(alloc, &accepted.program, &accepted.config)?;
     let labels = Labels {
         files: &files,
@@ -90,11 +121,11 @@ fn answer(alloc: Global, job: &Job, accepted: &Accepted) -> Result<Judged, Stop>
         variables: &accepted.spec.variables,
         unchecked: &accepted.spec.unchecked,
         lines: accepted.log.lines.len(),
-        limit,
+        limit: job.options.limit,
     };
     Ok(Judged {
-        status: status_of(&answer),
-        report: answer_text(alloc, &labels, &answer)?,
+        status: status_of(answer),
+        report: answer_text(alloc, &labels, answer)?,
     })
 }
 

@@ -2,9 +2,8 @@
 #![tactic(auto)]
 
 mod call;
+mod given;
 mod judge;
+mod smoke;
 
 pub use call::{Status, run};
-
-#[cfg(test)]
-mod tests;

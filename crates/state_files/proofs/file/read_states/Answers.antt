@@ -1,6 +1,12 @@
-use Rattle.std.proofs.Common.{ℕ, List, IfOk, subst}
+use Rattle.std.proofs.Common.{ℕ, List, subst}
 use Rattle.state_files.specs.Files.{StateFileSays}
+use Rattle.state_files.proofs.LongStates.{states_long}
 use Rattle.state_files.proofs.file.read_states.Goals as goal
 
-pub returns : goal.returns
-returns c = subst (λ (names : List (List ℕ)). IfOk c.read_lines.result (StateFileSays names c.args.bytes.now)) c.items.ensures c.read_lines.ensures
+pub returns-clause-says : goal.returns-clause-says
+returns-clause-says c = subst (λ (names : List (List ℕ)). StateFileSays names c.args.bytes.now c.in_ok-said.said) c.items.ensures c.in_ok-said.ensures
+
+pub returns-clause-long : goal.returns-clause-long
+returns-clause-long c =
+    states_long c.args.variables.now c.args.bytes.now c.in_ok-said.said
+    (subst (λ (names : List (List ℕ)). StateFileSays names c.args.bytes.now c.in_ok-said.said) c.items.ensures c.in_ok-said.ensures)

@@ -1,0 +1,92 @@
+ghost use Rattle.std.specs.Prelude.{◌≡◌, ◌≤◌, All, Err, IfErr, IfOk, Ok, length};
+ghost use Rattle.line_steps.specs.Says.{IsState};
+ghost use Rattle.spec_steps.specs.Beside.{IsReady};
+ghost use Rattle.state_files.specs.Files.{StateFileSays};
+ghost use Rattle.state_files.specs.declared.refusal.StateRefusal.{StateRefusal};
+ghost use Rattle.run_words.specs.Words.{JobMeets};
+ghost use Rattle.run_texts.specs.GivenStates.{states_refusal};
+ghost use Rattle.run_reading.specs.Texts.{HasText};
+ghost use Rattle.run_reading.specs.Given.{AllGiven, GivenWants, states_limit};
+ghost use Rattle.run_stages.specs.Stops.{RefusedWith};
+ghost use Rattle.run_stages.specs.GivenStops.{GivenStopsBy};
+
+use crate::reading::{Accepted, read_all};
+use crate::stop::{Stop, unread};
+use run_texts::states_refusal;
+use run_words::Job;
+use state_files::read_states;
+use std::alloc::Global;
+use tla_core::Behaviour;
+use trace_base::{Files, Names, Text, read_file};
+
+/// How many bytes a file of states may have.
+const STATES_LIMIT: usize = 268_435_456;
+
+/// What was made of the texts of a job of `check`: what was accepted, and the states that are given beside it.
+#[derive(Drop)]
+pub struct Given {
+    pub accepted: Accepted,
+    pub states: Behaviour,
+}
+
+/// Reads the texts of a job of `check` in their order: those of `validate`, then the file of states. The first refusal ends the reading; nothing is
+/// read behind it.
+pub fn read_given<F: Files>(
+    alloc: Global,
+    job: &Job,
+    witness: &Text,
+    files: &mut F,
+) -> Result<Given, Stop>
+    requires { JobMeets job.now }
+    ensures accepted { IfOk result (λ g. AllGiven (F.holds files.old) job.now witness.now g.accepted.program g.accepted.config g.accepted.spec g.accepted.log g.states) }
+    ensures ready { IfOk result (λ g. IsReady g.accepted.spec g.accepted.log) }
+    ensures few_lines { IfOk result (λ g. length g.accepted.log.lines ≤ 200000) }
+    ensures states { IfOk result (λ g. All (λ x. IsState (length g.accepted.spec.variables) x.state) g.states) }
+    ensures stopped { IfErr result (GivenStopsBy (F.holds files.old) (F.faults files.old) (F.faults files.new) job.now witness.now) }
+    ensures same { F.holds files.new ≡ F.holds files.old }
+    ensures later { F.faults files.old ≤ F.faults files.new }
+{
+    let accepted = read_all(alloc, job, files)?;
+    let text = read_witness(alloc, job, witness, files)?;
+    let states = states_of(alloc, &accepted.spec.variables, witness, text.as_slice())?;
+    Ok(Given { accepted, states })
+}
+
+/// The bytes of the file of states, which is read next.
+fn read_witness<F: Files>(
+    alloc: Global,
+    job: &Job,
+    witness: &Text,
+    files: &mut F,
+) -> Result<Vec<u8>, Stop>
+    requires { GivenWants (F.holds files.now) job.now witness.now witness.now states_limit }
+    ensures text { IfOk result (λ text. HasText (F.holds files.old) witness.now states_limit text.items) }
+    ensures stopped { IfErr result (GivenStopsBy (F.holds files.old) (F.faults files.old) (F.faults files.new) job.now witness.now) }
+    ensures same { F.holds files.new ≡ F.holds files.old }
+    ensures later { F.faults files.old ≤ F.faults files.new }
+{
+    match read_file(alloc, files, witness.as_str(), STATES_LIMIT) {
+        Ok(text) => Ok(text),
+        Err(fault) => Err(unread(alloc, fault, witness)?),
+    }
+}
+
+/// The states that the text of a file of this name says.
+fn states_of(
+    alloc: Global,
+    variables: &Names,
+    witness: &Text,
+    text: &[u8],
+) -> Result<Behaviour, Stop>
+    requires short { length text.now ≤ states_limit }
+    ensures says { IfOk result (λ w. StateFileSays variables.now text.now (Ok w)) }
+    ensures states { IfOk result (λ w. All (λ x. IsState (length variables.now) x.state) w) }
+    ensures refused { IfErr result (RefusedWith (λ report. (refusal : StateRefusal) × StateFileSays variables.now text.now (Err refusal)
+        × (report ≡ states_refusal witness.now refusal))) }
+{
+    let said = read_states(alloc, variables, text)?;
+    match said {
+        Ok(states) => Ok(states),
+        Err(refusal) => Err(Stop::Refused(states_refusal(alloc, witness.as_str(), &refusal)?)),
+    }
+}

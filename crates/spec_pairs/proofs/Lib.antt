@@ -1,0 +1,9 @@
+mod Lines
+mod Orders
+mod Fixed
+mod Asking
+mod Told
+mod Keeping
+mod Seen
+mod Led
+mod Answering

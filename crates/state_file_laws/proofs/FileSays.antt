@@ -1,0 +1,58 @@
+-- Printed states are read again as the same states.
+use Rattle.std.proofs.Common.{◌≡◌, ℕ, ◌+◌, List, [], ◌∷◌, ◌++◌, inl, inr, Result, Ok, refl, sym, ap, ◌∙◌, subst, true≢false, All, append_assoc, append-nil}
+use Rattle.std.proofs.lemmas.List.Elements.{All-head, All-tail}
+use Rattle.serde_json.specs.Data.{object}
+use Rattle.serde_json.specs.Written.{compact_text}
+use Rattle.json_values.specs.Prints.{PrintsReadBack}
+use Rattle.tla_core.specs.declared.state.Shown.{Shown}
+use Rattle.state_files.specs.Fields.{LineFields}
+use Rattle.state_files.specs.Files.{StateLinesSay, pieces_of}
+use Rattle.state_files.specs.Lines.{FieldsSay, StateLineSays, StateSays, ValuesSay}
+use Rattle.run_texts.specs.States.{states_text}
+use Rattle.run_texts.specs.Ordered.{OrderAscends}
+use Rattle.state_file_laws.specs.Laws.{AreNames, IsShown, StatesReadBack}
+use Rattle.state_file_laws.proofs.CleanData.{IsClean, read_back, utf8_printed}
+use Rattle.state_file_laws.proofs.Feedless.{feedless, first_piece}
+use Rattle.state_file_laws.proofs.LineData.{fields_back, line_clean, line_low, line_written}
+use Rattle.state_file_laws.proofs.ShownData.{line_data, state_data}
+use Rattle.state_file_laws.proofs.StateData.{state_clean, state_given, state_known, state_low, state_reads, state_there}
+
+module _ (prints_back : PrintsReadBack) (order : OrderAscends) (names : List (List ℕ)) (are : AreNames names) where
+  abbrev line_of : Shown → List ℕ
+  line_of s = compact_text (object (line_data names s.mark s.state))
+
+  object_clean : (s : Shown) → IsShown names s → IsClean (object (line_data names s.mark s.state))
+  object_clean s h = line_clean names s.mark s.state h.mark (state_clean names s.state are.differ are.texts h.whole h.values prints_back order)
+
+  values_said : (s : Shown) (o : _) → IsShown names s → ValuesSay names s.mark (state_data names s.state) o → StateSays names s.mark (state_data names s.state) o
+  values_said s o h says =
+      inr (
+        λ f. true≢false (sym (state_known names s.state are.differ are.texts h.whole h.values prints_back order) ∙ f),
+        inr (λ f. true≢false (sym (state_there names s.state are.differ are.texts h.whole h.values prints_back order) ∙ f), says),
+      )
+
+  -- what the values say, the line of the state says
+  line_said : (s : Shown) (o : _) → IsShown names s → StateSays names s.mark (state_data names s.state) o → StateLineSays names (line_of s) o
+  line_said s o h says =
+      let deep = line_low names s.mark s.state (state_low names s.state are.differ are.texts h.whole h.values prints_back order) in
+      inl (
+        line_data names s.mark s.state,
+        (utf8_printed (object (line_data names s.mark s.state)) (object_clean s h), read_back (object (line_data names s.mark s.state)) (object_clean s h) deep),
+        subst (λ (r : Result LineFields (List ℕ)). FieldsSay names r o) (sym (fields_back names s.mark s.state h.mark)) says,
+      )
+
+  -- the lines of states say these states, behind those that were found
+  pub lines_say : (states found : List Shown) (number : ℕ) → All (IsShown names) states → StateLinesSay names number found (pieces_of (states_text names states)) (Ok (found ++ states))
+  lines_say [] found number h = (_, refl, ap Ok (append-nil found))
+  lines_say (s ∷ states) found number h =
+      let one : IsShown names s = All-head (IsShown names) s states h in
+      let text = line_written names s.mark s.state (states_text names states) (state_given names s.state are.differ are.texts one.whole one.values prints_back order) in
+      let values = state_reads names s.state are.differ are.texts one.whole one.values prints_back order in
+      let cut : pieces_of (states_text names (s ∷ states)) ≡ line_of s ∷ pieces_of (states_text names states) =
+      ap pieces_of text ∙ first_piece (line_of s) (states_text names states) (feedless (object (line_data names s.mark s.state)) (object_clean s one)) in
+      let rest = subst (λ (all : List Shown). StateLinesSay names (number + 1) (found ++ s ∷ []) (pieces_of (states_text names states)) (Ok all)) (append_assoc found (s ∷ []) states)
+      (lines_say states (found ++ s ∷ []) (number + 1) (All-tail (IsShown names) s states h)) in
+      subst (λ (ps : List (List ℕ)). StateLinesSay names number found ps (Ok (found ++ s ∷ states))) (sym cut) (_, line_said s _ one (values_said s _ one (inl (s.state, values, refl))), rest)
+
+pub states_read_back : PrintsReadBack → OrderAscends → StatesReadBack
+states_read_back prints_back order names states are shown = lines_say prints_back order names are states [] 1 shown

@@ -1,0 +1,9 @@
+mod CleanData
+mod CleanValues
+mod Feedless
+mod ShownData
+mod FieldOrder
+mod StateData
+mod LineData
+mod FileSays
+mod ReportSays

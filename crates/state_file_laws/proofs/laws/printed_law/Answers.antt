@@ -1,0 +1,12 @@
+use Rattle.state_file_laws.proofs.FileSays.{states_read_back}
+use Rattle.state_file_laws.proofs.ReportSays.{explained_reads_back, not_explained_reads_back}
+use Rattle.state_file_laws.proofs.laws.printed_law.Goals as goal
+
+pub returns-clause-states : goal.returns-clause-states
+returns-clause-states c = states_read_back c.json_laws.ensures.printed c.text_laws.ensures.ascending
+
+pub returns-clause-explained : goal.returns-clause-explained
+returns-clause-explained c = explained_reads_back c.json_laws.ensures.printed c.text_laws.ensures.ascending
+
+pub returns-clause-not_explained : goal.returns-clause-not_explained
+returns-clause-not_explained c = not_explained_reads_back c.json_laws.ensures.printed c.text_laws.ensures.ascending

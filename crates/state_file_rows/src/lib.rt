@@ -1,0 +1,5 @@
+//! Rows of files of states: runs, with what they give.
+#![tactic(auto)]
+
+#[cfg(test)]
+mod tests;

@@ -1,0 +1,131 @@
+ghost use Rattle.std.specs.Prelude.{◌≡◌, ◌≢◌, ◌≤◌, IfErr, IfOk, MatchOption, length, string_bytes};
+ghost use Rattle.line_steps.specs.Logs.{system};
+ghost use Rattle.state_layers.specs.Answers.{IsAnswer};
+ghost use Rattle.state_layers.specs.declared.answer.Answer.TheVariants.{Explained};
+ghost use Rattle.state_verdicts.specs.Laws.{HaveOne};
+ghost use Rattle.spec_steps.specs.Beside.{IsReady, asked};
+ghost use Rattle.spec_pairs.specs.Filling.{pair_asks};
+ghost use Rattle.run_words.specs.Words.{JobMeets};
+ghost use Rattle.run_stages.specs.declared.stop.Stop.TheVariants.{NoMemory};
+ghost use Rattle.run_texts.specs.Smoke.{smoke_text};
+ghost use Rattle.trace_cli.specs.Calls.{asked_by, status_of};
+ghost use Rattle.trace_cli.specs.Smoke.{IsSmokeStop, SmokeTests};
+ghost use Rattle.trace_cli.specs.Tested.{IsTested};
+
+use crate::call::Status;
+use crate::judge::{Judged, search_log, told};
+use ring_files::{ring_files, ring_job};
+use run_stages::{Accepted, Stop, read_all};
+use run_texts::smoke_text;
+use run_words::Job;
+use spec_pairs::SpecPairs;
+use spec_verdicts::{explained_law, verdict_on};
+use state_layers::Answer;
+use state_verdicts::{Verdict, one_law};
+use std::alloc::Global;
+use tla_core::Behaviour;
+
+/// What the smoke test over so many lines calls for.
+pub(crate) fn judge_smoke(alloc: Global, lines: u32) -> Result<Judged, Stop>
+    requires { 1 ≤ lines }
+    ensures runs { IfOk result (λ j. SmokeTests lines j.status (string_bytes j.report)) }
+    ensures stopped { IfErr result (IsSmokeStop lines) }
+{
+    let job = ring_job(alloc)?;
+    let mut files = ring_files(alloc, lines)?;
+    let accepted = read_all(alloc, &job, &mut files)?;
+    answer_smoke(alloc, lines, &job, &accepted)
+}
+
+/// What is true of the module beside its log.
+fn answer_smoke(alloc: Global, lines: u32, job: &Job, accepted: &Accepted) -> Result<Judged, Stop>
+    requires meets { JobMeets job.now }
+    requires ready { IsReady accepted.now.spec accepted.now.log }
+    requires few_lines { length accepted.now.log.lines ≤ 200000 }
+    ensures tested { IfOk result (λ j. IsTested lines job.now accepted.now.program accepted.now.config accepted.now.spec accepted.now.log j.status
+        (string_bytes j.report)) }
+    ensures stopped { IfErr result (λ stop. stop ≡ NoMemory) }
+{
+    let answer = search_log(alloc, job, accepted)?;
+    match explaining(&answer) {
+        Some((behaviour, widest)) => told_valid(alloc, lines, job, accepted, behaviour, widest),
+        None => told(alloc, job, accepted, &answer),
+    }
+}
+
+/// The behaviour that explains the log, and the number of states in the widest layer; none where the answer is another one.
+fn explaining(answer: &Answer) -> Option<(&Behaviour, u32)>
+    ensures { MatchOption result (status_of answer.now ≢ Status.Done) (λ found. answer.now ≡ Explained found.0.now found.1) }
+{
+    match answer {
+        Answer::Explained { behaviour, widest } => Some((behaviour, *widest)),
+        Answer::NotExplained { .. } => None,
+        Answer::NoInitial => None,
+        Answer::InitFault { .. } => None,
+        Answer::Fault { .. } => None,
+        Answer::AssumeFault { .. } => None,
+        Answer::AssumeFalse { .. } => None,
+        Answer::LayerLimit { .. } => None,
+        Answer::TotalLimit { .. } => None,
+    }
+}
+
+/// The smoke test's report of the behaviour that explains the log, whose states are judged again.
+fn told_valid(
+    alloc: Global,
+    lines: u32,
+    job: &Job,
+    accepted: &Accepted,
+    behaviour: &Behaviour,
+    widest: u32,
+) -> Result<Judged, Stop>
+    requires meets { JobMeets job.now }
+    requires ready { IsReady accepted.now.spec accepted.now.log }
+    requires few_lines { length accepted.now.log.lines ≤ 200000 }
+    requires explained { IsAnswer (system accepted.now.spec accepted.now.log (asked_by job.now.options)) (Explained behaviour.now widest) }
+    ensures tested { IfOk result (λ j. IsTested lines job.now accepted.now.program accepted.now.config accepted.now.spec accepted.now.log j.status
+        (string_bytes j.report)) }
+    ensures stopped { IfErr result (λ stop. stop ≡ NoMemory) }
+{
+    let pairs = SpecPairs {
+        spec: &accepted.spec,
+        log: &accepted.log,
+        stutter: job.options.stutter,
+        within: job.options.within,
+        limit: job.options.limit,
+    };
+    explained_law(&pairs);
+    one_verdict(&pairs);
+    let verdict = verdict_on(alloc, &pairs, behaviour)?;
+    match verdict {
+        Verdict::Valid => tell_smoke(alloc, lines, accepted, behaviour, widest),
+        Verdict::Invalid { .. } => unreachable!(),
+        Verdict::Fault { .. } => unreachable!(),
+    }
+}
+
+/// States have one verdict.
+fn one_verdict(pairs: &SpecPairs<'_>)
+    ensures { HaveOne (pair_asks pairs.now.spec.now pairs.now.log.now (asked pairs.now.stutter pairs.now.within pairs.now.limit)) }
+{
+    one_law(pairs);
+}
+
+/// The status and the report of the smoke test, the states being valid.
+fn tell_smoke(
+    alloc: Global,
+    lines: u32,
+    accepted: &Accepted,
+    behaviour: &Behaviour,
+    widest: u32,
+) -> Result<Judged, Stop>
+    ensures status { IfOk result (λ j. j.status ≡ Status.Done) }
+    ensures report { IfOk result (λ j. string_bytes j.report ≡ smoke_text lines widest accepted.now.spec.variables behaviour.now) }
+    ensures stopped { IfErr result (λ stop. stop ≡ NoMemory) }
+{
+    let names = &accepted.spec.variables;
+    Ok(Judged {
+        status: Status::Done,
+        report: smoke_text(alloc, lines, widest as usize, names, behaviour)?,
+    })
+}
