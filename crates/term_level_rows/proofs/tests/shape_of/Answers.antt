@@ -1,4 +1,4 @@
-use Rattle.term_levels.proofs.Noted.{same_notes}
+use Rattle.term_level_rows.proofs.Keeping.{same_notes}
 use Rattle.term_level_rows.proofs.tests.shape_of.Goals as goal
 
 pub specification-requires-clause-noted : goal.specification-requires-clause-noted
