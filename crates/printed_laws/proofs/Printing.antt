@@ -16,7 +16,7 @@ use Rattle.state_files.specs.Files.{StateFileSays}
 use Rattle.state_layers.specs.declared.answer.Answer.TheVariants.{Explained}
 use Rattle.run_texts.specs.Answers.{answer_text}
 use Rattle.state_file_laws.specs.Laws.{AreNames, ExplainedReadsBack, IsMark, IsShown}
-use Rattle.spec_verdicts.specs.Laws.{BehavesOverStates, ExplainedIsValid}
+use Rattle.explained_laws.specs.Laws.{BehavesOverStates, ExplainedIsValid}
 use Rattle.printed_laws.specs.Laws.{IsPlaced, PrintedIsValid}
 
 all_at : {X : Type 0} (P : X → Type 0) (xs : List X) (n : ℕ) (x : X) → All P xs → slice_get xs n ≡ Some x → P x

@@ -1,8 +1,8 @@
 ghost use Rattle.printed_laws.specs.Laws.{PrintedIsValid};
-ghost use Rattle.spec_steps.specs.Beside.{IsReady, asked};
+ghost use Rattle.ready_specs.specs.Beside.{IsReady, asked};
 
 use spec_pairs::SpecPairs;
-use spec_verdicts::explained_law;
+use explained_laws::explained_law;
 use state_file_laws::printed_law;
 
 /// The report of a log that is explained is a file of states, and the states that it says are valid.

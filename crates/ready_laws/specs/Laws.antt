@@ -10,7 +10,7 @@ use Rattle.spec_laws.specs.IsSpec.{IsSpec}
 use Rattle.resolved_laws.specs.InOrder.{IsWellFormed}
 use Rattle.known_values.specs.Known.{KnowsSpecification}
 use Rattle.spec_forms.specs.Forms.{AreWhole}
-use Rattle.successors.specs.Ready.{IsReadySpec}
+use Rattle.ready_specs.specs.Ready.{IsReadySpec}
 
 abbrev pub WholeAreReady : Type 0
 WholeAreReady = (s : Spec) → IsSpec s → KnowsSpecification s → AreWhole s → IsReadySpec s

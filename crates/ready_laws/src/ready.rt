@@ -1,7 +1,7 @@
 ghost use Rattle.std.specs.Prelude.{IfOk};
 ghost use Rattle.spec_laws.specs.IsSpec.{IsSpec};
 ghost use Rattle.spec_forms.specs.Forms.{FormsSay};
-ghost use Rattle.successors.specs.Ready.{IsReadySpec};
+ghost use Rattle.ready_specs.specs.Ready.{IsReadySpec};
 
 use crate::laws::ready_laws;
 use known_values::knows_specification;

@@ -22,7 +22,7 @@ use Rattle.log_lines.specs.Lines.{EventIs, HasNoForm, event_with, params_of}
 use Rattle.spec_names.specs.Names.{HasFormWith, IsTold, names_of}
 use Rattle.spec_names.proofs.ToldLemmas.{told_so}
 use Rattle.ready_lines.specs.Laws.{HasValues}
-use Rattle.successors.specs.Ready.{IsReadyAct}
+use Rattle.ready_specs.specs.Ready.{IsReadyAct}
 
 -- laws of forms
 pub record FormLaws : Type 0 where

@@ -21,7 +21,7 @@ use Rattle.log_lines.specs.declared.kind.Outcome.{Outcome}
 use Rattle.log_lines.specs.declared.kind.Outcome.TheVariants.{Blank, Init, Step, Refused}
 use Rattle.spec_names.specs.Names.{names_of}
 use Rattle.ready_lines.specs.Laws.{HasValues}
-use Rattle.successors.specs.Ready.{AreOfVariables, IsReadyLine}
+use Rattle.ready_specs.specs.Ready.{AreOfVariables, IsReadyLine}
 use Rattle.ready_lines.proofs.Events.{FormLaws, ready_event}
 use Rattle.ready_lines.proofs.Variables.{sees_within, updates_within}
 

@@ -20,7 +20,7 @@ use Rattle.log_files.specs.Logs.{FilesSay, GoesOn as FilesGoOn, IsLogOf, StandsA
 use Rattle.log_files.specs.declared.logs.LogRefusal.{LogRefusal}
 use Rattle.spec_names.specs.Names.{names_of}
 use Rattle.ready_lines.specs.Laws.{FilesAreReady, HasValues, IsReadyFile, IsReadyLog, LinesAreReady, LogsAreReady, SeesAreReady, TogetherReady}
-use Rattle.successors.specs.Ready.{AreOfVariables, IsReadyLine}
+use Rattle.ready_specs.specs.Ready.{AreOfVariables, IsReadyLine}
 use Rattle.ready_lines.proofs.Events.{FormLaws}
 use Rattle.ready_lines.proofs.LineLemmas.{IfReady, line_ready}
 

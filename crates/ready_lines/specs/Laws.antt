@@ -14,7 +14,7 @@ use Rattle.log_lines.specs.Files.{FileSays, first_line}
 use Rattle.log_lines.specs.declared.file.FileLines.{FileLines}
 use Rattle.log_files.specs.Logs.{IsLogOf, LogsSay, sees_of}
 use Rattle.spec_names.specs.Names.{names_of}
-use Rattle.successors.specs.Ready.{AreOfVariables, IsReadyLine}
+use Rattle.ready_specs.specs.Ready.{AreOfVariables, IsReadyLine}
 
 -- the arguments of the event are values
 abbrev pub HasValues : Option Event → Type 0

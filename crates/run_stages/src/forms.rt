@@ -2,7 +2,7 @@ ghost use Rattle.std.specs.Prelude.{◌≡◌, IfOk, IfErr};
 ghost use Rattle.tla_actions.specs.declared.fault.FormFault.{FormFault};
 ghost use Rattle.spec_laws.specs.IsSpec.{IsSpec};
 ghost use Rattle.spec_forms.specs.Forms.{AreWhole, IsFirstFault};
-ghost use Rattle.successors.specs.Ready.{IsReadySpec};
+ghost use Rattle.ready_specs.specs.Ready.{IsReadySpec};
 ghost use Rattle.run_texts.specs.Forms.{form_refusal};
 ghost use Rattle.run_reading.specs.Refusals.{all_files};
 ghost use Rattle.run_stages.specs.Stops.{RefusedWith};

@@ -1,6 +1,6 @@
 ghost use Rattle.std.specs.Prelude.{◌≡◌, ◌≤◌, All, Err, IfErr, IfOk, Ok, length};
 ghost use Rattle.line_steps.specs.Says.{IsState};
-ghost use Rattle.spec_steps.specs.Beside.{IsReady};
+ghost use Rattle.ready_specs.specs.Beside.{IsReady};
 ghost use Rattle.state_files.specs.Files.{StateFileSays};
 ghost use Rattle.state_files.specs.declared.refusal.StateRefusal.{StateRefusal};
 ghost use Rattle.run_words.specs.Words.{JobMeets};

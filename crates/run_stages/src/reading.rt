@@ -1,5 +1,5 @@
 ghost use Rattle.std.specs.Prelude.{◌≡◌, ◌≤◌, IfOk, IfErr, length};
-ghost use Rattle.spec_steps.specs.Beside.{IsReady};
+ghost use Rattle.ready_specs.specs.Beside.{IsReady};
 ghost use Rattle.run_words.specs.Words.{JobMeets};
 ghost use Rattle.run_reading.specs.Reaches.{AllRead};
 ghost use Rattle.run_stages.specs.Stops.{StopsBy};

@@ -17,7 +17,7 @@ use Rattle.form_growth.specs.Laws.{FormsStay}
 use Rattle.walk_grounds.specs.Laws.{OrderlyActionsAreGrounded}
 use Rattle.state_verdicts.specs.Tellings.{Tells}
 use Rattle.state_verdicts.specs.declared.pairs.Told.{Told}
-use Rattle.successors.specs.Ready.{IsReadyCall, IsReadySpec}
+use Rattle.ready_specs.specs.Ready.{IsReadyCall, IsReadySpec}
 use Rattle.spec_pairs.specs.Telling.{AreBetween, CanAct, CanDecide, IsDecided, act_at}
 use Rattle.spec_pairs.proofs.Asking.{can_act, can_here, can_init, can_next, decided_there, same_context}
 use Rattle.spec_pairs.proofs.Told.{act_told, with_state}

@@ -21,7 +21,7 @@ use Rattle.found_states.specs.Walks.{Agrees}
 use Rattle.action_truth.specs.Truths.{IsWhole, everything}
 use Rattle.form_growth.specs.Laws.{FormsStay}
 use Rattle.walk_grounds.specs.Laws.{OrderlyActionsAreGrounded}
-use Rattle.successors.specs.Ready.{IsReadyCall, IsReadySpec}
+use Rattle.ready_specs.specs.Ready.{IsReadyCall, IsReadySpec}
 use Rattle.spec_pairs.specs.Telling.{CanDecide, IsDecided}
 use Rattle.state_verdicts.specs.declared.pairs.Told.{Told}
 use Rattle.spec_pairs.proofs.Fixed.{form_there, init_form, next_form}

@@ -15,7 +15,7 @@ use Rattle.line_steps.specs.Steps.{silent_act}
 use Rattle.action_truth.specs.Truths.{everything}
 use Rattle.form_growth.specs.Laws.{FormsStay}
 use Rattle.spec_laws.specs.IsSpec.{IsSilent}
-use Rattle.successors.specs.Ready.{IsReadyAct, IsReadySpec}
+use Rattle.ready_specs.specs.Ready.{IsReadyAct, IsReadySpec}
 
 -- what leaves every variable fixed leaves them fixed
 

@@ -19,8 +19,8 @@ use Rattle.action_truth.specs.Truths.{everything}
 use Rattle.action_truth_laws.specs.Laws.{FaultsStay}
 use Rattle.form_growth.specs.Laws.{FormsStay}
 use Rattle.state_verdicts.specs.Asks.{FaultStep, IsMonotone}
-use Rattle.successors.specs.Ready.{IsReadyAct, IsReadyLine, IsReadySpec}
-use Rattle.spec_steps.specs.Beside.{IsReady}
+use Rattle.ready_specs.specs.Ready.{IsReadyAct, IsReadyLine, IsReadySpec}
+use Rattle.ready_specs.specs.Beside.{IsReady}
 use Rattle.spec_pairs.specs.Filling.{BothFailThere, pair_asks}
 use Rattle.spec_pairs.proofs.Fixed.{form_from_none, init_form, next_form, silent_ready}
 use Rattle.spec_pairs.proofs.Lines.{line_has}

@@ -18,7 +18,7 @@ use Rattle.action_truth.specs.declared.told.Told.TheVariants as decided
 use Rattle.state_verdicts.specs.Tellings.{Tells}
 use Rattle.state_verdicts.specs.declared.pairs.Told.{Told}
 use Rattle.state_verdicts.specs.declared.pairs.Told.TheVariants.{Holds as Holding, Fails as Failing, Faults}
-use Rattle.successors.specs.Ready.{IsReadyAct, IsReadySpec}
+use Rattle.ready_specs.specs.Ready.{IsReadyAct, IsReadySpec}
 use Rattle.spec_pairs.specs.Filling.{BothFailThere}
 use Rattle.spec_pairs.specs.declared.telling.Between.{Between}
 

@@ -1,6 +1,6 @@
 ghost use Rattle.std.specs.Prelude.{◌≡◌, ◌≤◌, length};
 ghost use Rattle.state_verdicts.specs.Asks.{IsMonotone, IsSmall};
-ghost use Rattle.spec_steps.specs.Beside.{IsReady, asked};
+ghost use Rattle.ready_specs.specs.Beside.{IsReady, asked};
 ghost use Rattle.spec_pairs.specs.Filling.{pair_asks};
 
 use crate::line::{line_of, may_stay};

@@ -8,7 +8,7 @@ ghost use Rattle.line_steps.specs.Steps.{FaultFirst, IsInitial, silent_act};
 ghost use Rattle.action_truth.specs.Pairs.{at, setting as pair_setting};
 ghost use Rattle.action_truth.specs.Truths.{everything};
 ghost use Rattle.state_verdicts.specs.Tellings.{Tells};
-ghost use Rattle.successors.specs.Ready.{IsReadySpec};
+ghost use Rattle.ready_specs.specs.Ready.{IsReadySpec};
 ghost use Rattle.spec_pairs.specs.Telling.{CanAct, CanBoth, CanDecide, IsActTold, IsBothTold, IsDecided, IsNextTold, IsReadyBetween, act_at, standing, told_of};
 
 use action_truth::{Pair, Told as Decided, decide};

@@ -4,7 +4,7 @@ use Rattle.tla_terms.specs.declared.spec.Spec.{Spec}
 use Rattle.path_updates.specs.declared.line.Log.{Log}
 use Rattle.line_steps.specs.Logs.{system}
 use Rattle.state_layers.specs.Gives.{IsSmall}
-use Rattle.spec_steps.specs.Beside.{asked, total_limit}
+use Rattle.ready_specs.specs.Beside.{asked, total_limit}
 
 enough : total_limit ≤ 2000000
 enough = omega arith

@@ -1,7 +1,7 @@
 ghost use Rattle.std.specs.Prelude.{◌≡◌, ◌≤◌, length};
 ghost use Rattle.line_steps.specs.Logs.{system};
 ghost use Rattle.state_layers.specs.Gives.{IsSmall};
-ghost use Rattle.spec_steps.specs.Beside.{IsReady, asked};
+ghost use Rattle.ready_specs.specs.Beside.{IsReady, asked};
 
 use crate::assumption::judged;
 use crate::line::line_of;

@@ -1,8 +1,6 @@
-//! The verdict on given states of a specification beside a log, and the law that what a search explains is valid.
+//! The verdict on given states of a specification beside a log.
 #![tactic(auto)]
 
-mod laws;
 mod verdict;
 
-pub use laws::explained_law;
 pub use verdict::verdict_on;

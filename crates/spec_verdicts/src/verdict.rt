@@ -1,7 +1,7 @@
 ghost use Rattle.std.specs.Prelude.{All, IfOk, length};
 ghost use Rattle.line_steps.specs.Says.{IsState};
 ghost use Rattle.state_verdicts.specs.Verdicts.{IsVerdict};
-ghost use Rattle.spec_steps.specs.Beside.{IsReady, asked};
+ghost use Rattle.ready_specs.specs.Beside.{IsReady, asked};
 ghost use Rattle.spec_pairs.specs.Filling.{pair_asks};
 
 use spec_pairs::{SpecPairs, small_law};

@@ -16,7 +16,7 @@ use Rattle.form_growth.specs.Laws.{WholeStays}
 use Rattle.walk_grounds.specs.Laws.{OrderlyActionsAreGrounded}
 use Rattle.found_states.specs.Laws.{EmptyPlacesFillNone}
 use Rattle.found_states.specs.Grounds.{Grounds}
-use Rattle.successors.specs.Ready.{IsReadySpec}
+use Rattle.ready_specs.specs.Ready.{IsReadySpec}
 use Rattle.successors.proofs.Completing.{empty_values}
 use Rattle.successors.proofs.Giving.{InitFound}
 use Rattle.successors.proofs.Grounding.{init_grounds}

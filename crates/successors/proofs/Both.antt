@@ -23,7 +23,7 @@ use Rattle.found_states.specs.Walks.{FailsOf, HoldsOf}
 use Rattle.found_states.specs.Grounds.{Grounds}
 use Rattle.found_states.proofs.Finding.{found_then, meets_same}
 use Rattle.action_walk.specs.Walking.{Grounded, IsWalked}
-use Rattle.successors.specs.Ready.{IsReadySpec, IsReadyAct, IsReadyCall}
+use Rattle.ready_specs.specs.Ready.{IsReadySpec, IsReadyAct, IsReadyCall}
 use Rattle.successors.specs.Taken.{AllGrounded, AllWalked, BothFound, CanStart, IsStart, LeavesBoth, act_at, standing}
 use Rattle.successors.proofs.Grounding.{body_grounds, next_grounds}
 

@@ -31,7 +31,7 @@ use Rattle.state_layers.specs.declared.steps.StepFault.{StepFault}
 use Rattle.state_layers.specs.declared.steps.StepFault.TheVariants as step
 use Rattle.state_layers.proofs.Members.{in_append, in_left, in_nil, in_one, in_right}
 use Rattle.state_sets.specs.Among.{IsAmong}
-use Rattle.successors.specs.Ready.{AreOfVariables, IsReadyAct, IsReadyLine, IsReadySpec}
+use Rattle.ready_specs.specs.Ready.{AreOfVariables, IsReadyAct, IsReadyLine, IsReadySpec}
 use Rattle.successors.specs.Taken.{AddsIf, BothFound, IsStart, LeavesBoth, MayRest, step_fault}
 use Rattle.successors.proofs.Completing.{completes_empty, empty_completed, empty_values, long_of_empty, map_long, same_state}
 use Rattle.successors.proofs.Grounding.{init_leaves, next_leaves}

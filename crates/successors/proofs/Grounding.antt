@@ -31,7 +31,7 @@ use Rattle.found_states.specs.Walks.{Agrees}
 use Rattle.found_states.specs.Grounds.{Grounds}
 use Rattle.found_states.proofs.Lists.{all_in, place_by_all}
 use Rattle.state_layers.proofs.Members.{in_nil, map_in}
-use Rattle.successors.specs.Ready.{IsReadySpec, IsReadyCall}
+use Rattle.ready_specs.specs.Ready.{IsReadySpec, IsReadyCall}
 use Rattle.successors.specs.Taken.{standing}
 use Rattle.successors.proofs.Completing.{long_of_empty}
 

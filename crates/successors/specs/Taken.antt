@@ -23,7 +23,7 @@ use Rattle.found_states.specs.Grounds.{Grounds}
 use Rattle.found_states.specs.Parts.{WalkedEach}
 use Rattle.state_layers.specs.declared.steps.StepFault.{StepFault}
 use Rattle.state_layers.specs.declared.steps.StepFault.TheVariants as step
-use Rattle.successors.specs.Ready.{IsReadyAct}
+use Rattle.ready_specs.specs.Ready.{IsReadyAct}
 
 -- with these slots, in the state before
 abbrev pub standing : List Val → Values → Context

@@ -6,7 +6,7 @@ ghost use Rattle.line_steps.specs.Asks.{AreSeen};
 ghost use Rattle.line_steps.specs.Says.{setting};
 ghost use Rattle.line_steps.specs.Steps.{FaultFirst, IsFirst};
 ghost use Rattle.state_layers.specs.Gives.{Gives};
-ghost use Rattle.successors.specs.Ready.{AreOfVariables, IsReadySpec};
+ghost use Rattle.ready_specs.specs.Ready.{AreOfVariables, IsReadySpec};
 
 use crate::steps::refused;
 use crate::walking::MAX_EVALUATIONS;

@@ -4,7 +4,7 @@ ghost use Rattle.line_steps.specs.Says.{IsState};
 ghost use Rattle.line_steps.specs.Asks.{AreSeen, asks, updated};
 ghost use Rattle.line_steps.specs.Steps.{FaultSilent, FaultStep, Silent, Step};
 ghost use Rattle.state_layers.specs.Gives.{Gives};
-ghost use Rattle.successors.specs.Ready.{IsReadyLine, IsReadySpec};
+ghost use Rattle.ready_specs.specs.Ready.{IsReadyLine, IsReadySpec};
 ghost use Rattle.successors.specs.Taken.{step_fault};
 
 use crate::first::no_values;

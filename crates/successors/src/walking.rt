@@ -7,7 +7,7 @@ ghost use Rattle.action_rows.specs.Rows.{before, setting as stage_setting};
 ghost use Rattle.line_steps.specs.Says.{IsState, setting};
 ghost use Rattle.line_steps.specs.Asks.{act_of};
 ghost use Rattle.line_steps.specs.Steps.{silent_act};
-ghost use Rattle.successors.specs.Ready.{IsReadySpec};
+ghost use Rattle.ready_specs.specs.Ready.{IsReadySpec};
 ghost use Rattle.successors.specs.Taken.{AllGrounded, AllWalked, BothFound, CanStart, act_at};
 
 use action_rows::Stage;

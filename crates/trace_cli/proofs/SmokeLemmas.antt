@@ -20,7 +20,7 @@ use Rattle.state_verdicts.specs.declared.verdict.Reason.{Reason}
 use Rattle.state_verdicts.specs.declared.verdict.Verdict.{Verdict}
 use Rattle.state_verdicts.specs.declared.verdict.Verdict.TheVariants.{Valid, Invalid, Fault}
 use Rattle.spec_pairs.specs.Filling.{pair_asks}
-use Rattle.spec_verdicts.specs.Laws.{BehavesOverStates, ExplainedIsValid}
+use Rattle.explained_laws.specs.Laws.{BehavesOverStates, ExplainedIsValid}
 use Rattle.ring_files.specs.Ring.{ring_files, ring_job}
 use Rattle.run_words.specs.declared.job.Job.{Job}
 use Rattle.run_reading.specs.Reaches.{AllRead}

@@ -21,7 +21,7 @@ use Rattle.run_reading.specs.Refusals.{IsRefusal, all_files}
 use Rattle.run_reading.specs.Given.{AllGiven, IsGivenRefusal}
 use Rattle.run_texts.specs.Answers.{Named, answer_text}
 use Rattle.run_texts.specs.Verdicts.{verdict_text}
-use Rattle.spec_steps.specs.Beside.{asked}
+use Rattle.ready_specs.specs.Beside.{asked}
 use Rattle.spec_pairs.specs.Filling.{pair_asks}
 use Rattle.trace_cli.specs.declared.call.Status.{Status}
 use Rattle.trace_cli.specs.declared.call.Status.TheVariants.{Done, Not, Reading, Evaluation, Limit}

@@ -3,7 +3,7 @@ ghost use Rattle.line_steps.specs.Logs.{system};
 ghost use Rattle.line_steps.specs.Says.{IsState};
 ghost use Rattle.state_layers.specs.Answers.{AllAssumed};
 ghost use Rattle.state_layers.specs.Says.{IsUnassumed};
-ghost use Rattle.spec_steps.specs.Beside.{IsReady};
+ghost use Rattle.ready_specs.specs.Beside.{IsReady};
 ghost use Rattle.run_words.specs.Words.{JobMeets};
 ghost use Rattle.run_stages.specs.GivenStops.{GivenStopsBy};
 ghost use Rattle.run_stages.specs.declared.stop.Stop.TheVariants.{NoMemory};

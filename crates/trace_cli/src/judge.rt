@@ -7,7 +7,7 @@ ghost use Rattle.run_stages.specs.Stops.{StopsBy};
 ghost use Rattle.run_stages.specs.declared.stop.Stop.TheVariants.{NoMemory};
 ghost use Rattle.run_texts.specs.Files.{words_text};
 ghost use Rattle.run_texts.specs.Answers.{answer_text};
-ghost use Rattle.spec_steps.specs.Beside.{IsReady};
+ghost use Rattle.ready_specs.specs.Beside.{IsReady};
 ghost use Rattle.trace_cli.specs.Calls.{Answers, Calls, asked_by, named_in, status_of};
 ghost use Rattle.trace_cli.specs.Run.{IsStop, Runs};
 

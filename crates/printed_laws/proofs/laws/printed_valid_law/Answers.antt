@@ -1,4 +1,4 @@
-use Rattle.spec_steps.specs.Beside.{asked}
+use Rattle.ready_specs.specs.Beside.{asked}
 use Rattle.printed_laws.proofs.Printing.{printed_valid}
 use Rattle.printed_laws.proofs.laws.printed_valid_law.Goals as goal
 

@@ -1,4 +1,4 @@
-use Rattle.spec_steps.specs.Beside.{asked}
+use Rattle.ready_specs.specs.Beside.{asked}
 use Rattle.spec_pairs.proofs.Keeping.{monotone}
 use Rattle.spec_pairs.proofs.pairs.monotone_law.Goals as goal
 

@@ -1,7 +1,7 @@
 use Rattle.std.proofs.lemmas.Result.{IfOk-weaker}
 use Rattle.line_steps.specs.Asks.{act_of, updated}
 use Rattle.line_steps.specs.Says.{BothHold}
-use Rattle.successors.specs.Ready.{IsReadyLine}
+use Rattle.ready_specs.specs.Ready.{IsReadyLine}
 use Rattle.spec_pairs.specs.Filling.{BothFailThere}
 use Rattle.spec_pairs.proofs.Lines.{line_has, line_tells}
 use Rattle.spec_pairs.proofs.pairs.SpecPairsPairs.acts.Goals as goal

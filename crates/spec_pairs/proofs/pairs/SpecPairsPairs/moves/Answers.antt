@@ -3,7 +3,7 @@ use Rattle.std.proofs.lemmas.Result.{IfOk-weaker}
 use Rattle.std.specs.Prelude.{All}
 use Rattle.line_steps.specs.Asks.{Moves}
 use Rattle.line_steps.specs.Says.{IsState}
-use Rattle.successors.specs.Ready.{IsReadyLine}
+use Rattle.ready_specs.specs.Ready.{IsReadyLine}
 use Rattle.spec_pairs.proofs.Lines.{line_has, line_tests}
 use Rattle.spec_pairs.proofs.pairs.SpecPairsPairs.moves.Goals as goal
 

@@ -1,5 +1,5 @@
 use Rattle.tla_terms.specs.Lists.{terms_list}
-use Rattle.spec_steps.specs.Beside.{asked}
+use Rattle.ready_specs.specs.Beside.{asked}
 use Rattle.spec_steps.proofs.Assumed.{assumption_in, judged_so, none_past}
 use Rattle.spec_steps.proofs.steps.SpecStepsSteps.assumed.Goals as goal
 

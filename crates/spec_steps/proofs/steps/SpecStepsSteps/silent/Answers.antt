@@ -1,4 +1,4 @@
-use Rattle.spec_steps.specs.Beside.{asked}
+use Rattle.ready_specs.specs.Beside.{asked}
 use Rattle.spec_steps.proofs.Reaching.{reached_state}
 use Rattle.spec_steps.proofs.steps.SpecStepsSteps.silent.Goals as goal
 

@@ -1,7 +1,7 @@
 use Rattle.line_steps.specs.Asks.{AreSeen, asks, updated}
 use Rattle.line_steps.specs.Steps.{FaultStep, Step}
-use Rattle.successors.specs.Ready.{IsReadyLine}
-use Rattle.spec_steps.specs.Beside.{asked}
+use Rattle.ready_specs.specs.Ready.{IsReadyLine}
+use Rattle.ready_specs.specs.Beside.{asked}
 use Rattle.spec_steps.proofs.Given.{gives_of_line, line_has}
 use Rattle.spec_steps.proofs.Reaching.{reached_state}
 use Rattle.spec_steps.proofs.steps.SpecStepsSteps.successors.Goals as goal

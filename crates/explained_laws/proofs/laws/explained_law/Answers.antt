@@ -1,6 +1,6 @@
-use Rattle.spec_steps.specs.Beside.{asked}
-use Rattle.spec_verdicts.proofs.Explaining.{behaves_over, explained_valid}
-use Rattle.spec_verdicts.proofs.laws.explained_law.Goals as goal
+use Rattle.ready_specs.specs.Beside.{asked}
+use Rattle.explained_laws.proofs.Explaining.{behaves_over, explained_valid}
+use Rattle.explained_laws.proofs.laws.explained_law.Goals as goal
 
 pub returns-clause-valid : goal.returns-clause-valid
 returns-clause-valid c =

@@ -13,7 +13,7 @@ use Rattle.line_steps.specs.Says.{IsState}
 use Rattle.state_verdicts.specs.Laws.{FoundIsValid}
 use Rattle.state_verdicts.specs.Asks.{IsMonotone}
 use Rattle.spec_pairs.specs.Filling.{pair_asks}
-use Rattle.spec_verdicts.specs.Laws.{BehavesOverStates, ExplainedIsValid}
+use Rattle.explained_laws.specs.Laws.{BehavesOverStates, ExplainedIsValid}
 
 abbrev IsOf : Spec → Shown → Type 0
 IsOf g x = IsState (length g.variables) x.state

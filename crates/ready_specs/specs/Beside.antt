@@ -3,7 +3,7 @@ use Rattle.std.specs.Prelude.{ℕ, Bool, All}
 use Rattle.tla_terms.specs.declared.spec.Spec.{Spec}
 use Rattle.path_updates.specs.declared.line.Log.{Log}
 use Rattle.line_steps.specs.Logs.{Asked}
-use Rattle.successors.specs.Ready.{AreOfVariables, IsReadyLine, IsReadySpec}
+use Rattle.ready_specs.specs.Ready.{AreOfVariables, IsReadyLine, IsReadySpec}
 
 -- the greatest size of all layers together
 abbrev pub total_limit : ℕ

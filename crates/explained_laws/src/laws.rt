@@ -1,5 +1,5 @@
-ghost use Rattle.spec_verdicts.specs.Laws.{BehavesOverStates, ExplainedIsValid};
-ghost use Rattle.spec_steps.specs.Beside.{IsReady, asked};
+ghost use Rattle.explained_laws.specs.Laws.{BehavesOverStates, ExplainedIsValid};
+ghost use Rattle.ready_specs.specs.Beside.{IsReady, asked};
 
 use spec_pairs::{SpecPairs, monotone_law};
 use state_verdicts::found_law;
