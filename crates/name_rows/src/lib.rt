@@ -1,5 +1,0 @@
-//! Rows of names in expressions: runs, with what they give.
-#![tactic(auto)]
-
-#[cfg(test)]
-mod tests;
