@@ -1,8 +1,8 @@
 ghost use Rattle.printed_laws.specs.Laws.{PrintedIsValid};
 ghost use Rattle.ready_specs.specs.Beside.{IsReady, asked};
 
-use spec_pairs::SpecPairs;
 use explained_laws::explained_law;
+use spec_pairs::SpecPairs;
 use state_file_laws::printed_law;
 
 /// The report of a log that is explained is a file of states, and the states that it says are valid.

@@ -14,12 +14,12 @@ ghost use Rattle.trace_cli.specs.Tested.{IsTested};
 
 use crate::call::Status;
 use crate::judge::{Judged, search_log, told};
+use explained_laws::explained_law;
 use ring_files::{ring_files, ring_job};
 use run_stages::{Accepted, Stop, read_all};
 use run_texts::smoke_text;
 use run_words::Job;
 use spec_pairs::SpecPairs;
-use explained_laws::explained_law;
 use spec_verdicts::verdict_on;
 use state_layers::Answer;
 use state_verdicts::{Verdict, one_law};
