@@ -1,4 +1,4 @@
-//! Rows of the operations on values: runs, with what they give.
+//! Rows of the operations on values that no run of the program calls: runs, with what they give.
 #![tactic(auto)]
 
 #[cfg(test)]

@@ -1,7 +1,0 @@
-use Rattle.std.proofs.Common.{subst, sym}
-use Rattle.tla_terms.specs.Terms.{Term}
-use Rattle.evaluator_rows.specs.Readable.{IsReadable}
-use Rattle.evaluator_rows.proofs.tests.boxed_term_of.Goals as goal
-
-pub returns : goal.returns
-returns c = subst (λ (e : Term). IsReadable 1 e) (sym c.in_ok-kept.ensures.ok) c.requires
