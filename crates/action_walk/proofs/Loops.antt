@@ -62,6 +62,37 @@ past [] (suc i) l = refl
 past (x ∷ xs) zero l = absurd (omega (arith, l))
 past (x ∷ xs) (suc i) l = past xs i (omega (arith, l))
 
+-- a list that is gone through by value: what is ahead, and a fact of the index at which it begins
+abbrev pub Ahead : {X : Type 0} → List X → List X → (ℕ → Type 0) → Type 0
+Ahead xs left P = (i : ℕ) × (drop i xs ≡ left) × P i
+
+pub ahead_first : {X : Type 0} (xs : List X) → drop 0 xs ≡ xs
+ahead_first [] = refl
+ahead_first (x ∷ xs) = refl
+
+behind : {X : Type 0} (xs : List X) (i : ℕ) (x : X) (left : List X) → drop i xs ≡ x ∷ left → drop (suc i) xs ≡ left
+behind [] zero x left e = cc
+behind [] (suc i) x left e = cc
+behind (y ∷ xs) zero x left e = ahead_first xs ∙ same y x xs left e
+  where
+    same : {X : Type 0} (y x : X) (ys xs : List X) → y ∷ ys ≡ x ∷ xs → ys ≡ xs
+    same y x ys xs e = cc
+behind (y ∷ xs) (suc i) x left e = behind xs i x left e
+
+pub ahead_next : {X : Type 0} (xs all : List X) (i : ℕ) (x : X) (left : List X) → drop i xs ≡ all → all ≡ x ∷ left → drop (i + 1) xs ≡ left
+ahead_next xs all i x left e s = let one : i + 1 ≡ suc i = omega arith in ap (λ k. drop k xs) one ∙ behind xs i x left (e ∙ s)
+
+pub ahead_at : {X : Type 0} (xs all : List X) (i : ℕ) (x : X) (left : List X) → drop i xs ≡ all → all ≡ x ∷ left → Apart xs i x
+ahead_at xs all i x left e s = apart xs i x (e ∙ s ∙ ap (λ ys. x ∷ ys) (sym (ahead_next xs all i x left e s)))
+
+pub ahead_over : {X : Type 0} (xs left : List X) (i : ℕ) → drop i xs ≡ left → length left ≡ 0 → length xs ≤ i
+ahead_over xs left i e z = none xs i (subst (λ ys. length ys ≡ 0) (sym e) z)
+  where
+    none : {X : Type 0} (xs : List X) (i : ℕ) → length (drop i xs) ≡ 0 → length xs ≤ i
+    none [] i z = omega arith
+    none (x ∷ xs) zero z = absurd (omega (arith, z))
+    none (x ∷ xs) (suc i) z = let l = none xs i z in omega (arith, l)
+
 module _ (g : Setting) (d : ℕ) (sees : List See) (p : Places) where
   -- one of the parts
 

@@ -38,12 +38,12 @@ pub fn walk(
     stage: Stage<'_>,
     slots: &[&Value],
     depth: u32,
-    places: &Partial,
+    places: Partial,
     term: &Term,
 ) -> Result<Vec<Partial>, EvalFault>
-    requires { Grounded (setting stage) depth stage.sees.now places.now (before stage (map (λ v. v.now) slots.now)) term.now }
-    ensures found { IfOk result (λ found. IsWalked (setting stage.entry) depth stage.entry.sees.now places.now (before stage.entry (map (λ v. v.now) slots.now)) term.now (Ok found.items)) }
-    ensures fault { IfErr result (λ fault. IsWalked (setting stage.entry) depth stage.entry.sees.now places.now (before stage.entry (map (λ v. v.now) slots.now)) term.now (Err fault)) }
+    requires { Grounded (setting stage) depth stage.sees.now places (before stage (map (λ v. v.now) slots.now)) term.now }
+    ensures found { IfOk result (λ found. IsWalked (setting stage.entry) depth stage.entry.sees.now places (before stage.entry (map (λ v. v.now) slots.now)) term.now (Ok found.items)) }
+    ensures fault { IfErr result (λ fault. IsWalked (setting stage.entry) depth stage.entry.sees.now places (before stage.entry (map (λ v. v.now) slots.now)) term.now (Err fault)) }
 {
     walk_part(alloc, stage, slots, depth, places, Part::Plain(term))
 }
@@ -55,12 +55,12 @@ fn walk_part(
     stage: Stage<'_>,
     slots: &[&Value],
     depth: u32,
-    places: &Partial,
+    places: Partial,
     part: Part<'_>,
 ) -> Result<Vec<Partial>, EvalFault>
-    requires { PartGrounded stage (map (λ v. v.now) slots.now) depth places.now part }
-    ensures found { IfOk result (λ found. PartWalked stage.entry (map (λ v. v.now) slots.now) depth places.now part.entry (Ok found.items)) }
-    ensures fault { IfErr result (λ fault. PartWalked stage.entry (map (λ v. v.now) slots.now) depth places.now part.entry (Err fault)) }
+    requires { PartGrounded stage (map (λ v. v.now) slots.now) depth places part }
+    ensures found { IfOk result (λ found. PartWalked stage.entry (map (λ v. v.now) slots.now) depth places part.entry (Ok found.items)) }
+    ensures fault { IfErr result (λ fault. PartWalked stage.entry (map (λ v. v.now) slots.now) depth places part.entry (Err fault)) }
 {
     if depth == 0 {
         return Err(EvalFault::Refused(EvalKind::Nested, part_place(part)));
@@ -76,15 +76,15 @@ fn walk_row(
     stage: Stage<'_>,
     slots: &[&Value],
     depth: u32,
-    places: &Partial,
+    places: Partial,
     part: Part<'_>,
     row: Row<'_>,
 ) -> Result<Vec<Partial>, EvalFault>
     requires few { depth < 4294967295 }
     requires row { IsForm stage (map (λ v. v.now) slots.now) part (form_of (place_of (part_term part)) row) }
-    requires grounds { PartGrounded stage (map (λ v. v.now) slots.now) (suc depth) places.now part }
-    ensures found { IfOk result (λ found. PartWalked stage.entry (map (λ v. v.now) slots.now) (suc depth) places.now part.entry (Ok found.items)) }
-    ensures fault { IfErr result (λ fault. PartWalked stage.entry (map (λ v. v.now) slots.now) (suc depth) places.now part.entry (Err fault)) }
+    requires grounds { PartGrounded stage (map (λ v. v.now) slots.now) (suc depth) places part }
+    ensures found { IfOk result (λ found. PartWalked stage.entry (map (λ v. v.now) slots.now) (suc depth) places part.entry (Ok found.items)) }
+    ensures fault { IfErr result (λ fault. PartWalked stage.entry (map (λ v. v.now) slots.now) (suc depth) places part.entry (Err fault)) }
 {
     match row {
         Row::Test => walk_test(alloc, stage, slots, depth, places, part),
@@ -128,16 +128,16 @@ fn walk_test(
     stage: Stage<'_>,
     slots: &[&Value],
     depth: u32,
-    places: &Partial,
+    places: Partial,
     part: Part<'_>,
 ) -> Result<Vec<Partial>, EvalFault>
     requires few { depth < 4294967295 }
     requires form { IsForm stage (map (λ v. v.now) slots.now) part (test) }
-    requires grounds { PartGrounded stage (map (λ v. v.now) slots.now) (suc depth) places.now part }
-    ensures found { IfOk result (λ found. PartWalked stage.entry (map (λ v. v.now) slots.now) (suc depth) places.now part.entry (Ok found.items)) }
-    ensures fault { IfErr result (λ fault. PartWalked stage.entry (map (λ v. v.now) slots.now) (suc depth) places.now part.entry (Err fault)) }
+    requires grounds { PartGrounded stage (map (λ v. v.now) slots.now) (suc depth) places part }
+    ensures found { IfOk result (λ found. PartWalked stage.entry (map (λ v. v.now) slots.now) (suc depth) places part.entry (Ok found.items)) }
+    ensures fault { IfErr result (λ fault. PartWalked stage.entry (map (λ v. v.now) slots.now) (suc depth) places part.entry (Err fault)) }
 {
-    match part_truth(alloc, scene_at(stage, slots, places), depth + 1, part) {
+    match part_truth(alloc, scene_at(stage, slots, &places), depth + 1, part) {
         Ok(holds) => Ok(one_if(alloc, holds, places)?),
         Err(fault) => Err(fault),
     }
@@ -149,17 +149,17 @@ fn walk_assign(
     stage: Stage<'_>,
     slots: &[&Value],
     depth: u32,
-    places: &Partial,
+    places: Partial,
     part: Part<'_>,
     number: VarId,
     term: &Term,
 ) -> Result<Vec<Partial>, EvalFault>
     requires form { IsForm stage (map (λ v. v.now) slots.now) part (assign number.0 term.now) }
-    requires grounds { PartGrounded stage (map (λ v. v.now) slots.now) (suc depth) places.now part }
-    ensures found { IfOk result (λ found. PartWalked stage.entry (map (λ v. v.now) slots.now) (suc depth) places.now part.entry (Ok found.items)) }
-    ensures fault { IfErr result (λ fault. PartWalked stage.entry (map (λ v. v.now) slots.now) (suc depth) places.now part.entry (Err fault)) }
+    requires grounds { PartGrounded stage (map (λ v. v.now) slots.now) (suc depth) places part }
+    ensures found { IfOk result (λ found. PartWalked stage.entry (map (λ v. v.now) slots.now) (suc depth) places part.entry (Ok found.items)) }
+    ensures fault { IfErr result (λ fault. PartWalked stage.entry (map (λ v. v.now) slots.now) (suc depth) places part.entry (Err fault)) }
 {
-    match eval(alloc, scene_at(stage, slots, places), depth, term) {
+    match eval(alloc, scene_at(stage, slots, &places), depth, term) {
         Ok(value) => Ok(assigned(alloc, stage.sees, places, number, value)?),
         Err(fault) => Err(fault),
     }
@@ -171,17 +171,17 @@ fn walk_keep(
     stage: Stage<'_>,
     slots: &[&Value],
     depth: u32,
-    places: &Partial,
+    places: Partial,
     part: Part<'_>,
     number: VarId,
 ) -> Result<Vec<Partial>, EvalFault>
     requires form { IsForm stage (map (λ v. v.now) slots.now) part (assign number.0 (variable_at (place_of (part_term part)) number.0)) }
-    requires grounds { PartGrounded stage (map (λ v. v.now) slots.now) (suc depth) places.now part }
-    ensures found { IfOk result (λ found. PartWalked stage.entry (map (λ v. v.now) slots.now) (suc depth) places.now part.entry (Ok found.items)) }
-    ensures fault { IfErr result (λ fault. PartWalked stage.entry (map (λ v. v.now) slots.now) (suc depth) places.now part.entry (Err fault)) }
+    requires grounds { PartGrounded stage (map (λ v. v.now) slots.now) (suc depth) places part }
+    ensures found { IfOk result (λ found. PartWalked stage.entry (map (λ v. v.now) slots.now) (suc depth) places part.entry (Ok found.items)) }
+    ensures fault { IfErr result (λ fault. PartWalked stage.entry (map (λ v. v.now) slots.now) (suc depth) places part.entry (Err fault)) }
 {
     match kept_value(
-        scene_at(stage, slots, places),
+        scene_at(stage, slots, &places),
         depth,
         part_place(part),
         number,
@@ -197,17 +197,17 @@ fn walk_choose(
     stage: Stage<'_>,
     slots: &[&Value],
     depth: u32,
-    places: &Partial,
+    places: Partial,
     part: Part<'_>,
     number: VarId,
     term: &Term,
 ) -> Result<Vec<Partial>, EvalFault>
     requires form { IsForm stage (map (λ v. v.now) slots.now) part (choose number.0 term.now) }
-    requires grounds { PartGrounded stage (map (λ v. v.now) slots.now) (suc depth) places.now part }
-    ensures found { IfOk result (λ found. PartWalked stage.entry (map (λ v. v.now) slots.now) (suc depth) places.now part.entry (Ok found.items)) }
-    ensures fault { IfErr result (λ fault. PartWalked stage.entry (map (λ v. v.now) slots.now) (suc depth) places.now part.entry (Err fault)) }
+    requires grounds { PartGrounded stage (map (λ v. v.now) slots.now) (suc depth) places part }
+    ensures found { IfOk result (λ found. PartWalked stage.entry (map (λ v. v.now) slots.now) (suc depth) places part.entry (Ok found.items)) }
+    ensures fault { IfErr result (λ fault. PartWalked stage.entry (map (λ v. v.now) slots.now) (suc depth) places part.entry (Err fault)) }
 {
-    match describe_set(alloc, scene_at(stage, slots, places), depth, term) {
+    match describe_set(alloc, scene_at(stage, slots, &places), depth, term) {
         Ok(set) => chosen(alloc, stage.sees, places, number, set, term.at),
         Err(fault) => Err(fault),
     }
@@ -220,14 +220,14 @@ fn walk_both(
     stage: Stage<'_>,
     slots: &[&Value],
     depth: u32,
-    places: &Partial,
+    places: Partial,
     part: Part<'_>,
     terms: &Terms,
 ) -> Result<Vec<Partial>, EvalFault>
     requires form { IsForm stage (map (λ v. v.now) slots.now) part (both (terms_list terms.now)) }
-    requires grounds { PartGrounded stage (map (λ v. v.now) slots.now) (suc depth) places.now part }
-    ensures found { IfOk result (λ found. PartWalked stage.entry (map (λ v. v.now) slots.now) (suc depth) places.now part.entry (Ok found.items)) }
-    ensures fault { IfErr result (λ fault. PartWalked stage.entry (map (λ v. v.now) slots.now) (suc depth) places.now part.entry (Err fault)) }
+    requires grounds { PartGrounded stage (map (λ v. v.now) slots.now) (suc depth) places part }
+    ensures found { IfOk result (λ found. PartWalked stage.entry (map (λ v. v.now) slots.now) (suc depth) places part.entry (Ok found.items)) }
+    ensures fault { IfErr result (λ fault. PartWalked stage.entry (map (λ v. v.now) slots.now) (suc depth) places part.entry (Err fault)) }
 {
     let parts = plain_parts(alloc, terms)?;
     walk_all(alloc, stage, slots, depth, places, &parts)
@@ -240,15 +240,15 @@ fn walk_unchanged(
     stage: Stage<'_>,
     slots: &[&Value],
     depth: u32,
-    places: &Partial,
+    places: Partial,
     part: Part<'_>,
     kept: usize,
     terms: &Terms,
 ) -> Result<Vec<Partial>, EvalFault>
     requires form { IsForm stage (map (λ v. v.now) slots.now) part (narrowed kept (map (unchanged_of (place_of (part_term part))) (terms_list terms.now))) }
-    requires grounds { PartGrounded stage (map (λ v. v.now) slots.now) (suc depth) places.now part }
-    ensures found { IfOk result (λ found. PartWalked stage.entry (map (λ v. v.now) slots.now) (suc depth) places.now part.entry (Ok found.items)) }
-    ensures fault { IfErr result (λ fault. PartWalked stage.entry (map (λ v. v.now) slots.now) (suc depth) places.now part.entry (Err fault)) }
+    requires grounds { PartGrounded stage (map (λ v. v.now) slots.now) (suc depth) places part }
+    ensures found { IfOk result (λ found. PartWalked stage.entry (map (λ v. v.now) slots.now) (suc depth) places part.entry (Ok found.items)) }
+    ensures fault { IfErr result (λ fault. PartWalked stage.entry (map (λ v. v.now) slots.now) (suc depth) places part.entry (Err fault)) }
 {
     let parts = unchanged_parts(alloc, part_place(part), terms)?;
     walk_all(
@@ -268,17 +268,17 @@ fn walk_either(
     stage: Stage<'_>,
     slots: &[&Value],
     depth: u32,
-    places: &Partial,
+    places: Partial,
     part: Part<'_>,
     terms: &Terms,
 ) -> Result<Vec<Partial>, EvalFault>
     requires form { IsForm stage (map (λ v. v.now) slots.now) part (either (terms_list terms.now)) }
-    requires grounds { PartGrounded stage (map (λ v. v.now) slots.now) (suc depth) places.now part }
-    ensures found { IfOk result (λ found. PartWalked stage.entry (map (λ v. v.now) slots.now) (suc depth) places.now part.entry (Ok found.items)) }
-    ensures fault { IfErr result (λ fault. PartWalked stage.entry (map (λ v. v.now) slots.now) (suc depth) places.now part.entry (Err fault)) }
+    requires grounds { PartGrounded stage (map (λ v. v.now) slots.now) (suc depth) places part }
+    ensures found { IfOk result (λ found. PartWalked stage.entry (map (λ v. v.now) slots.now) (suc depth) places part.entry (Ok found.items)) }
+    ensures fault { IfErr result (λ fault. PartWalked stage.entry (map (λ v. v.now) slots.now) (suc depth) places part.entry (Err fault)) }
 {
     let parts = plain_parts(alloc, terms)?;
-    walk_any(alloc, stage, slots, depth, places, &parts)
+    walk_any(alloc, stage, slots, depth, &places, &parts)
 }
 
 /// `[A]_v`.
@@ -288,18 +288,18 @@ fn walk_boxed(
     stage: Stage<'_>,
     slots: &[&Value],
     depth: u32,
-    places: &Partial,
+    places: Partial,
     part: Part<'_>,
     action: &Term,
     subscript: &Term,
 ) -> Result<Vec<Partial>, EvalFault>
     requires form { IsForm stage (map (λ v. v.now) slots.now) part (either (action.now ∷ unchanged_of (place_of (part_term part)) subscript.now ∷ [])) }
-    requires grounds { PartGrounded stage (map (λ v. v.now) slots.now) (suc depth) places.now part }
-    ensures found { IfOk result (λ found. PartWalked stage.entry (map (λ v. v.now) slots.now) (suc depth) places.now part.entry (Ok found.items)) }
-    ensures fault { IfErr result (λ fault. PartWalked stage.entry (map (λ v. v.now) slots.now) (suc depth) places.now part.entry (Err fault)) }
+    requires grounds { PartGrounded stage (map (λ v. v.now) slots.now) (suc depth) places part }
+    ensures found { IfOk result (λ found. PartWalked stage.entry (map (λ v. v.now) slots.now) (suc depth) places part.entry (Ok found.items)) }
+    ensures fault { IfErr result (λ fault. PartWalked stage.entry (map (λ v. v.now) slots.now) (suc depth) places part.entry (Err fault)) }
 {
     let parts = boxed_parts(alloc, part_place(part), &*action, &*subscript)?;
-    walk_any(alloc, stage, slots, depth, places, &parts)
+    walk_any(alloc, stage, slots, depth, &places, &parts)
 }
 
 /// `<<A>>_v`: the action, and then that the value of `v` changes.
@@ -309,15 +309,15 @@ fn walk_angled(
     stage: Stage<'_>,
     slots: &[&Value],
     depth: u32,
-    places: &Partial,
+    places: Partial,
     part: Part<'_>,
     action: &Term,
     subscript: &Term,
 ) -> Result<Vec<Partial>, EvalFault>
     requires form { IsForm stage (map (λ v. v.now) slots.now) part (changing action.now subscript.now) }
-    requires grounds { PartGrounded stage (map (λ v. v.now) slots.now) (suc depth) places.now part }
-    ensures found { IfOk result (λ found. PartWalked stage.entry (map (λ v. v.now) slots.now) (suc depth) places.now part.entry (Ok found.items)) }
-    ensures fault { IfErr result (λ fault. PartWalked stage.entry (map (λ v. v.now) slots.now) (suc depth) places.now part.entry (Err fault)) }
+    requires grounds { PartGrounded stage (map (λ v. v.now) slots.now) (suc depth) places part }
+    ensures found { IfOk result (λ found. PartWalked stage.entry (map (λ v. v.now) slots.now) (suc depth) places part.entry (Ok found.items)) }
+    ensures fault { IfErr result (λ fault. PartWalked stage.entry (map (λ v. v.now) slots.now) (suc depth) places part.entry (Err fault)) }
 {
     match walk_part(alloc, stage, slots, depth, places, Part::Plain(action)) {
         Ok(found) => {
@@ -327,7 +327,7 @@ fn walk_angled(
                 slots,
                 depth,
                 part_place(part),
-                &found,
+                found,
                 subscript,
             )
         }
@@ -342,17 +342,17 @@ fn changed_ones(
     slots: &[&Value],
     depth: u32,
     at: Place,
-    found: &[Partial],
+    found: Vec<Partial>,
     term: &Term,
 ) -> Result<Vec<Partial>, EvalFault>
-    requires { EachReads (setting stage) depth found.now (before stage (map (λ v. v.now) slots.now)) (changed_of at term.now) }
-    ensures found { IfOk result (λ all. EachTested (setting stage.entry) depth stage.entry.sees.now found.now (before stage.entry (map (λ v. v.now) slots.now)) (changed_of at term.now) (Ok all.items)) }
-    ensures fault { IfErr result (λ fault. EachTested (setting stage.entry) depth stage.entry.sees.now found.now (before stage.entry (map (λ v. v.now) slots.now)) (changed_of at term.now) (Err fault)) }
+    requires { EachReads (setting stage) depth found.items (before stage (map (λ v. v.now) slots.now)) (changed_of at term.now) }
+    ensures found { IfOk result (λ all. EachTested (setting stage.entry) depth stage.entry.sees.now found.items (before stage.entry (map (λ v. v.now) slots.now)) (changed_of at term.now) (Ok all.items)) }
+    ensures fault { IfErr result (λ fault. EachTested (setting stage.entry) depth stage.entry.sees.now found.items (before stage.entry (map (λ v. v.now) slots.now)) (changed_of at term.now) (Err fault)) }
 {
     let mut kept = Vec::new(alloc);
     for places in found {
-        match changed_at(alloc, stage, slots, depth, at, places, term) {
-            Ok(holds) => add_if(alloc, &mut kept, holds, places)?,
+        match changed_at(alloc, stage, slots, depth, at, &places, term) {
+            Ok(holds) => add_if(&mut kept, holds, places)?,
             Err(fault) => return Err(fault),
         }
     }
@@ -382,16 +382,16 @@ fn walk_all(
     stage: Stage<'_>,
     slots: &[&Value],
     depth: u32,
-    places: &Partial,
+    places: Partial,
     parts: &[Part<'_>],
 ) -> Result<Vec<Partial>, EvalFault>
-    requires { AllGrounded (setting stage) depth stage.sees.now places.now (parts_at (before stage (map (λ v. v.now) slots.now)) parts.now) }
-    ensures found { IfOk result (λ found. AllWalked (setting stage.entry) depth stage.entry.sees.now places.now (parts_at (before stage.entry (map (λ v. v.now) slots.now)) parts.now) (Ok found.items)) }
-    ensures fault { IfErr result (λ fault. AllWalked (setting stage.entry) depth stage.entry.sees.now places.now (parts_at (before stage.entry (map (λ v. v.now) slots.now)) parts.now) (Err fault)) }
+    requires { AllGrounded (setting stage) depth stage.sees.now places (parts_at (before stage (map (λ v. v.now) slots.now)) parts.now) }
+    ensures found { IfOk result (λ found. AllWalked (setting stage.entry) depth stage.entry.sees.now places (parts_at (before stage.entry (map (λ v. v.now) slots.now)) parts.now) (Ok found.items)) }
+    ensures fault { IfErr result (λ fault. AllWalked (setting stage.entry) depth stage.entry.sees.now places (parts_at (before stage.entry (map (λ v. v.now) slots.now)) parts.now) (Err fault)) }
 {
     let mut found = one_place(alloc, places)?;
     for part in parts {
-        match walk_from(alloc, stage, slots, depth, &found, *part) {
+        match walk_from(alloc, stage, slots, depth, found, *part) {
             Ok(further) => found = further,
             Err(fault) => return Err(fault),
         }
@@ -406,12 +406,12 @@ fn walk_from(
     stage: Stage<'_>,
     slots: &[&Value],
     depth: u32,
-    found: &[Partial],
+    found: Vec<Partial>,
     part: Part<'_>,
 ) -> Result<Vec<Partial>, EvalFault>
-    requires { EachGrounded (setting stage) depth stage.sees.now found.now (before stage (map (λ v. v.now) slots.now)) (part_term part) }
-    ensures found { IfOk result (λ all. EachWalked (setting stage.entry) depth stage.entry.sees.now found.now (before stage.entry (map (λ v. v.now) slots.now)) (part_term part.entry) (Ok all.items)) }
-    ensures fault { IfErr result (λ fault. EachWalked (setting stage.entry) depth stage.entry.sees.now found.now (before stage.entry (map (λ v. v.now) slots.now)) (part_term part.entry) (Err fault)) }
+    requires { EachGrounded (setting stage) depth stage.sees.now found.items (before stage (map (λ v. v.now) slots.now)) (part_term part) }
+    ensures found { IfOk result (λ all. EachWalked (setting stage.entry) depth stage.entry.sees.now found.items (before stage.entry (map (λ v. v.now) slots.now)) (part_term part.entry) (Ok all.items)) }
+    ensures fault { IfErr result (λ fault. EachWalked (setting stage.entry) depth stage.entry.sees.now found.items (before stage.entry (map (λ v. v.now) slots.now)) (part_term part.entry) (Err fault)) }
 {
     let mut all = Vec::new(alloc);
     for places in found {
@@ -439,12 +439,30 @@ fn walk_any(
 {
     let mut found = Vec::new(alloc);
     for part in parts {
-        match walk_part(alloc, stage, slots, depth, places, *part) {
+        match walk_copy(alloc, stage, slots, depth, places, *part) {
             Ok(more) => append(&mut found, more)?,
             Err(fault) => return Err(fault),
         }
     }
     Ok(found)
+}
+
+/// A part from a copy of the places.
+#[cycle(walk)]
+fn walk_copy(
+    alloc: Global,
+    stage: Stage<'_>,
+    slots: &[&Value],
+    depth: u32,
+    places: &Partial,
+    part: Part<'_>,
+) -> Result<Vec<Partial>, EvalFault>
+    requires { PartGrounded stage (map (λ v. v.now) slots.now) depth places.now part }
+    ensures found { IfOk result (λ found. PartWalked stage.entry (map (λ v. v.now) slots.now) depth places.now part.entry (Ok found.items)) }
+    ensures fault { IfErr result (λ fault. PartWalked stage.entry (map (λ v. v.now) slots.now) depth places.now part.entry (Err fault)) }
+{
+    let same = places.copy(alloc)?;
+    walk_part(alloc, stage, slots, depth, same, part)
 }
 
 /// IF: the one term or the other.
@@ -454,18 +472,18 @@ fn walk_branch(
     stage: Stage<'_>,
     slots: &[&Value],
     depth: u32,
-    places: &Partial,
+    places: Partial,
     part: Part<'_>,
     test: &Term,
     holds: &Term,
     other: &Term,
 ) -> Result<Vec<Partial>, EvalFault>
     requires form { IsForm stage (map (λ v. v.now) slots.now) part (branch test.now holds.now other.now) }
-    requires grounds { PartGrounded stage (map (λ v. v.now) slots.now) (suc depth) places.now part }
-    ensures found { IfOk result (λ found. PartWalked stage.entry (map (λ v. v.now) slots.now) (suc depth) places.now part.entry (Ok found.items)) }
-    ensures fault { IfErr result (λ fault. PartWalked stage.entry (map (λ v. v.now) slots.now) (suc depth) places.now part.entry (Err fault)) }
+    requires grounds { PartGrounded stage (map (λ v. v.now) slots.now) (suc depth) places part }
+    ensures found { IfOk result (λ found. PartWalked stage.entry (map (λ v. v.now) slots.now) (suc depth) places part.entry (Ok found.items)) }
+    ensures fault { IfErr result (λ fault. PartWalked stage.entry (map (λ v. v.now) slots.now) (suc depth) places part.entry (Err fault)) }
 {
-    match eval_truth(alloc, scene_at(stage, &*slots, &*places), depth, test) {
+    match eval_truth(alloc, scene_at(stage, &*slots, &places), depth, test) {
         Ok(true) => walk_part(alloc, stage, slots, depth, places, Part::Plain(holds)),
         Ok(false) => walk_part(alloc, stage, slots, depth, places, Part::Plain(other)),
         Err(fault) => Err(fault),
@@ -479,17 +497,17 @@ fn walk_case(
     stage: Stage<'_>,
     slots: &[&Value],
     depth: u32,
-    places: &Partial,
+    places: Partial,
     part: Part<'_>,
     cases: &Arms,
     other: Option<&Term>,
 ) -> Result<Vec<Partial>, EvalFault>
     requires form { IsForm stage (map (λ v. v.now) slots.now) part (arms (arms_list cases.now) (option_copied other)) }
-    requires grounds { PartGrounded stage (map (λ v. v.now) slots.now) (suc depth) places.now part }
-    ensures found { IfOk result (λ found. PartWalked stage.entry (map (λ v. v.now) slots.now) (suc depth) places.now part.entry (Ok found.items)) }
-    ensures fault { IfErr result (λ fault. PartWalked stage.entry (map (λ v. v.now) slots.now) (suc depth) places.now part.entry (Err fault)) }
+    requires grounds { PartGrounded stage (map (λ v. v.now) slots.now) (suc depth) places part }
+    ensures found { IfOk result (λ found. PartWalked stage.entry (map (λ v. v.now) slots.now) (suc depth) places part.entry (Ok found.items)) }
+    ensures fault { IfErr result (λ fault. PartWalked stage.entry (map (λ v. v.now) slots.now) (suc depth) places part.entry (Err fault)) }
 {
-    let scene = scene_at(stage, &*slots, &*places);
+    let scene = scene_at(stage, &*slots, &places);
     match chosen_arm(alloc, scene, depth, part_place(part), cases, other) {
         Ok(term) => walk_part(alloc, stage, slots, depth, places, Part::Plain(term)),
         Err(fault) => Err(fault),
@@ -503,14 +521,14 @@ fn walk_inside(
     stage: Stage<'_>,
     slots: &[&Value],
     depth: u32,
-    places: &Partial,
+    places: Partial,
     part: Part<'_>,
     inner: &Term,
 ) -> Result<Vec<Partial>, EvalFault>
     requires form { IsForm stage (map (λ v. v.now) slots.now) part (inside inner.now) }
-    requires grounds { PartGrounded stage (map (λ v. v.now) slots.now) (suc depth) places.now part }
-    ensures found { IfOk result (λ found. PartWalked stage.entry (map (λ v. v.now) slots.now) (suc depth) places.now part.entry (Ok found.items)) }
-    ensures fault { IfErr result (λ fault. PartWalked stage.entry (map (λ v. v.now) slots.now) (suc depth) places.now part.entry (Err fault)) }
+    requires grounds { PartGrounded stage (map (λ v. v.now) slots.now) (suc depth) places part }
+    ensures found { IfOk result (λ found. PartWalked stage.entry (map (λ v. v.now) slots.now) (suc depth) places part.entry (Ok found.items)) }
+    ensures fault { IfErr result (λ fault. PartWalked stage.entry (map (λ v. v.now) slots.now) (suc depth) places part.entry (Err fault)) }
 {
     walk_part(alloc, stage, slots, depth, places, Part::Plain(inner))
 }
@@ -522,17 +540,17 @@ fn walk_call(
     stage: Stage<'_>,
     slots: &[&Value],
     depth: u32,
-    places: &Partial,
+    places: Partial,
     part: Part<'_>,
     number: DefId,
     arguments: &Terms,
 ) -> Result<Vec<Partial>, EvalFault>
     requires form { IsForm stage (map (λ v. v.now) slots.now) part (call number.0 (terms_list arguments.now)) }
-    requires grounds { PartGrounded stage (map (λ v. v.now) slots.now) (suc depth) places.now part }
-    ensures found { IfOk result (λ found. PartWalked stage.entry (map (λ v. v.now) slots.now) (suc depth) places.now part.entry (Ok found.items)) }
-    ensures fault { IfErr result (λ fault. PartWalked stage.entry (map (λ v. v.now) slots.now) (suc depth) places.now part.entry (Err fault)) }
+    requires grounds { PartGrounded stage (map (λ v. v.now) slots.now) (suc depth) places part }
+    ensures found { IfOk result (λ found. PartWalked stage.entry (map (λ v. v.now) slots.now) (suc depth) places part.entry (Ok found.items)) }
+    ensures fault { IfErr result (λ fault. PartWalked stage.entry (map (λ v. v.now) slots.now) (suc depth) places part.entry (Err fault)) }
 {
-    match eval_each(alloc, scene_at(stage, &*slots, &*places), depth, arguments) {
+    match eval_each(alloc, scene_at(stage, &*slots, &places), depth, arguments) {
         Ok(values) => walk_body(alloc, stage, slots, depth, places, number, &values),
         Err(fault) => Err(fault),
     }
@@ -545,13 +563,13 @@ fn walk_body(
     stage: Stage<'_>,
     slots: &[&Value],
     depth: u32,
-    places: &Partial,
+    places: Partial,
     number: DefId,
     values: &[Value],
 ) -> Result<Vec<Partial>, EvalFault>
-    requires { BodyGrounded (setting stage) depth stage.sees.now places.now (before stage (map (λ v. v.now) slots.now)) number.0 values.now }
-    ensures found { IfOk result (λ found. BodyWalked (setting stage.entry) depth stage.entry.sees.now places.now (before stage.entry (map (λ v. v.now) slots.now)) number.0 values.now (Ok found.items)) }
-    ensures fault { IfErr result (λ fault. BodyWalked (setting stage.entry) depth stage.entry.sees.now places.now (before stage.entry (map (λ v. v.now) slots.now)) number.0 values.now (Err fault)) }
+    requires { BodyGrounded (setting stage) depth stage.sees.now places (before stage (map (λ v. v.now) slots.now)) number.0 values.now }
+    ensures found { IfOk result (λ found. BodyWalked (setting stage.entry) depth stage.entry.sees.now places (before stage.entry (map (λ v. v.now) slots.now)) number.0 values.now (Ok found.items)) }
+    ensures fault { IfErr result (λ fault. BodyWalked (setting stage.entry) depth stage.entry.sees.now places (before stage.entry (map (λ v. v.now) slots.now)) number.0 values.now (Err fault)) }
 {
     let operator = definition(stage.operators, number);
     let inner = slots_and(alloc, &*slots, operator.outer, values)?;
@@ -572,18 +590,18 @@ fn walk_exists(
     stage: Stage<'_>,
     slots: &[&Value],
     depth: u32,
-    places: &Partial,
+    places: Partial,
     part: Part<'_>,
     bounds: &Bounds,
     body: &Term,
 ) -> Result<Vec<Partial>, EvalFault>
     requires form { IsForm stage (map (λ v. v.now) slots.now) part (some bounds.now body.now) }
-    requires grounds { PartGrounded stage (map (λ v. v.now) slots.now) (suc depth) places.now part }
-    ensures found { IfOk result (λ found. PartWalked stage.entry (map (λ v. v.now) slots.now) (suc depth) places.now part.entry (Ok found.items)) }
-    ensures fault { IfErr result (λ fault. PartWalked stage.entry (map (λ v. v.now) slots.now) (suc depth) places.now part.entry (Err fault)) }
+    requires grounds { PartGrounded stage (map (λ v. v.now) slots.now) (suc depth) places part }
+    ensures found { IfOk result (λ found. PartWalked stage.entry (map (λ v. v.now) slots.now) (suc depth) places part.entry (Ok found.items)) }
+    ensures fault { IfErr result (λ fault. PartWalked stage.entry (map (λ v. v.now) slots.now) (suc depth) places part.entry (Err fault)) }
 {
-    match eval_bounds(alloc, scene_at(stage, &*slots, &*places), depth, bounds) {
-        Ok(sets) => walk_over(alloc, stage, slots, depth, places, &sets, body),
+    match eval_bounds(alloc, scene_at(stage, &*slots, &places), depth, bounds) {
+        Ok(sets) => walk_over(alloc, stage, slots, depth, &places, &sets, body),
         Err(fault) => Err(fault),
     }
 }
@@ -653,5 +671,5 @@ fn walk_under(
     ensures fault { IfErr result (λ fault. IsWalked (setting stage.entry) depth stage.entry.sees.now places.now (bind (before stage.entry (map (λ v. v.now) slots.now)) (at_places (map (λ l. l.now) lists.now) indices.now)) body.now (Err fault)) }
 {
     let inner = slots_with(alloc, &*slots, &*lists, indices)?;
-    walk_part(alloc, stage, &inner, depth, places, Part::Plain(body))
+    walk_copy(alloc, stage, &inner, depth, places, Part::Plain(body))
 }

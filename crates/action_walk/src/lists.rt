@@ -22,17 +22,11 @@ pub fn append(found: &mut Vec<Partial>, more: Vec<Partial>) -> Result<(), AllocE
 }
 
 /// Adds the places, where it holds.
-pub fn add_if(
-    alloc: Global,
-    found: &mut Vec<Partial>,
-    holds: bool,
-    places: &Partial,
-) -> Result<(), AllocError>
-    ensures { OnOk result (found.new.items ≡ found.old.items ++ (if holds then places.now ∷ [] else [])) }
+pub fn add_if(found: &mut Vec<Partial>, holds: bool, places: Partial) -> Result<(), AllocError>
+    ensures { OnOk result (found.new.items ≡ found.old.items ++ (if holds then places ∷ [] else [])) }
 {
     if holds {
-        let same = places.copy(alloc)?;
-        found.push(same)?;
+        found.push(places)?;
         return Ok(());
     }
     Ok(())

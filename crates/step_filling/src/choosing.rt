@@ -20,19 +20,19 @@ use trace_base::Place;
 pub fn chosen(
     alloc: Global,
     sees: &[See],
-    places: &Partial,
+    places: Partial,
     number: VarId,
     set: Described,
     at: Place,
 ) -> Result<Vec<Partial>, EvalFault>
-    requires within { number.0 < length places.now }
+    requires within { number.0 < length places }
     requires sound { IsSound set }
-    ensures found { IfOk result (λ found. Chooses sees.now number.0 set at places.now found.items) }
-    ensures fault { IfErr result (FailsToChoose number.0 set at places.now) }
+    ensures found { IfOk result (λ found. Chooses sees.now number.0 set at places found.items) }
+    ensures fault { IfErr result (FailsToChoose number.0 set at places) }
 {
     match places.get(number) {
         Some(known) => Ok(one_if(alloc, member(&set, known), places)?),
-        None => listed_members(alloc, sees, places, number, set, at),
+        None => listed_members(alloc, sees, &places, number, set, at),
     }
 }
 

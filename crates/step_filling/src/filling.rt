@@ -13,12 +13,12 @@ use tla_values::Value;
 pub fn assigned(
     alloc: Global,
     sees: &[See],
-    places: &Partial,
+    places: Partial,
     number: VarId,
     value: Value,
 ) -> Result<Vec<Partial>, AllocError>
-    requires { number.0 < length places.now }
-    ensures { IfOk result (λ found. Assigns sees.now number.0 value places.now found.items) }
+    requires { number.0 < length places }
+    ensures { IfOk result (λ found. Assigns sees.now number.0 value places found.items) }
 {
     value.is_value();
     match places.get(number) {
@@ -28,8 +28,8 @@ pub fn assigned(
 }
 
 /// The places, where it holds.
-pub fn one_if(alloc: Global, holds: bool, places: &Partial) -> Result<Vec<Partial>, AllocError>
-    ensures { IfOk result (λ found. found.items ≡ (if holds then places.now ∷ [] else [])) }
+pub fn one_if(alloc: Global, holds: bool, places: Partial) -> Result<Vec<Partial>, AllocError>
+    ensures { IfOk result (λ found. found.items ≡ (if holds then places ∷ [] else [])) }
 {
     if holds {
         return one_place(alloc, places);
@@ -38,12 +38,11 @@ pub fn one_if(alloc: Global, holds: bool, places: &Partial) -> Result<Vec<Partia
 }
 
 /// The places alone.
-pub fn one_place(alloc: Global, places: &Partial) -> Result<Vec<Partial>, AllocError>
-    ensures { IfOk result (λ found. found.items ≡ places.now ∷ []) }
+pub fn one_place(alloc: Global, places: Partial) -> Result<Vec<Partial>, AllocError>
+    ensures { IfOk result (λ found. found.items ≡ places ∷ []) }
 {
     let mut found = Vec::new(alloc);
-    let same = places.copy(alloc)?;
-    found.push(same)?;
+    found.push(places)?;
     Ok(found)
 }
 
@@ -51,16 +50,19 @@ pub fn one_place(alloc: Global, places: &Partial) -> Result<Vec<Partial>, AllocE
 fn filled(
     alloc: Global,
     sees: &[See],
-    places: &Partial,
+    places: Partial,
     number: VarId,
     value: Value,
 ) -> Result<Vec<Partial>, AllocError>
-    requires { number.0 < length places.now }
-    ensures { IfOk result (λ found. OneIf (SeenIn sees.now number.0 value) (slice_set places.now number.0 (Some value)) found.items) }
+    requires { number.0 < length places }
+    ensures { IfOk result (λ found. OneIf (SeenIn sees.now number.0 value) (slice_set places number.0 (Some value)) found.items) }
 {
-    let mut found = Vec::new(alloc);
-    add_filled(alloc, &mut found, sees, places, number, &value)?;
-    Ok(found)
+    if is_seen(sees, number, &value) {
+        let mut further = places;
+        further.put(number, value);
+        return one_place(alloc, further);
+    }
+    Ok(Vec::new(alloc))
 }
 
 /// Adds the places with this value of a variable that has none yet, if what is seen of it stands in the value.

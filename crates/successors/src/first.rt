@@ -36,9 +36,10 @@ pub fn initial(alloc: Global, spec: &Spec, sees: &Sees, bound: u32) -> Result<Ve
     whole_law();
     seen_laws();
     ground_law();
+    let before = no_values(alloc, spec)?;
+    let stage = stage_of_init(spec, &before, sees.items());
     let places = no_values(alloc, spec)?;
-    let stage = stage_of_init(spec, &places, sees.items());
-    match walk(alloc, stage, &[], MAX_EVALUATIONS, &places, &spec.init) {
+    match walk(alloc, stage, &[], MAX_EVALUATIONS, places, &spec.init) {
         Ok(found) => states_of(alloc, &found, bound),
         Err(fault) => Err(refused(fault)),
     }

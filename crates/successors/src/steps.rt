@@ -54,7 +54,8 @@ pub fn successors(
         whole: &whole,
         sees,
     };
-    match event_found(alloc, course, &line.event, &places) {
+    let first = places.copy(alloc)?;
+    match event_found(alloc, course, &line.event, first) {
         Ok(found) => {
             let mut found = found;
             let count = spec.variables.len() as u16;
@@ -89,7 +90,7 @@ pub fn silent_steps(
         whole: &whole,
         sees: &[],
     };
-    match silent_found(alloc, course, spec.silent, &places) {
+    match silent_found(alloc, course, spec.silent, places) {
         Ok(found) => states_of(alloc, &found, bound),
         Err(fault) => Err(refused(fault)),
     }

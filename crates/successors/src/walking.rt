@@ -53,14 +53,14 @@ fn stage_of<'a>(course: Course<'a>) -> Stage<'a>
 pub fn next_from(
     alloc: Global,
     course: Course<'_>,
-    places: &Partial,
+    places: Partial,
 ) -> Result<Vec<Partial>, EvalFault>
     requires ready { IsReadySpec course.spec.now }
     requires state { IsState (length course.spec.now.variables) course.from.now }
     requires whole { course.whole.now ≡ map Some course.from.now }
-    requires start { CanStart course.spec.now course.sees.now None places.now }
-    ensures found { IfOk result (λ found. BothFound course.entry.spec.now course.entry.from.now course.entry.sees.now None places.now (Ok found.items)) }
-    ensures fault { IfErr result (λ fault. BothFound course.entry.spec.now course.entry.from.now course.entry.sees.now None places.now (Err fault)) }
+    requires start { CanStart course.spec.now course.sees.now None places }
+    ensures found { IfOk result (λ found. BothFound course.entry.spec.now course.entry.from.now course.entry.sees.now None places (Ok found.items)) }
+    ensures fault { IfErr result (λ fault. BothFound course.entry.spec.now course.entry.from.now course.entry.sees.now None places (Err fault)) }
 {
     orderly_law();
     whole_law();
@@ -81,15 +81,15 @@ pub fn act_then_next(
     course: Course<'_>,
     operator: usize,
     arguments: &[Value],
-    places: &Partial,
+    places: Partial,
 ) -> Result<Vec<Partial>, EvalFault>
     requires ready { IsReadySpec course.spec.now }
     requires state { IsState (length course.spec.now.variables) course.from.now }
     requires whole { course.whole.now ≡ map Some course.from.now }
     requires within { operator < length course.spec.now.operators }
-    requires start { CanStart course.spec.now course.sees.now (Some (act_at operator arguments.now)) places.now }
-    ensures found { IfOk result (λ found. BothFound course.entry.spec.now course.entry.from.now course.entry.sees.now (Some (act_at operator arguments.now)) places.now (Ok found.items)) }
-    ensures fault { IfErr result (λ fault. BothFound course.entry.spec.now course.entry.from.now course.entry.sees.now (Some (act_at operator arguments.now)) places.now (Err fault)) }
+    requires start { CanStart course.spec.now course.sees.now (Some (act_at operator arguments.now)) places }
+    ensures found { IfOk result (λ found. BothFound course.entry.spec.now course.entry.from.now course.entry.sees.now (Some (act_at operator arguments.now)) places (Ok found.items)) }
+    ensures fault { IfErr result (λ fault. BothFound course.entry.spec.now course.entry.from.now course.entry.sees.now (Some (act_at operator arguments.now)) places (Err fault)) }
 {
     orderly_law();
     whole_law();
@@ -104,7 +104,7 @@ pub fn act_then_next(
         places,
         &definition.body,
     ) {
-        Ok(found) => from_each(alloc, stage, &found, &course.spec.next),
+        Ok(found) => from_each(alloc, stage, found, &course.spec.next),
         Err(fault) => Err(fault),
     }
 }
@@ -124,12 +124,12 @@ fn slots_of<'a>(alloc: Global, values: &'a [Value]) -> Result<Vec<&'a Value>, Al
 fn from_each(
     alloc: Global,
     stage: Stage<'_>,
-    found: &[Partial],
+    found: Vec<Partial>,
     term: &Term,
 ) -> Result<Vec<Partial>, EvalFault>
-    requires { AllGrounded (stage_setting stage) 400 stage.sees.now found.now (before stage []) term.now }
-    ensures found { IfOk result (λ all. AllWalked (stage_setting stage.entry) 400 stage.entry.sees.now found.now (before stage.entry []) term.now (Ok all.items)) }
-    ensures fault { IfErr result (λ fault. AllWalked (stage_setting stage.entry) 400 stage.entry.sees.now found.now (before stage.entry []) term.now (Err fault)) }
+    requires { AllGrounded (stage_setting stage) 400 stage.sees.now found.items (before stage []) term.now }
+    ensures found { IfOk result (λ all. AllWalked (stage_setting stage.entry) 400 stage.entry.sees.now found.items (before stage.entry []) term.now (Ok all.items)) }
+    ensures fault { IfErr result (λ fault. AllWalked (stage_setting stage.entry) 400 stage.entry.sees.now found.items (before stage.entry []) term.now (Err fault)) }
 {
     let mut all = Vec::new(alloc);
     for places in found {
@@ -156,14 +156,14 @@ pub fn event_found(
     alloc: Global,
     course: Course<'_>,
     event: &Option<Event>,
-    places: &Partial,
+    places: Partial,
 ) -> Result<Vec<Partial>, EvalFault>
     requires ready { IsReadySpec course.spec.now }
     requires state { IsState (length course.spec.now.variables) course.from.now }
     requires whole { course.whole.now ≡ map Some course.from.now }
-    requires start { CanStart course.spec.now course.sees.now (act_of event.now) places.now }
-    ensures found { IfOk result (λ found. BothFound course.entry.spec.now course.entry.from.now course.entry.sees.now (act_of event.now) places.now (Ok found.items)) }
-    ensures fault { IfErr result (λ fault. BothFound course.entry.spec.now course.entry.from.now course.entry.sees.now (act_of event.now) places.now (Err fault)) }
+    requires start { CanStart course.spec.now course.sees.now (act_of event.now) places }
+    ensures found { IfOk result (λ found. BothFound course.entry.spec.now course.entry.from.now course.entry.sees.now (act_of event.now) places (Ok found.items)) }
+    ensures fault { IfErr result (λ fault. BothFound course.entry.spec.now course.entry.from.now course.entry.sees.now (act_of event.now) places (Err fault)) }
 {
     match event {
         None => next_from(alloc, course, places),
@@ -176,14 +176,14 @@ pub fn silent_found(
     alloc: Global,
     course: Course<'_>,
     silent: Option<DefId>,
-    places: &Partial,
+    places: Partial,
 ) -> Result<Vec<Partial>, EvalFault>
     requires ready { IsReadySpec course.spec.now }
     requires state { IsState (length course.spec.now.variables) course.from.now }
     requires whole { course.whole.now ≡ map Some course.from.now }
-    requires start { CanStart course.spec.now course.sees.now (silent_act silent) places.now }
-    ensures found { IfOk result (λ found. BothFound course.entry.spec.now course.entry.from.now course.entry.sees.now (silent_act silent) places.now (Ok found.items)) }
-    ensures fault { IfErr result (λ fault. BothFound course.entry.spec.now course.entry.from.now course.entry.sees.now (silent_act silent) places.now (Err fault)) }
+    requires start { CanStart course.spec.now course.sees.now (silent_act silent) places }
+    ensures found { IfOk result (λ found. BothFound course.entry.spec.now course.entry.from.now course.entry.sees.now (silent_act silent) places (Ok found.items)) }
+    ensures fault { IfErr result (λ fault. BothFound course.entry.spec.now course.entry.from.now course.entry.sees.now (silent_act silent) places (Err fault)) }
 {
     match silent {
         None => next_from(alloc, course, places),

@@ -1,5 +1,6 @@
-use Rattle.std.proofs.Common.{◌≡◌, ℕ, suc, ◌-◌, ◌<◌, ◌≤◌, List, length, Bool, true, false, Ok, Err, sym, subst, ap, map, ◌∙◌, [], ◌∷◌, arith}
+use Rattle.std.proofs.Common.{◌≡◌, ℕ, suc, ◌+◌, ◌-◌, ◌<◌, ◌≤◌, List, length, Bool, true, false, Ok, Err, sym, subst, ap, map, ◌∙◌, [], ◌∷◌, arith}
 use Rattle.std.specs.Prelude.{option_copied}
+use Rattle.std.specs.Vec.Iter.{into_iter_items}
 use Rattle.std.proofs.lemmas.List.{length-map}
 use Rattle.tla_values.specs.Data.{Val}
 use Rattle.tla_terms.specs.Lists.{arms_list, terms_list}
@@ -26,7 +27,7 @@ use Rattle.action_values.specs.BoundSets.{bound_members}
 use Rattle.action_values.specs.declared.bound_values.BoundSet.{BoundSet}
 use Rattle.action_walk.specs.Walking.{AnyGrounded, AnyWalked, EachGrounded, EachReads, EachTested, EachWalked, Grounded, IsForm, IsWalked, parts_at, under}
 use Rattle.action_walk.proofs.Answering.{err_then, ok_then}
-use Rattle.action_walk.proofs.Loops.{all_done, all_ground, all_start, all_step, all_stop, any_done, any_ground, any_start, any_step, any_stop, apart, each_done, each_ground, each_start, each_step, each_stop, under_done, under_ground, under_start, under_step, under_stop}
+use Rattle.action_walk.proofs.Loops.{ahead_at, ahead_first, ahead_next, ahead_over, all_done, all_ground, all_start, all_step, all_stop, any_done, any_ground, any_start, any_step, any_stop, apart, each_done, each_ground, each_start, each_step, each_stop, under_done, under_ground, under_start, under_step, under_stop}
 use Rattle.action_walk.proofs.Rows.{grounded_at, nested_walked, walked_at}
 use Rattle.action_walk.proofs.Taken.{angled_grounds, angled_reads, angled_refused, angled_walked, arms_grounds, arms_reads, arms_refused, arms_walked, body_here, body_walked, both_grounds, both_walked, branch_grounds, branch_reads, branch_refused, branch_walked, call_grounds, call_reads, call_refused, call_walked, either_grounds, either_walked, in_scene, inside_grounds, inside_walked, narrowed_grounds, narrowed_walked, on_stage, some_grounds, some_reads, some_refused, some_walked}
 use Rattle.action_walk.proofs.forms.+walk.Goals as goal
@@ -43,7 +44,7 @@ walk_part-returns-then-depth-eq0-clause-fault t c =
     let s = c.args.stage in
     let vs = map value c.args.slots.now in
     let d = c.args.depth in
-    let p = c.args.places.now in
+    let p = c.args.places in
     let q = c.args.part in
     nested_walked (setting s) d s.sees.now p (before s vs) (part_term q) c.part_place.result c.if-depth-eq0.true c.part_place.ensures
 
@@ -52,7 +53,7 @@ walk_part-walk_row-requires t c =
     let s = c.args.stage in
     let vs = map value c.args.slots.now in
     let d = c.args.depth in
-    let p = c.args.places.now in
+    let p = c.args.places in
     let q = c.args.part in
     let some : 0 < c.args.depth = omega (arith, c.if-depth-eq0.false) in
     let few : c.args.depth - 1 < 4294967295 = omega (arith, c.ranges.depth.fits) in
@@ -65,7 +66,7 @@ walk_part-returns-clause-found t c =
     let s = c.args.stage in
     let vs = map value c.args.slots.now in
     let d = c.args.depth in
-    let p = c.args.places.now in
+    let p = c.args.places in
     let q = c.args.part in
     let same : suc (c.args.depth - 1) ≡ c.args.depth = omega (arith, c.if-depth-eq0.false) in
     ok_then c.walk_row.result _ _ (λ x h. walked_at (setting s) (suc (d - 1)) d s.sees.now p (before s vs) (part_term q) (Ok x.items) same h) c.walk_row.ensures.found
@@ -75,7 +76,7 @@ walk_part-returns-clause-fault t c =
     let s = c.args.stage in
     let vs = map value c.args.slots.now in
     let d = c.args.depth in
-    let p = c.args.places.now in
+    let p = c.args.places in
     let q = c.args.part in
     let same : suc (c.args.depth - 1) ≡ c.args.depth = omega (arith, c.if-depth-eq0.false) in
     err_then c.walk_row.result _ _ (λ x h. walked_at (setting s) (suc (d - 1)) d s.sees.now p (before s vs) (part_term q) (Err x) same h) c.walk_row.ensures.fault
@@ -155,7 +156,7 @@ walk_both-walk_all-requires t c =
     let s = c.args.stage in
     let vs = map value c.args.slots.now in
     let d = c.args.depth in
-    let p = c.args.places.now in
+    let p = c.args.places in
     let q = c.args.part in
     let same = ap (map part_term) c.deref.ensures.value ∙ c.in_ok-parts.ensures in
     (omega (arith, c.decreases), both_grounds s vs d p q (terms_list c.args.terms.now) c.deref.result.now same c.requires.form c.requires.grounds)
@@ -165,7 +166,7 @@ walk_both-returns-clause-found t c =
     let s = c.args.stage in
     let vs = map value c.args.slots.now in
     let d = c.args.depth in
-    let p = c.args.places.now in
+    let p = c.args.places in
     let q = c.args.part in
     let same = ap (map part_term) c.deref.ensures.value ∙ c.in_ok-parts.ensures in
     ok_then c.walk_all.result _ _ (λ x h. both_walked s vs d p q (terms_list c.args.terms.now) c.deref.result.now (Ok x.items) same c.requires.form h) c.walk_all.ensures.found
@@ -175,7 +176,7 @@ walk_both-returns-clause-fault t c =
     let s = c.args.stage in
     let vs = map value c.args.slots.now in
     let d = c.args.depth in
-    let p = c.args.places.now in
+    let p = c.args.places in
     let q = c.args.part in
     let same = ap (map part_term) c.deref.ensures.value ∙ c.in_ok-parts.ensures in
     err_then c.walk_all.result _ _ (λ x h. both_walked s vs d p q (terms_list c.args.terms.now) c.deref.result.now (Err x) same c.requires.form h) c.walk_all.ensures.fault
@@ -185,7 +186,7 @@ walk_either-walk_any-requires t c =
     let s = c.args.stage in
     let vs = map value c.args.slots.now in
     let d = c.args.depth in
-    let p = c.args.places.now in
+    let p = c.args.places in
     let q = c.args.part in
     let same = ap (map part_term) c.deref.ensures.value ∙ c.in_ok-parts.ensures in
     (omega (arith, c.decreases), either_grounds s vs d p q (terms_list c.args.terms.now) c.deref.result.now same c.requires.form c.requires.grounds)
@@ -195,7 +196,7 @@ walk_either-returns-clause-found t c =
     let s = c.args.stage in
     let vs = map value c.args.slots.now in
     let d = c.args.depth in
-    let p = c.args.places.now in
+    let p = c.args.places in
     let q = c.args.part in
     let same = ap (map part_term) c.deref.ensures.value ∙ c.in_ok-parts.ensures in
     ok_then c.walk_any.result _ _ (λ x h. either_walked s vs d p q (terms_list c.args.terms.now) c.deref.result.now (Ok x.items) same c.requires.form h) c.walk_any.ensures.found
@@ -205,7 +206,7 @@ walk_either-returns-clause-fault t c =
     let s = c.args.stage in
     let vs = map value c.args.slots.now in
     let d = c.args.depth in
-    let p = c.args.places.now in
+    let p = c.args.places in
     let q = c.args.part in
     let same = ap (map part_term) c.deref.ensures.value ∙ c.in_ok-parts.ensures in
     err_then c.walk_any.result _ _ (λ x h. either_walked s vs d p q (terms_list c.args.terms.now) c.deref.result.now (Err x) same c.requires.form h) c.walk_any.ensures.fault
@@ -215,7 +216,7 @@ walk_boxed-walk_any-requires t c =
     let s = c.args.stage in
     let vs = map value c.args.slots.now in
     let d = c.args.depth in
-    let p = c.args.places.now in
+    let p = c.args.places in
     let q = c.args.part in
     let same = ap (map part_term) c.deref.ensures.value ∙ c.in_ok-parts.ensures ∙ ap (λ (at : Place). c.args.action.now ∷ unchanged_of at c.args.subscript.now ∷ []) c.part_place.ensures in
     let ts = c.args.action.now ∷ unchanged_of (place_of (part_term q)) c.args.subscript.now ∷ [] in
@@ -226,7 +227,7 @@ walk_boxed-returns-clause-found t c =
     let s = c.args.stage in
     let vs = map value c.args.slots.now in
     let d = c.args.depth in
-    let p = c.args.places.now in
+    let p = c.args.places in
     let q = c.args.part in
     let same = ap (map part_term) c.deref.ensures.value ∙ c.in_ok-parts.ensures ∙ ap (λ (at : Place). c.args.action.now ∷ unchanged_of at c.args.subscript.now ∷ []) c.part_place.ensures in
     let ts = c.args.action.now ∷ unchanged_of (place_of (part_term q)) c.args.subscript.now ∷ [] in
@@ -237,7 +238,7 @@ walk_boxed-returns-clause-fault t c =
     let s = c.args.stage in
     let vs = map value c.args.slots.now in
     let d = c.args.depth in
-    let p = c.args.places.now in
+    let p = c.args.places in
     let q = c.args.part in
     let same = ap (map part_term) c.deref.ensures.value ∙ c.in_ok-parts.ensures ∙ ap (λ (at : Place). c.args.action.now ∷ unchanged_of at c.args.subscript.now ∷ []) c.part_place.ensures in
     let ts = c.args.action.now ∷ unchanged_of (place_of (part_term q)) c.args.subscript.now ∷ [] in
@@ -248,7 +249,7 @@ walk_unchanged-walk_all-requires t c =
     let s = c.args.stage in
     let vs = map value c.args.slots.now in
     let d = c.args.depth in
-    let p = c.args.places.now in
+    let p = c.args.places in
     let q = c.args.part in
     let ts = map (unchanged_of (place_of (part_term q))) (terms_list c.args.terms.now) in
     let same = ap (map part_term) c.deref.ensures.value ∙ c.in_ok-parts.ensures ∙ ap (λ (at : Place). map (unchanged_of at) (terms_list c.args.terms.now)) c.part_place.ensures in
@@ -261,7 +262,7 @@ walk_unchanged-returns-clause-found t c =
     let s = c.args.stage in
     let vs = map value c.args.slots.now in
     let d = c.args.depth in
-    let p = c.args.places.now in
+    let p = c.args.places in
     let q = c.args.part in
     let ts = map (unchanged_of (place_of (part_term q))) (terms_list c.args.terms.now) in
     let same = ap (map part_term) c.deref.ensures.value ∙ c.in_ok-parts.ensures ∙ ap (λ (at : Place). map (unchanged_of at) (terms_list c.args.terms.now)) c.part_place.ensures in
@@ -274,7 +275,7 @@ walk_unchanged-returns-clause-fault t c =
     let s = c.args.stage in
     let vs = map value c.args.slots.now in
     let d = c.args.depth in
-    let p = c.args.places.now in
+    let p = c.args.places in
     let q = c.args.part in
     let ts = map (unchanged_of (place_of (part_term q))) (terms_list c.args.terms.now) in
     let same = ap (map part_term) c.deref.ensures.value ∙ c.in_ok-parts.ensures ∙ ap (λ (at : Place). map (unchanged_of at) (terms_list c.args.terms.now)) c.part_place.ensures in
@@ -287,7 +288,7 @@ walk_inside-walk_part-requires t c =
     let s = c.args.stage in
     let vs = map value c.args.slots.now in
     let d = c.args.depth in
-    let p = c.args.places.now in
+    let p = c.args.places in
     let q = c.args.part in
     (omega (arith, c.decreases), inside_grounds s vs d p q c.args.inner.now c.requires.form c.requires.grounds)
 
@@ -296,7 +297,7 @@ walk_inside-returns-clause-found t c =
     let s = c.args.stage in
     let vs = map value c.args.slots.now in
     let d = c.args.depth in
-    let p = c.args.places.now in
+    let p = c.args.places in
     let q = c.args.part in
     ok_then c.walk_part.result _ _ (λ x h. inside_walked s vs d p q c.args.inner.now (Ok x.items) c.requires.form h) c.walk_part.ensures.found
 
@@ -305,7 +306,7 @@ walk_inside-returns-clause-fault t c =
     let s = c.args.stage in
     let vs = map value c.args.slots.now in
     let d = c.args.depth in
-    let p = c.args.places.now in
+    let p = c.args.places in
     let q = c.args.part in
     err_then c.walk_part.result _ _ (λ x h. inside_walked s vs d p q c.args.inner.now (Err x) c.requires.form h) c.walk_part.ensures.fault
 
@@ -314,7 +315,7 @@ walk_branch-eval_truth-requires t c =
     let s = c.args.stage in
     let vs = map value c.args.slots.now in
     let d = c.args.depth in
-    let p = c.args.places.now in
+    let p = c.args.places in
     let q = c.args.part in
     in_scene s vs p c.scene_at.result (λ ops x. Reads ops d x c.args.test.now) c.scene_at.ensures.table c.scene_at.ensures.context (branch_reads s vs d p q c.args.test.now c.args.holds.now c.args.other.now c.requires.form c.requires.grounds)
 
@@ -323,7 +324,7 @@ walk_branch-walk_part-requires t c =
     let s = c.args.stage in
     let vs = map value c.args.slots.now in
     let d = c.args.depth in
-    let p = c.args.places.now in
+    let p = c.args.places in
     let q = c.args.part in
     let there = on_stage s vs p c.scene_at.result (λ ops x. TruthOf (Evaluates ops d) x c.args.test.now (Ok c.in-Ok-true.field-0)) c.scene_at.ensures.table c.scene_at.ensures.context c.in-Ok-true.ensures in
     let told = subst (λ (b : Bool). TruthOf (Evaluates s.operators.now d) (at_next s.which (before s vs) p) c.args.test.now (Ok b)) c.in-Ok-true.field-0-test there in
@@ -334,7 +335,7 @@ walk_branch-walk_part-requires-in-Ok-false t c =
     let s = c.args.stage in
     let vs = map value c.args.slots.now in
     let d = c.args.depth in
-    let p = c.args.places.now in
+    let p = c.args.places in
     let q = c.args.part in
     let there = on_stage s vs p c.scene_at.result (λ ops x. TruthOf (Evaluates ops d) x c.args.test.now (Ok c.in-Ok-false.field-0)) c.scene_at.ensures.table c.scene_at.ensures.context c.in-Ok-false.ensures in
     let told = subst (λ (b : Bool). TruthOf (Evaluates s.operators.now d) (at_next s.which (before s vs) p) c.args.test.now (Ok b)) c.in-Ok-false.field-0-test there in
@@ -345,7 +346,7 @@ walk_branch-returns-in-Ok-true-clause-found t c =
     let s = c.args.stage in
     let vs = map value c.args.slots.now in
     let d = c.args.depth in
-    let p = c.args.places.now in
+    let p = c.args.places in
     let q = c.args.part in
     let there = on_stage s vs p c.scene_at.result (λ ops x. TruthOf (Evaluates ops d) x c.args.test.now (Ok c.in-Ok-true.field-0)) c.scene_at.ensures.table c.scene_at.ensures.context c.in-Ok-true.ensures in
     let told = subst (λ (b : Bool). TruthOf (Evaluates s.operators.now d) (at_next s.which (before s vs) p) c.args.test.now (Ok b)) c.in-Ok-true.field-0-test there in
@@ -356,7 +357,7 @@ walk_branch-returns-in-Ok-true-clause-fault t c =
     let s = c.args.stage in
     let vs = map value c.args.slots.now in
     let d = c.args.depth in
-    let p = c.args.places.now in
+    let p = c.args.places in
     let q = c.args.part in
     let there = on_stage s vs p c.scene_at.result (λ ops x. TruthOf (Evaluates ops d) x c.args.test.now (Ok c.in-Ok-true.field-0)) c.scene_at.ensures.table c.scene_at.ensures.context c.in-Ok-true.ensures in
     let told = subst (λ (b : Bool). TruthOf (Evaluates s.operators.now d) (at_next s.which (before s vs) p) c.args.test.now (Ok b)) c.in-Ok-true.field-0-test there in
@@ -367,7 +368,7 @@ walk_branch-returns-in-Ok-false-clause-found t c =
     let s = c.args.stage in
     let vs = map value c.args.slots.now in
     let d = c.args.depth in
-    let p = c.args.places.now in
+    let p = c.args.places in
     let q = c.args.part in
     let there = on_stage s vs p c.scene_at.result (λ ops x. TruthOf (Evaluates ops d) x c.args.test.now (Ok c.in-Ok-false.field-0)) c.scene_at.ensures.table c.scene_at.ensures.context c.in-Ok-false.ensures in
     let told = subst (λ (b : Bool). TruthOf (Evaluates s.operators.now d) (at_next s.which (before s vs) p) c.args.test.now (Ok b)) c.in-Ok-false.field-0-test there in
@@ -378,7 +379,7 @@ walk_branch-returns-in-Ok-false-clause-fault t c =
     let s = c.args.stage in
     let vs = map value c.args.slots.now in
     let d = c.args.depth in
-    let p = c.args.places.now in
+    let p = c.args.places in
     let q = c.args.part in
     let there = on_stage s vs p c.scene_at.result (λ ops x. TruthOf (Evaluates ops d) x c.args.test.now (Ok c.in-Ok-false.field-0)) c.scene_at.ensures.table c.scene_at.ensures.context c.in-Ok-false.ensures in
     let told = subst (λ (b : Bool). TruthOf (Evaluates s.operators.now d) (at_next s.which (before s vs) p) c.args.test.now (Ok b)) c.in-Ok-false.field-0-test there in
@@ -389,7 +390,7 @@ walk_branch-returns-in-Err-clause-fault t c =
     let s = c.args.stage in
     let vs = map value c.args.slots.now in
     let d = c.args.depth in
-    let p = c.args.places.now in
+    let p = c.args.places in
     let q = c.args.part in
     let there = on_stage s vs p c.scene_at.result (λ ops x. Tells {A = Bool} (Err c.in-Err.fault) (TruthOf (Evaluates ops d) x c.args.test.now)) c.scene_at.ensures.table c.scene_at.ensures.context c.in-Err.ensures in
     branch_refused s vs d p q c.args.test.now c.args.holds.now c.args.other.now c.in-Err.fault c.requires.form there
@@ -399,7 +400,7 @@ walk_case-chosen_arm-requires t c =
     let s = c.args.stage in
     let vs = map value c.args.slots.now in
     let d = c.args.depth in
-    let p = c.args.places.now in
+    let p = c.args.places in
     let q = c.args.part in
     let cs = arms_list c.args.cases.now in
     let other = option_copied c.args.other in
@@ -410,7 +411,7 @@ walk_case-walk_part-requires t c =
     let s = c.args.stage in
     let vs = map value c.args.slots.now in
     let d = c.args.depth in
-    let p = c.args.places.now in
+    let p = c.args.places in
     let q = c.args.part in
     let cs = arms_list c.args.cases.now in
     let other = option_copied c.args.other in
@@ -423,7 +424,7 @@ walk_case-returns-in-Ok-clause-found t c =
     let s = c.args.stage in
     let vs = map value c.args.slots.now in
     let d = c.args.depth in
-    let p = c.args.places.now in
+    let p = c.args.places in
     let q = c.args.part in
     let cs = arms_list c.args.cases.now in
     let other = option_copied c.args.other in
@@ -436,7 +437,7 @@ walk_case-returns-in-Ok-clause-fault t c =
     let s = c.args.stage in
     let vs = map value c.args.slots.now in
     let d = c.args.depth in
-    let p = c.args.places.now in
+    let p = c.args.places in
     let q = c.args.part in
     let cs = arms_list c.args.cases.now in
     let other = option_copied c.args.other in
@@ -449,7 +450,7 @@ walk_case-returns-in-Err-clause-fault t c =
     let s = c.args.stage in
     let vs = map value c.args.slots.now in
     let d = c.args.depth in
-    let p = c.args.places.now in
+    let p = c.args.places in
     let q = c.args.part in
     let cs = arms_list c.args.cases.now in
     let other = option_copied c.args.other in
@@ -462,7 +463,7 @@ walk_call-eval_each-requires t c =
     let s = c.args.stage in
     let vs = map value c.args.slots.now in
     let d = c.args.depth in
-    let p = c.args.places.now in
+    let p = c.args.places in
     let q = c.args.part in
     let k = c.args.number.0 in
     let ts = terms_list c.args.arguments.now in
@@ -473,7 +474,7 @@ walk_call-walk_body-requires t c =
     let s = c.args.stage in
     let vs = map value c.args.slots.now in
     let d = c.args.depth in
-    let p = c.args.places.now in
+    let p = c.args.places in
     let q = c.args.part in
     let k = c.args.number.0 in
     let ts = terms_list c.args.arguments.now in
@@ -486,7 +487,7 @@ walk_call-returns-in-Ok-clause-found t c =
     let s = c.args.stage in
     let vs = map value c.args.slots.now in
     let d = c.args.depth in
-    let p = c.args.places.now in
+    let p = c.args.places in
     let q = c.args.part in
     let k = c.args.number.0 in
     let ts = terms_list c.args.arguments.now in
@@ -499,7 +500,7 @@ walk_call-returns-in-Ok-clause-fault t c =
     let s = c.args.stage in
     let vs = map value c.args.slots.now in
     let d = c.args.depth in
-    let p = c.args.places.now in
+    let p = c.args.places in
     let q = c.args.part in
     let k = c.args.number.0 in
     let ts = terms_list c.args.arguments.now in
@@ -512,7 +513,7 @@ walk_call-returns-in-Err-clause-fault t c =
     let s = c.args.stage in
     let vs = map value c.args.slots.now in
     let d = c.args.depth in
-    let p = c.args.places.now in
+    let p = c.args.places in
     let q = c.args.part in
     let k = c.args.number.0 in
     let ts = terms_list c.args.arguments.now in
@@ -524,7 +525,7 @@ walk_exists-eval_bounds-requires t c =
     let s = c.args.stage in
     let vs = map value c.args.slots.now in
     let d = c.args.depth in
-    let p = c.args.places.now in
+    let p = c.args.places in
     let q = c.args.part in
     let bs = c.args.bounds.now in
     let e = c.args.body.now in
@@ -535,7 +536,7 @@ walk_exists-walk_over-requires t c =
     let s = c.args.stage in
     let vs = map value c.args.slots.now in
     let d = c.args.depth in
-    let p = c.args.places.now in
+    let p = c.args.places in
     let q = c.args.part in
     let bs = c.args.bounds.now in
     let e = c.args.body.now in
@@ -549,7 +550,7 @@ walk_exists-returns-in-Ok-clause-found t c =
     let s = c.args.stage in
     let vs = map value c.args.slots.now in
     let d = c.args.depth in
-    let p = c.args.places.now in
+    let p = c.args.places in
     let q = c.args.part in
     let bs = c.args.bounds.now in
     let e = c.args.body.now in
@@ -563,7 +564,7 @@ walk_exists-returns-in-Ok-clause-fault t c =
     let s = c.args.stage in
     let vs = map value c.args.slots.now in
     let d = c.args.depth in
-    let p = c.args.places.now in
+    let p = c.args.places in
     let q = c.args.part in
     let bs = c.args.bounds.now in
     let e = c.args.body.now in
@@ -572,12 +573,12 @@ walk_exists-returns-in-Ok-clause-fault t c =
     let told = subst (λ (sets : List BoundSet). BoundValues (Evaluates s.operators.now d) (at_next s.which (before s vs) p) bs (Ok (combinations (ranges (map bound_members sets))))) (sym c.deref.ensures.value) there in
     err_then c.walk_over.result _ _ (λ x h. some_walked s vs d p q bs e (combinations (ranges (map bound_members c.deref.result.now))) (Err x) c.requires.form told h) c.walk_over.ensures.fault
 
-pub walk_exists-returns-in-Err-clause-fault : goal.walk_exists-returns-in-Err-clause-fault
-walk_exists-returns-in-Err-clause-fault t c =
+pub walk_exists-returns-clause-fault : goal.walk_exists-returns-clause-fault
+walk_exists-returns-clause-fault t c =
     let s = c.args.stage in
     let vs = map value c.args.slots.now in
     let d = c.args.depth in
-    let p = c.args.places.now in
+    let p = c.args.places in
     let q = c.args.part in
     let bs = c.args.bounds.now in
     let e = c.args.body.now in
@@ -605,20 +606,20 @@ walk_over-returns-clause-fault t c =
     let same = ap (map members) c.deref.ensures.value ∙ c.in_ok-lists.ensures.members in
     err_then c.walk_combinations.result _ _ (λ x h. subst (λ (ls : List (List Val)). AnyWalked g c.args.depth c.args.stage.sees.now c.args.places.now (under ctx c.args.body.now (combinations ls)) (Err x)) same h) c.walk_combinations.ensures.fault
 
-pub walk_under-walk_part-requires : goal.walk_under-walk_part-requires
-walk_under-walk_part-requires t c =
+pub walk_under-walk_copy-requires : goal.walk_under-walk_copy-requires
+walk_under-walk_copy-requires t c =
     let same = ap (map value) c.deref.ensures.value ∙ c.in_ok-inner.ensures in
     (omega (arith, c.decreases), subst (λ (us : List Val). Grounded (setting c.args.stage) c.args.depth c.args.stage.sees.now c.args.places.now (before c.args.stage us) c.args.body.now) (sym same) c.requires.grounds)
 
 pub walk_under-returns-clause-found : goal.walk_under-returns-clause-found
 walk_under-returns-clause-found t c =
     let same = ap (map value) c.deref.ensures.value ∙ c.in_ok-inner.ensures in
-    ok_then c.walk_part.result _ _ (λ x h. subst (λ (us : List Val). IsWalked (setting c.args.stage) c.args.depth c.args.stage.sees.now c.args.places.now (before c.args.stage us) c.args.body.now (Ok x.items)) same h) c.walk_part.ensures.found
+    ok_then c.walk_copy.result _ _ (λ x h. subst (λ (us : List Val). IsWalked (setting c.args.stage) c.args.depth c.args.stage.sees.now c.args.places.now (before c.args.stage us) c.args.body.now (Ok x.items)) same h) c.walk_copy.ensures.found
 
 pub walk_under-returns-clause-fault : goal.walk_under-returns-clause-fault
 walk_under-returns-clause-fault t c =
     let same = ap (map value) c.deref.ensures.value ∙ c.in_ok-inner.ensures in
-    err_then c.walk_part.result _ _ (λ x h. subst (λ (us : List Val). IsWalked (setting c.args.stage) c.args.depth c.args.stage.sees.now c.args.places.now (before c.args.stage us) c.args.body.now (Err x)) same h) c.walk_part.ensures.fault
+    err_then c.walk_copy.result _ _ (λ x h. subst (λ (us : List Val). IsWalked (setting c.args.stage) c.args.depth c.args.stage.sees.now c.args.places.now (before c.args.stage us) c.args.body.now (Err x)) same h) c.walk_copy.ensures.fault
 
 pub walk_combinations-loop-more-init : goal.walk_combinations-loop-more-init
 walk_combinations-loop-more-init t c =
@@ -726,7 +727,7 @@ walk_all-loop-part-init t c =
     let ctx = before c.args.stage (map value c.args.slots.now) in
     let d = c.args.depth in
     let sees = c.args.stage.sees.now in
-    let p = c.args.places.now in
+    let p = c.args.places in
     let es = parts_at ctx c.args.parts.now in
     all_start g d sees p es c.in_ok-found.found.items c.in_ok-found.ensures
 
@@ -738,13 +739,13 @@ walk_all-walk_from-requires t c =
     let ctx = before c.args.stage (map value c.args.slots.now) in
     let d = c.args.depth in
     let sees = c.args.stage.sees.now in
-    let p = c.args.places.now in
+    let p = c.args.places in
     let es = parts_at ctx c.args.parts.now in
     let i = c.loop-part.part-index in
     let below : c.loop-part.part-index < length c.args.parts.now = omega arith in
     let cut = apart es i (ctx, part_term c.part-item.result) (cut_mapped (λ (q : Part). (ctx, part_term q)) c.args.parts.now i c.part-item.result (cut_at c.args.parts.now i c.part-item.result below c.part-item.is)) in
     let each = all_ground g d sees p es i (ctx, part_term c.part-item.result) c.loop-part.found.items cut c.requires c.loop-part.invariant in
-    (omega (arith, c.decreases), subst (λ (ps : List Places). EachGrounded g d sees ps ctx (part_term c.part-item.result)) (sym c.deref.ensures.value) each)
+    (omega (arith, c.decreases), each)
 
 pub walk_all-loop-part-preserved : goal.walk_all-loop-part-preserved
 walk_all-loop-part-preserved t c =
@@ -754,13 +755,12 @@ walk_all-loop-part-preserved t c =
     let ctx = before c.args.stage (map value c.args.slots.now) in
     let d = c.args.depth in
     let sees = c.args.stage.sees.now in
-    let p = c.args.places.now in
+    let p = c.args.places in
     let es = parts_at ctx c.args.parts.now in
     let i = c.loop-part.part-index in
     let below : c.loop-part.part-index < length c.args.parts.now = omega arith in
     let cut = apart es i (ctx, part_term c.part-item.result) (cut_mapped (λ (q : Part). (ctx, part_term q)) c.args.parts.now i c.part-item.result (cut_at c.args.parts.now i c.part-item.result below c.part-item.is)) in
-    let there = subst (λ (ps : List Places). EachWalked g d sees ps ctx (part_term c.part-item.result) (Ok c.in-Ok.further.items)) c.deref.ensures.value c.in-Ok.ensures.found in
-    all_step g d sees p es i (ctx, part_term c.part-item.result) c.loop-part.found.items c.in-Ok.further.items cut there c.loop-part.invariant
+    all_step g d sees p es i (ctx, part_term c.part-item.result) c.loop-part.found.items c.in-Ok.further.items cut c.in-Ok.ensures.found c.loop-part.invariant
 
 pub walk_all-returns-in-Err-clause-fault : goal.walk_all-returns-in-Err-clause-fault
 walk_all-returns-in-Err-clause-fault t c =
@@ -770,13 +770,12 @@ walk_all-returns-in-Err-clause-fault t c =
     let ctx = before c.args.stage (map value c.args.slots.now) in
     let d = c.args.depth in
     let sees = c.args.stage.sees.now in
-    let p = c.args.places.now in
+    let p = c.args.places in
     let es = parts_at ctx c.args.parts.now in
     let i = c.loop-part.part-index in
     let below : c.loop-part.part-index < length c.args.parts.now = omega arith in
     let cut = apart es i (ctx, part_term c.part-item.result) (cut_mapped (λ (q : Part). (ctx, part_term q)) c.args.parts.now i c.part-item.result (cut_at c.args.parts.now i c.part-item.result below c.part-item.is)) in
-    let there = subst (λ (ps : List Places). EachWalked g d sees ps ctx (part_term c.part-item.result) (Err c.in-Err.fault)) c.deref.ensures.value c.in-Err.ensures.fault in
-    all_stop g d sees p es i (ctx, part_term c.part-item.result) c.loop-part.found.items c.in-Err.fault cut there c.loop-part.invariant
+    all_stop g d sees p es i (ctx, part_term c.part-item.result) c.loop-part.found.items c.in-Err.fault cut c.in-Err.ensures.fault c.loop-part.invariant
 
 pub walk_all-returns-clause-found : goal.walk_all-returns-clause-found
 walk_all-returns-clause-found t c =
@@ -786,12 +785,33 @@ walk_all-returns-clause-found t c =
     let ctx = before c.args.stage (map value c.args.slots.now) in
     let d = c.args.depth in
     let sees = c.args.stage.sees.now in
-    let p = c.args.places.now in
+    let p = c.args.places in
     let es = parts_at ctx c.args.parts.now in
     let i = c.loop-part.part-index in
     let passed : length c.args.parts.now ≤ c.loop-part.part-index = omega arith in
     let over : length es ≤ c.loop-part.part-index = omega (arith, passed, length-map {B = Context × Term} c.args.parts.now (λ (q : Part). (ctx, part_term q))) in
     all_done g d sees p es i c.loop-part.found.items over c.loop-part.invariant
+
+pub walk_copy-walk_part-requires : goal.walk_copy-walk_part-requires
+walk_copy-walk_part-requires t c =
+    let s = c.args.stage in
+    let vs = map value c.args.slots.now in
+    let q = part_term c.args.part in
+    (omega (arith, c.decreases), subst (λ (p : Places). Grounded (setting s) c.args.depth s.sees.now p (before s vs) q) (sym c.in_ok-same.ensures) c.requires)
+
+pub walk_copy-returns-clause-found : goal.walk_copy-returns-clause-found
+walk_copy-returns-clause-found t c =
+    let s = c.args.stage in
+    let vs = map value c.args.slots.now in
+    let q = part_term c.args.part in
+    ok_then c.walk_part.result _ _ (λ x h. subst (λ (p : Places). IsWalked (setting s) c.args.depth s.sees.now p (before s vs) q (Ok x.items)) c.in_ok-same.ensures h) c.walk_part.ensures.found
+
+pub walk_copy-returns-clause-fault : goal.walk_copy-returns-clause-fault
+walk_copy-returns-clause-fault t c =
+    let s = c.args.stage in
+    let vs = map value c.args.slots.now in
+    let q = part_term c.args.part in
+    err_then c.walk_part.result _ _ (λ x h. subst (λ (p : Places). IsWalked (setting s) c.args.depth s.sees.now p (before s vs) q (Err x)) c.in_ok-same.ensures h) c.walk_part.ensures.fault
 
 pub walk_any-loop-part-init : goal.walk_any-loop-part-init
 walk_any-loop-part-init t c =
@@ -805,8 +825,8 @@ walk_any-loop-part-init t c =
     let es = parts_at ctx c.args.parts.now in
     any_start g d sees p es c.new-found.result.items c.new-found.ensures.items
 
-pub walk_any-walk_part-requires : goal.walk_any-walk_part-requires
-walk_any-walk_part-requires t c =
+pub walk_any-walk_copy-requires : goal.walk_any-walk_copy-requires
+walk_any-walk_copy-requires t c =
     let s = c.args.stage in
     let g = setting c.args.stage in
     let vs = map value c.args.slots.now in
@@ -874,8 +894,12 @@ walk_from-loop-places-init t c =
     let d = c.args.depth in
     let sees = c.args.stage.sees.now in
     let a = part_term c.args.part in
-    let ps = c.args.found.now in
-    each_start g d sees ctx a ps c.new-all.result.items c.new-all.ensures.items
+    let ps = c.args.found.items in
+    let gives = c.into_iter-places-iterator.ensures.into_iter_gives in
+    record {
+      ahead = (0, ahead_first ps ∙ sym gives.0, each_start g d sees ctx a ps c.new-all.result.items c.new-all.ensures.items);
+      len = omega (arith, gives.1, ap length gives.0, c.args.found.ok.0);
+    }
 
 pub walk_from-walk_part-requires : goal.walk_from-walk_part-requires
 walk_from-walk_part-requires t c =
@@ -886,11 +910,12 @@ walk_from-walk_part-requires t c =
     let d = c.args.depth in
     let sees = c.args.stage.sees.now in
     let a = part_term c.args.part in
-    let ps = c.args.found.now in
-    let i = c.loop-places.places-index in
-    let below : c.loop-places.places-index < length c.args.found.now = omega arith in
-    let cut = apart ps i c.places-item.result (cut_at ps i c.places-item.result below c.places-item.is) in
-    (omega (arith, c.decreases), each_ground g d sees ctx a ps i c.places-item.result cut c.requires)
+    let ps = c.args.found.items in
+    let ahead = c.loop-places.invariant.ahead in
+    let i = ahead.0 in
+    let left = into_iter_items c.next.new.self in
+    let cut = ahead_at ps (into_iter_items c.loop-places.places-iterator) i c.in-Some.places left ahead.1 c.in-Some.ensures.steps.0 in
+    (omega (arith, c.decreases), each_ground g d sees ctx a ps i c.in-Some.places cut c.requires)
 
 pub walk_from-loop-places-preserved : goal.walk_from-loop-places-preserved
 walk_from-loop-places-preserved t c =
@@ -901,11 +926,17 @@ walk_from-loop-places-preserved t c =
     let d = c.args.depth in
     let sees = c.args.stage.sees.now in
     let a = part_term c.args.part in
-    let ps = c.args.found.now in
-    let i = c.loop-places.places-index in
-    let below : c.loop-places.places-index < length c.args.found.now = omega arith in
-    let cut = apart ps i c.places-item.result (cut_at ps i c.places-item.result below c.places-item.is) in
-    each_step g d sees ctx a ps i c.places-item.result c.loop-places.all.items c.in-Ok.more.items c.append.new.found.items cut c.in-Ok.ensures.found c.in_ok-append-in-Ok.ensures c.loop-places.invariant
+    let ps = c.args.found.items in
+    let ahead = c.loop-places.invariant.ahead in
+    let i = ahead.0 in
+    let left = into_iter_items c.next.new.self in
+    let cut = ahead_at ps (into_iter_items c.loop-places.places-iterator) i c.in-Some.places left ahead.1 c.in-Some.ensures.steps.0 in
+    let step = c.in-Some.ensures.steps in
+    let more = each_step g d sees ctx a ps i c.in-Some.places c.loop-places.all.items c.in-Ok.more.items c.append.new.found.items cut c.in-Ok.ensures.found c.in_ok-append-in-Ok.ensures ahead.2 in
+    record {
+      ahead = (i + 1, ahead_next ps (into_iter_items c.loop-places.places-iterator) i c.in-Some.places left ahead.1 step.0, more);
+      len = omega (arith, step.1, c.loop-places.invariant.len, ap length step.0);
+    }
 
 pub walk_from-returns-in-Err-clause-fault : goal.walk_from-returns-in-Err-clause-fault
 walk_from-returns-in-Err-clause-fault t c =
@@ -916,11 +947,12 @@ walk_from-returns-in-Err-clause-fault t c =
     let d = c.args.depth in
     let sees = c.args.stage.sees.now in
     let a = part_term c.args.part in
-    let ps = c.args.found.now in
-    let i = c.loop-places.places-index in
-    let below : c.loop-places.places-index < length c.args.found.now = omega arith in
-    let cut = apart ps i c.places-item.result (cut_at ps i c.places-item.result below c.places-item.is) in
-    each_stop g d sees ctx a ps i c.places-item.result c.in-Err.fault cut c.in-Err.ensures.fault
+    let ps = c.args.found.items in
+    let ahead = c.loop-places.invariant.ahead in
+    let i = ahead.0 in
+    let left = into_iter_items c.next.new.self in
+    let cut = ahead_at ps (into_iter_items c.loop-places.places-iterator) i c.in-Some.places left ahead.1 c.in-Some.ensures.steps.0 in
+    each_stop g d sees ctx a ps i c.in-Some.places c.in-Err.fault cut c.in-Err.ensures.fault
 
 pub walk_from-returns-clause-found : goal.walk_from-returns-clause-found
 walk_from-returns-clause-found t c =
@@ -931,17 +963,18 @@ walk_from-returns-clause-found t c =
     let d = c.args.depth in
     let sees = c.args.stage.sees.now in
     let a = part_term c.args.part in
-    let ps = c.args.found.now in
-    let i = c.loop-places.places-index in
-    let passed : length c.args.found.now ≤ c.loop-places.places-index = omega arith in
-    each_done g d sees ctx a ps i c.loop-places.all.items passed c.loop-places.invariant
+    let ps = c.args.found.items in
+    let ahead = c.loop-places.invariant.ahead in
+    let i = ahead.0 in
+    let over = sym c.loop-places.invariant.len ∙ c.in-None.ensures.steps.0 in
+    each_done g d sees ctx a ps i c.loop-places.all.items (ahead_over ps (into_iter_items c.loop-places.places-iterator) i ahead.1 over) ahead.2
 
 pub walk_angled-walk_part-requires : goal.walk_angled-walk_part-requires
 walk_angled-walk_part-requires t c =
     let s = c.args.stage in
     let vs = map value c.args.slots.now in
     let d = c.args.depth in
-    let p = c.args.places.now in
+    let p = c.args.places in
     let q = c.args.part in
     let e = c.args.action.now in
     let v = c.args.subscript.now in
@@ -952,28 +985,26 @@ walk_angled-changed_ones-requires t c =
     let s = c.args.stage in
     let vs = map value c.args.slots.now in
     let d = c.args.depth in
-    let p = c.args.places.now in
+    let p = c.args.places in
     let q = c.args.part in
     let e = c.args.action.now in
     let v = c.args.subscript.now in
     let at = c.part_place.ensures in
     let each = angled_reads s vs d p q e v c.in-Ok.found.items c.requires.form c.requires.grounds c.in-Ok.ensures.found in
-    let placed = subst (λ (x : Place). EachReads (setting s) d c.in-Ok.found.items (before s vs) (changed_of x v)) (sym at) each in
-    subst (λ (ps : List Places). EachReads (setting s) d ps (before s vs) (changed_of c.part_place.result v)) (sym c.deref.ensures.value) placed
+    subst (λ (x : Place). EachReads (setting s) d c.in-Ok.found.items (before s vs) (changed_of x v)) (sym at) each
 
 pub walk_angled-returns-in-Ok-clause-found : goal.walk_angled-returns-in-Ok-clause-found
 walk_angled-returns-in-Ok-clause-found t c =
     let s = c.args.stage in
     let vs = map value c.args.slots.now in
     let d = c.args.depth in
-    let p = c.args.places.now in
+    let p = c.args.places in
     let q = c.args.part in
     let e = c.args.action.now in
     let v = c.args.subscript.now in
     let at = c.part_place.ensures in
     ok_then c.changed_ones.result _ _ (λ x h.
-    let there = subst (λ (ps : List Places). EachTested (setting s) d s.sees.now ps (before s vs) (changed_of c.part_place.result v) (Ok x.items)) c.deref.ensures.value h in
-    let placed = subst (λ (y : Place). EachTested (setting s) d s.sees.now c.in-Ok.found.items (before s vs) (changed_of y v) (Ok x.items)) at there in
+    let placed = subst (λ (y : Place). EachTested (setting s) d s.sees.now c.in-Ok.found.items (before s vs) (changed_of y v) (Ok x.items)) at h in
     angled_walked s vs d p q e v c.in-Ok.found.items (Ok x.items) c.requires.form c.in-Ok.ensures.found placed) c.changed_ones.ensures.found
 
 pub walk_angled-returns-in-Ok-clause-fault : goal.walk_angled-returns-in-Ok-clause-fault
@@ -981,14 +1012,13 @@ walk_angled-returns-in-Ok-clause-fault t c =
     let s = c.args.stage in
     let vs = map value c.args.slots.now in
     let d = c.args.depth in
-    let p = c.args.places.now in
+    let p = c.args.places in
     let q = c.args.part in
     let e = c.args.action.now in
     let v = c.args.subscript.now in
     let at = c.part_place.ensures in
     err_then c.changed_ones.result _ _ (λ x h.
-    let there = subst (λ (ps : List Places). EachTested (setting s) d s.sees.now ps (before s vs) (changed_of c.part_place.result v) (Err x)) c.deref.ensures.value h in
-    let placed = subst (λ (y : Place). EachTested (setting s) d s.sees.now c.in-Ok.found.items (before s vs) (changed_of y v) (Err x)) at there in
+    let placed = subst (λ (y : Place). EachTested (setting s) d s.sees.now c.in-Ok.found.items (before s vs) (changed_of y v) (Err x)) at h in
     angled_walked s vs d p q e v c.in-Ok.found.items (Err x) c.requires.form c.in-Ok.ensures.found placed) c.changed_ones.ensures.fault
 
 pub walk_angled-returns-in-Err-clause-fault : goal.walk_angled-returns-in-Err-clause-fault
@@ -996,7 +1026,7 @@ walk_angled-returns-in-Err-clause-fault t c =
     let s = c.args.stage in
     let vs = map value c.args.slots.now in
     let d = c.args.depth in
-    let p = c.args.places.now in
+    let p = c.args.places in
     let q = c.args.part in
     let e = c.args.action.now in
     let v = c.args.subscript.now in
@@ -1014,7 +1044,7 @@ walk_body-slots_and-requires t c =
     let ctx = before c.args.stage (map value c.args.slots.now) in
     let d = c.args.depth in
     let sees = c.args.stage.sees.now in
-    let p = c.args.places.now in
+    let p = c.args.places in
     let k = c.args.number.0 in
     let us = c.args.values.now in
     let o = c.definition-operator.result.now in
@@ -1030,7 +1060,7 @@ walk_body-walk_part-requires t c =
     let ctx = before c.args.stage (map value c.args.slots.now) in
     let d = c.args.depth in
     let sees = c.args.stage.sees.now in
-    let p = c.args.places.now in
+    let p = c.args.places in
     let k = c.args.number.0 in
     let us = c.args.values.now in
     let o = c.definition-operator.result.now in
@@ -1045,7 +1075,7 @@ walk_body-returns-clause-found t c =
     let ctx = before c.args.stage (map value c.args.slots.now) in
     let d = c.args.depth in
     let sees = c.args.stage.sees.now in
-    let p = c.args.places.now in
+    let p = c.args.places in
     let k = c.args.number.0 in
     let us = c.args.values.now in
     let o = c.definition-operator.result.now in
@@ -1060,7 +1090,7 @@ walk_body-returns-clause-fault t c =
     let ctx = before c.args.stage (map value c.args.slots.now) in
     let d = c.args.depth in
     let sees = c.args.stage.sees.now in
-    let p = c.args.places.now in
+    let p = c.args.places in
     let k = c.args.number.0 in
     let us = c.args.values.now in
     let o = c.definition-operator.result.now in

@@ -1,10 +1,11 @@
-use Rattle.std.proofs.Common.{map, ◌+◌, ◌*◌, length}
+use Rattle.std.proofs.Common.{◌≡◌, map, ◌+◌, ◌*◌, length}
 use Rattle.std.specs.Prelude.{IsTrue}
+use Rattle.std.specs.Vec.Iter.{into_iter_items, into_iter_len}
 use Rattle.tla_eval.specs.Binders.{combinations}
 use Rattle.evaluator.specs.Walks.{AreWithin, left_from}
 use Rattle.action_rows.specs.Rows.{before, part_term, setting}
 use Rattle.action_walk.specs.Walking.{parts_at}
-use Rattle.action_walk.proofs.Loops.{AllSoFar, AnySoFar, EachSoFar, UnderSoFar}
+use Rattle.action_walk.proofs.Loops.{Ahead, AllSoFar, AnySoFar, EachSoFar, UnderSoFar}
 use Rattle.action_walk.proofs.forms.+walk.Given as goal
 
 abbrev pub decreases-walk_part : goal.decreases-walk_part
@@ -50,7 +51,7 @@ abbrev pub decreases-walk_combinations : goal.decreases-walk_combinations
 decreases-walk_combinations l = 10 * l.depth + 4
 
 abbrev pub decreases-walk_under : goal.decreases-walk_under
-decreases-walk_under l = 10 * l.depth + 1
+decreases-walk_under l = 10 * l.depth + 2
 
 abbrev pub decreases-walk_body : goal.decreases-walk_body
 decreases-walk_body l = 10 * l.depth + 1
@@ -61,16 +62,21 @@ decreases-walk_all l = 10 * l.depth + 4
 abbrev pub decreases-walk_any : goal.decreases-walk_any
 decreases-walk_any l = 10 * l.depth + 4
 
+abbrev pub decreases-walk_copy : goal.decreases-walk_copy
+decreases-walk_copy l = 10 * l.depth + 1
+
 abbrev pub decreases-walk_from : goal.decreases-walk_from
 decreases-walk_from l = 10 * l.depth + 2
 
 abbrev pub invariant-walk_all-loop-part : goal.invariant-walk_all-loop-part
 invariant-walk_all-loop-part l =
-    AllSoFar (setting l.stage) l.depth l.stage.sees.now l.places (parts_at (before l.stage (map (λ v. v.now) l.slots)) l.parts) l.part-index l.found.items
+    AllSoFar (setting l.stage) l.depth l.stage.sees.now l.fn.places (parts_at (before l.stage (map (λ v. v.now) l.slots)) l.parts) l.part-index l.found.items
 
 abbrev pub invariant-walk_from-loop-places : goal.invariant-walk_from-loop-places
-invariant-walk_from-loop-places l =
-    EachSoFar (setting l.stage) l.depth l.stage.sees.now (before l.stage (map (λ v. v.now) l.slots)) (part_term l.part) l.found l.places-index l.all.items
+invariant-walk_from-loop-places l = record {
+  ahead : Ahead l.fn.found.items (into_iter_items l.places-iterator) (λ i. EachSoFar (setting l.stage) l.depth l.stage.sees.now (before l.stage (map (λ v. v.now) l.slots)) (part_term l.part) l.fn.found.items i l.all.items);
+  len : into_iter_len l.places-iterator ≡ length (into_iter_items l.places-iterator);
+}
 
 abbrev pub invariant-walk_any-loop-part : goal.invariant-walk_any-loop-part
 invariant-walk_any-loop-part l =

@@ -22,7 +22,7 @@ eval-requires c =
     let ctx = before c.args.stage (map value c.args.slots.now) in
     let d = c.args.depth in
     let sees = c.args.stage.sees.now in
-    let p = c.args.places.now in
+    let p = c.args.places in
     let a = part_term c.args.part in
     let w = form_walks g d sees p ctx a (assign c.args.number.0 c.args.term.now) c.requires.form c.requires.grounds.0 c.requires.grounds.1 in
     in_scene s vs p c.scene_at.result (λ ops x. Reads ops d x c.args.term.now) c.scene_at.ensures.table c.scene_at.ensures.context w.1
@@ -35,7 +35,7 @@ assigned-requires c =
     let ctx = before c.args.stage (map value c.args.slots.now) in
     let d = c.args.depth in
     let sees = c.args.stage.sees.now in
-    let p = c.args.places.now in
+    let p = c.args.places in
     let a = part_term c.args.part in
     (form_walks g d sees p ctx a (assign c.args.number.0 c.args.term.now) c.requires.form c.requires.grounds.0 c.requires.grounds.1).0
 
@@ -47,7 +47,7 @@ returns-in_ok-assigned-in-Ok-clause-found c =
     let ctx = before c.args.stage (map value c.args.slots.now) in
     let d = c.args.depth in
     let sees = c.args.stage.sees.now in
-    let p = c.args.places.now in
+    let p = c.args.places in
     let a = part_term c.args.part in
     let w = form_walks g d sees p ctx a (assign c.args.number.0 c.args.term.now) c.requires.form c.requires.grounds.0 c.requires.grounds.1 in
     let there = on_stage s vs p c.scene_at.result (λ ops x. Evaluates ops d x c.args.term.now (Ok c.in-Ok.value)) c.scene_at.ensures.table c.scene_at.ensures.context c.in-Ok.ensures in
@@ -61,7 +61,7 @@ returns-in-Err-clause-fault c =
     let ctx = before c.args.stage (map value c.args.slots.now) in
     let d = c.args.depth in
     let sees = c.args.stage.sees.now in
-    let p = c.args.places.now in
+    let p = c.args.places in
     let a = part_term c.args.part in
     let there = on_stage s vs p c.scene_at.result (λ ops x. Tells {A = Val} (Err c.in-Err.fault) (Evaluates ops d x c.args.term.now)) c.scene_at.ensures.table c.scene_at.ensures.context c.in-Err.ensures in
     unassigned_row g d sees p ctx a c.args.number.0 c.args.term.now c.in-Err.fault c.requires.form there

@@ -7,15 +7,15 @@ use Rattle.successors.specs.Taken.{BothFound, act_at}
 use Rattle.successors.proofs.walking.event_found.Goals as goal
 
 pub returns-in-None-clause-found : goal.returns-in-None-clause-found
-returns-in-None-clause-found c = subst (λ (o : Option Event). IfOk c.next_from.result (λ found. BothFound c.args.course.spec.now c.args.course.from.now c.args.course.sees.now (act_of o) c.args.places.now (Ok found.items))) (sym c.in-None.is) c.next_from.ensures.found
+returns-in-None-clause-found c = subst (λ (o : Option Event). IfOk c.next_from.result (λ found. BothFound c.args.course.spec.now c.args.course.from.now c.args.course.sees.now (act_of o) c.args.places (Ok found.items))) (sym c.in-None.is) c.next_from.ensures.found
 
 pub returns-in-Some-clause-found : goal.returns-in-Some-clause-found
-returns-in-Some-clause-found c = subst (λ (o : Option Event). IfOk c.act_then_next.result (λ found. BothFound c.args.course.spec.now c.args.course.from.now c.args.course.sees.now (act_of o) c.args.places.now (Ok found.items))) (sym c.in-Some.is)
-    (subst (λ (vs : List Val). IfOk c.act_then_next.result (λ found. BothFound c.args.course.spec.now c.args.course.from.now c.args.course.sees.now (Some (act_at c.in-Some.event.operator vs)) c.args.places.now (Ok found.items))) c.items.ensures c.act_then_next.ensures.found)
+returns-in-Some-clause-found c = subst (λ (o : Option Event). IfOk c.act_then_next.result (λ found. BothFound c.args.course.spec.now c.args.course.from.now c.args.course.sees.now (act_of o) c.args.places (Ok found.items))) (sym c.in-Some.is)
+    (subst (λ (vs : List Val). IfOk c.act_then_next.result (λ found. BothFound c.args.course.spec.now c.args.course.from.now c.args.course.sees.now (Some (act_at c.in-Some.event.operator vs)) c.args.places (Ok found.items))) c.items.ensures c.act_then_next.ensures.found)
 
 pub returns-in-None-clause-fault : goal.returns-in-None-clause-fault
-returns-in-None-clause-fault c = subst (λ (o : Option Event). IfErr c.next_from.result (λ fault. BothFound c.args.course.spec.now c.args.course.from.now c.args.course.sees.now (act_of o) c.args.places.now (Err fault))) (sym c.in-None.is) c.next_from.ensures.fault
+returns-in-None-clause-fault c = subst (λ (o : Option Event). IfErr c.next_from.result (λ fault. BothFound c.args.course.spec.now c.args.course.from.now c.args.course.sees.now (act_of o) c.args.places (Err fault))) (sym c.in-None.is) c.next_from.ensures.fault
 
 pub returns-in-Some-clause-fault : goal.returns-in-Some-clause-fault
-returns-in-Some-clause-fault c = subst (λ (o : Option Event). IfErr c.act_then_next.result (λ fault. BothFound c.args.course.spec.now c.args.course.from.now c.args.course.sees.now (act_of o) c.args.places.now (Err fault))) (sym c.in-Some.is)
-    (subst (λ (vs : List Val). IfErr c.act_then_next.result (λ fault. BothFound c.args.course.spec.now c.args.course.from.now c.args.course.sees.now (Some (act_at c.in-Some.event.operator vs)) c.args.places.now (Err fault))) c.items.ensures c.act_then_next.ensures.fault)
+returns-in-Some-clause-fault c = subst (λ (o : Option Event). IfErr c.act_then_next.result (λ fault. BothFound c.args.course.spec.now c.args.course.from.now c.args.course.sees.now (act_of o) c.args.places (Err fault))) (sym c.in-Some.is)
+    (subst (λ (vs : List Val). IfErr c.act_then_next.result (λ fault. BothFound c.args.course.spec.now c.args.course.from.now c.args.course.sees.now (Some (act_at c.in-Some.event.operator vs)) c.args.places (Err fault))) c.items.ensures c.act_then_next.ensures.fault)

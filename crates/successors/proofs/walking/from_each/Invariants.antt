@@ -1,7 +1,11 @@
-use Rattle.std.proofs.Common.{[]}
+use Rattle.std.proofs.Common.{◌≡◌, [], length}
+use Rattle.std.specs.Vec.Iter.{into_iter_items, into_iter_len}
 use Rattle.action_rows.specs.Rows.{before, setting}
-use Rattle.successors.proofs.Each.{SoFar}
+use Rattle.action_walk.proofs.Loops.{Ahead, EachSoFar}
 use Rattle.successors.proofs.walking.from_each.Given as goal
 
 abbrev pub invariant-loop-places : goal.invariant-loop-places
-invariant-loop-places l = SoFar (setting l.stage) 400 l.stage.sees.now (before l.stage []) l.term l.found l.places-index l.all.items
+invariant-loop-places l = record {
+  ahead : Ahead l.fn.found.items (into_iter_items l.places-iterator) (λ i. EachSoFar (setting l.stage) 400 l.stage.sees.now (before l.stage []) l.term l.fn.found.items i l.all.items);
+  len : into_iter_len l.places-iterator ≡ length (into_iter_items l.places-iterator);
+}

@@ -10,7 +10,7 @@ walk-requires c =
     let g = c.args.course.spec.now in
     let s = c.args.course.from.now in
     let sees = c.args.course.sees.now in
-    let p = c.args.places.now in
+    let p = c.args.places in
     let t = c.stage_of-stage in
     stage_grounded t.result g Action s sees t.ensures.setting (t.ensures.state ∙ c.requires.whole) t.ensures.sees [] [] refl 400 g.next p
     (next_grounded c.orderly_law.ensures c.whole_law.ensures g c.requires.ready s c.requires.state sees p c.requires.start)
@@ -20,7 +20,7 @@ returns-clause-found c =
     let g = c.args.course.spec.now in
     let s = c.args.course.from.now in
     let sees = c.args.course.sees.now in
-    let p = c.args.places.now in
+    let p = c.args.places in
     let t = c.stage_of-stage in
     ok_then c.walk.result _ _ (λ found w. next_found c.orderly_law.ensures c.whole_law.ensures g c.requires.ready s c.requires.state sees p (Ok found.items)
     (stage_walked t.result g Action s sees t.ensures.setting (t.ensures.state ∙ c.requires.whole) t.ensures.sees [] [] refl 400 g.next p (Ok found.items) w)) c.walk.ensures.found
@@ -30,7 +30,7 @@ returns-clause-fault c =
     let g = c.args.course.spec.now in
     let s = c.args.course.from.now in
     let sees = c.args.course.sees.now in
-    let p = c.args.places.now in
+    let p = c.args.places in
     let t = c.stage_of-stage in
     err_then c.walk.result _ _ (λ fault w. next_found c.orderly_law.ensures c.whole_law.ensures g c.requires.ready s c.requires.state sees p (Err fault)
     (stage_walked t.result g Action s sees t.ensures.setting (t.ensures.state ∙ c.requires.whole) t.ensures.sees [] [] refl 400 g.next p (Err fault) w)) c.walk.ensures.fault
