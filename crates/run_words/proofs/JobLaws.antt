@@ -1,20 +1,20 @@
 -- What the words give is one command, and meets the rules on names, numbers and counts.
-use Rattle.std.proofs.Common.{◌≡◌, ◌⊎◌, inl, inr, ◌∙◌, sym, ap, subst, refl, ℕ, ◌+◌, ◌<◌, ◌≤◌, ◌&&◌, not, Bool, true, false, cond, suc, if◌then◌else◌, List, [], ◌∷◌, ◌++◌, length, Option, Some, None, IfSome, option_to_list, MatchOption, IfOk, Result, Ok, Err, codes, arith}
+use Rattle.std.proofs.Common.{◌≡◌, ◌∙◌, sym, ap, subst, refl, ℕ, ◌≤◌, Bool, true, false, if◌then◌else◌, List, [], ◌∷◌, Option, Some, None, IfSome, option_to_list, IfOk, Result, Ok, Err, arith}
 use Rattle.std.specs.List.{list_all}
 use Rattle.std.specs.declared.alloc.AllocError.{AllocError}
-use Rattle.std.proofs.lemmas.Bool.{and_parts, and_from}
+use Rattle.std.proofs.lemmas.Bool.{and_parts}
 use Rattle.run_words.specs.declared.command.Command.{Command}
 use Rattle.run_words.specs.declared.command.Command.TheVariants as command
-use Rattle.run_words.specs.declared.command.Setting.{Setting}
-use Rattle.run_words.specs.declared.command.Setting.TheVariants.{Config, Within, Silent, Limit, Witness}
+use Rattle.run_words.specs.declared.command.Setting.TheVariants.{Config, Within, Limit, Witness}
 use Rattle.run_words.specs.declared.job.Job.{Job}
 use Rattle.run_words.specs.declared.job.Options.{Options}
 use Rattle.run_words.specs.declared.job.Words.{Words}
 use Rattle.run_words.specs.declared.job.Words.TheVariants.{Validate, Check, SelfRun}
-use Rattle.run_words.specs.Line.{Text, Part, apart, joined, stutter, positional, Line, Given, Gives, name_of, has_setting, has_stutter, is_given, begins_with_dash, is_part, is_line, behind_given, given_of, given_parts, given_behind, with_part}
-use Rattle.run_words.specs.Job.{AreFiles, IsJob, IsNumber, IsNumberOr, SetsOptions, is_same, values_of}
+use Rattle.run_words.specs.Line.{Text, Given, Gives, is_given}
+use Rattle.run_words.specs.Job.{IsJob, IsNumber, IsNumberOr, SetsOptions, values_of}
 use Rattle.run_words.specs.Words.{AreWords, Asks, AsksCheck, AsksNumber, IsOnlyNumber, IsWitnessed, JobMeets, MeetsRules, OneCommand, OptionsMeet, Reads}
-use Rattle.run_words.proofs.ReadLaws.{one_given}
+use Rattle.run_words.proofs.ReadLaws.{job_as, number_as, witnessed_as}
+use Rattle.run_words.proofs.Readings.{AllGiven, line_given, one_given}
 
 -- ---- one command
 
@@ -66,7 +66,7 @@ one_job g a b h i =
     (one_options g a.options b.options h.options i.options)
 
 one_asked : (c : Command) (ws : List Text) (a b : Job) → Asks c ws a → Asks c ws b → a ≡ b
-one_asked c ws a b h i = one_job h.given a b h.job_is (subst (λ (g : Given). IsJob g b) (one_given c ws i.given h.given i.line h.line) i.job_is)
+one_asked c ws a b h i = one_job h.given a b h.job_is (job_as i.given h.given b (one_given c ws i.given h.given i.line h.line) i.job_is)
 
 one_witnessed : (g : Given) (a b : Job) (w v : Text) → IsWitnessed g a w → IsWitnessed g b v → Check a w ≡ Check b v
 one_witnessed g a b w v h i =
@@ -76,7 +76,7 @@ one_witnessed g a b w v h i =
 
 one_check : (ws : List Text) (a b : Job) (w v : Text) → AsksCheck ws a w → AsksCheck ws b v → Check a w ≡ Check b v
 one_check ws a b w v h i =
-    one_witnessed h.given a b w v h.witnessed (subst (λ (g : Given). IsWitnessed g b v) (one_given command.Check ws i.given h.given i.line h.line) i.witnessed)
+    one_witnessed h.given a b w v h.witnessed (witnessed_as i.given h.given b v (one_given command.Check ws i.given h.given i.line h.line) i.witnessed)
 
 one_only : (ws : List Text) (m n : ℕ) → IsOnlyNumber ws m → IsOnlyNumber ws n → m ≡ n
 one_only ws m n h i =
@@ -86,7 +86,7 @@ one_only ws m n h i =
 
 one_selfrun : (ws : List Text) (m n : ℕ) → AsksNumber ws m → AsksNumber ws n → m ≡ n
 one_selfrun ws m n h i =
-    one_only h.given.positional m n h.number (subst (λ (g : Given). IsOnlyNumber g.positional n) (one_given command.SelfRun ws i.given h.given i.line h.line) i.number)
+    one_only h.given.positional m n h.number (number_as i.given h.given n (one_given command.SelfRun ws i.given h.given i.line h.line) i.number)
 
 abbrev rest_of : List Text → List Text
 rest_of [] = []
@@ -111,51 +111,8 @@ one_command ws (SelfRun m) (Check b v) h i = let e = sym h.1 ∙ i.1 in cc
 
 -- ---- the rules on names, numbers and counts
 
-record AreGiven (g : Given) : Type 0 where
-  values : list_all (λ o. is_given o.1) g.options ≡ true
-  words : list_all is_given g.positional ≡ true
-
-behind_are : (b : Option (List Text)) → behind_given b ≡ true → AreGiven (given_behind b)
-behind_are None h = record { values = refl; words = refl }
-behind_are (Some ws) h = record { values = refl; words = h }
-
-parts_are : (c : Command) (ps : List Part) (g : Given) → list_all (is_part c) ps ≡ true → AreGiven g → AreGiven (given_parts ps g)
-parts_are c [] g h a = a
-parts_are c (apart s v ∷ ps) g h a =
-    let p = and_parts (is_part c (apart s v)) (list_all (is_part c) ps) h in
-    let q = and_parts (has_setting c s) (is_given v && not (begins_with_dash v)) p.0 in
-    let r = and_parts (is_given v) (not (begins_with_dash v)) q.1 in
-    let t = parts_are c ps g p.1 a in
-    record { values = and_from _ _ r.0 t.values; words = t.words }
-parts_are c (joined s v ∷ ps) g h a =
-    let p = and_parts (is_part c (joined s v)) (list_all (is_part c) ps) h in
-    let q = and_parts (has_setting c s) (is_given v) p.0 in
-    let t = parts_are c ps g p.1 a in
-    record { values = and_from _ _ q.1 t.values; words = t.words }
-parts_are c (stutter ∷ ps) g h a =
-    let p = and_parts (has_stutter c) (list_all (is_part c) ps) h in
-    let t = parts_are c ps g p.1 a in
-    record { values = t.values; words = t.words }
-parts_are c (positional w ∷ ps) g h a =
-    let p = and_parts (is_part c (positional w)) (list_all (is_part c) ps) h in
-    let q = and_parts (is_given w) (not (begins_with_dash w)) p.0 in
-    let t = parts_are c ps g p.1 a in
-    record { values = t.values; words = and_from _ _ q.0 t.words }
-
-line_is : (c : Command) (ws : List Text) (g : Given) → Gives c ws g → AreGiven g
-line_is c ws g h =
-    let p = and_parts (list_all (is_part c) h.line.parts) (behind_given h.line.behind) h.allowed in
-    subst AreGiven (sym h.is) (parts_are c h.line.parts (given_behind h.line.behind) p.0 (behind_are h.line.behind p.1))
-
-value_is : (b : Bool) (v : Text) (vs : List Text) → is_given v ≡ true → list_all is_given vs ≡ true → list_all is_given (if b then v ∷ vs else vs) ≡ true
-value_is true v vs h i = and_from _ _ h i
-value_is false v vs h i = i
-
-values_are : (s : Setting) (os : List (Setting × Text)) → list_all (λ o. is_given o.1) os ≡ true → list_all is_given (values_of s os) ≡ true
-values_are s [] h = refl
-values_are s (o ∷ os) h =
-    let p = and_parts (is_given o.1) (list_all (λ o. is_given o.1) os) h in
-    value_is (is_same s o.0) o.1 (values_of s os) p.0 (values_are s os p.1)
+line_is : (c : Command) (ws : List Text) (g : Given) → Gives c ws g → AllGiven g
+line_is c ws g h = subst AllGiven (sym h.is) (line_given c h.line h.allowed)
 
 name_meets : (o : Option Text) (vs : List Text) → vs ≡ option_to_list o → list_all is_given vs ≡ true → IfSome o (λ n. is_given n ≡ true)
 name_meets None vs e h = tt
@@ -181,14 +138,14 @@ job_meets c ws g j l h =
       some = h.files.some;
       few = h.files.few;
       logs = (and_parts (is_given j.module) (list_all is_given j.logs) f).1;
-      config = name_meets j.config (values_of Config g.options) h.config (values_are Config g.options a.values);
+      config = name_meets j.config (values_of Config g.options) h.config (a.settings Config);
       silent = h.operator;
       options = options_meet g j.options h.options;
     }
 
 witness_meets : (c : Command) (ws : List Text) (g : Given) (w : Text) → Gives c ws g → values_of Witness g.options ≡ w ∷ [] → is_given w ≡ true
 witness_meets c ws g w l e =
-    let a = values_are Witness g.options (line_is c ws g l).values in
+    let a = (line_is c ws g l).settings Witness in
     (and_parts (is_given w) true (subst (λ (vs : List Text). list_all is_given vs ≡ true) e a)).0
 
 pub words_meet : (ws : List Text) (w : Words) → AreWords ws w → MeetsRules w

@@ -1,10 +1,13 @@
 pub mod Choices
+pub mod Faults
 pub mod JobLaws
-pub mod LineLoop
+pub mod Lines
+pub mod Looks
 pub mod ModuleLaws
 pub mod NameLaws
 pub mod NumberLaws
 pub mod ReadLaws
-pub mod ScanLaws
-pub mod ScanMeans
-pub mod ValueLaws
+pub mod Readings
+pub mod Rows
+pub mod Spelled
+pub mod Walks

@@ -1,21 +1,22 @@
 -- What a line gives decides what a command asks.
-use Rattle.std.proofs.Common.{◌≡◌, ◌∙◌, sym, ap, subst, refl, ℕ, ◌+◌, ◌-◌, ◌<◌, ◌≤◌, List, [], ◌∷◌, ◌++◌, length, get_or, take, drop, map, suc, length-drop, Option, Some, None, option_map, option_to_list, MatchOption, IfOk, Result, Ok, Err, String, Global, arith}
+use Rattle.std.proofs.Common.{◌≡◌, ◌∙◌, sym, ap, subst, refl, ℕ, ◌+◌, ◌-◌, ◌<◌, ◌≤◌, List, [], ◌∷◌, length, get_or, take, drop, drop-cons, add-one, suc, length-drop, Option, Some, None, option_map, MatchOption, IfOk, Result, Ok, Err, String, Global, arith}
 use Rattle.std.specs.Prelude.{codes, string_bytes}
 use Rattle.std.specs.Borrow.{Bor}
 use Rattle.std.specs.declared.alloc.AllocError.{AllocError}
 use Rattle.std.proofs.lemmas.List.{take_rest}
 use Rattle.run_words.specs.declared.command.Command.{Command}
 use Rattle.run_words.specs.declared.command.Command.TheVariants as command
+use Rattle.run_words.specs.declared.command.Setting.TheVariants.{Config, Within, Silent, Limit, Witness}
 use Rattle.run_words.specs.declared.job.Job.{Job}
+use Rattle.run_words.specs.declared.job.Options.{Options}
 use Rattle.run_words.specs.declared.job.Words.{Words}
 use Rattle.run_words.specs.declared.job.Words.TheVariants.{Validate, Check, SelfRun}
 use Rattle.run_words.specs.Line.{Text, Given, Gives, words_of}
-use Rattle.run_words.specs.Job.{AreFiles, IsJob, IsNumber, IsNumberOr, values_of}
-use Rattle.run_words.specs.Scan.{texts_of}
+use Rattle.run_words.specs.Job.{AreFiles, IsJob, IsNumberOr, SetsOptions}
+use Rattle.run_words.specs.Parsers.{Agree, Holds, texts_of}
 use Rattle.run_words.specs.Values.{IsValue, NumberFrom}
 use Rattle.run_words.specs.Words.{AreWords, Asks, AsksCheck, AsksNumber, IsOnlyNumber, IsWitnessed}
-use Rattle.run_words.proofs.LineLoop.{words_next}
-use Rattle.run_words.proofs.ScanLaws.{given_scanned}
+use Rattle.run_words.proofs.Readings.{one_given, then_agree, turned}
 
 pub at_some : {X : Type 0} (o : Option X) (x : X) (P : Type 0) (Q : X → Type 0) → o ≡ Some x → MatchOption o P Q → Q x
 at_some o x P Q e h = subst (λ o. MatchOption o P Q) e h
@@ -23,9 +24,33 @@ at_some o x P Q e h = subst (λ o. MatchOption o P Q) e h
 pub at_none : {X : Type 0} (o : Option X) (P : Type 0) (Q : X → Type 0) → o ≡ None → MatchOption o P Q → P
 at_none o P Q e h = subst (λ o. MatchOption o P Q) e h
 
--- the words of a command give one thing
-pub one_given : (c : Command) (ws : List Text) (a b : Given) → Gives c ws a → Gives c ws b → a ≡ b
-one_given c ws a b g h = let p = given_scanned c ws a g in let q = given_scanned c ws b h in cc
+-- ---- the order of different options does not matter
+
+options_as : (g h : Given) (o : Options) → Agree g h → SetsOptions g o → SetsOptions h o
+options_as g h o a s = record {
+  within = subst (λ vs. IsNumberOr 1 vs 1 8 o.within) (a.settings Within) s.within;
+  limit = subst (λ vs. IsNumberOr 10000 vs 1 100000 o.limit) (a.settings Limit) s.limit;
+  stutter = sym a.stutters ∙ s.stutter;
+}
+
+pub job_as : (g h : Given) (j : Job) → Agree g h → IsJob g j → IsJob h j
+job_as g h j a i = record {
+  files = subst (λ (ws : List Text). AreFiles ws j.module j.logs) a.positional i.files;
+  config = sym (a.settings Config) ∙ i.config;
+  silent = sym (a.settings Silent) ∙ i.silent;
+  operator = i.operator;
+  options = options_as g h j.options a i.options;
+}
+
+pub witnessed_as : (g h : Given) (j : Job) (w : Text) → Agree g h → IsWitnessed g j w → IsWitnessed h j w
+witnessed_as g h j w a i = record { job_is = job_as g h j a i.job_is; witness_is = sym (a.settings Witness) ∙ i.witness_is }
+
+pub number_as : (g h : Given) (n : ℕ) → Agree g h → IsOnlyNumber g.positional n → IsOnlyNumber h.positional n
+number_as g h n a i = subst (λ (ws : List Text). IsOnlyNumber ws n) a.positional i
+
+-- what the words give agrees with what the matches hold
+held_agree : (c : Command) (ws : List Text) (g held : Given) → Gives c ws g → Holds c ws held → Agree g held
+held_agree c ws g held l h = then_agree g h.given held (one_given c ws g h.given l h.line) h.agree
 
 pub number_at : (default least most : ℕ) (values : List Text) (found : Option (Bor Text)) (r : Option ℕ) → IsValue values found
     → MatchOption r ((n : ℕ) → NumberFrom default (option_map (λ t. t.now) found) least most n → ⊥) (NumberFrom default (option_map (λ t. t.now) found) least most)
@@ -35,27 +60,30 @@ number_at default least most values (Some t) r e h = subst (λ vs. MatchOption r
 
 -- ---- the number of `selfrun`
 
-pub selfrun_some : (ws : List Text) (g : Given) (r : Option ℕ) → Gives command.SelfRun ws g
+pub selfrun_some : (ws : List Text) (g : Given) (r : Option ℕ) → Holds command.SelfRun ws g
     → MatchOption r ((n : ℕ) → IsOnlyNumber g.positional n → ⊥) (IsOnlyNumber g.positional)
     → MatchOption r ((n : ℕ) → AsksNumber ws n → ⊥) (AsksNumber ws)
-selfrun_some ws g None m h = λ n a. h n (subst (λ (g : Given). IsOnlyNumber g.positional n) (one_given command.SelfRun ws a.given g a.line m) a.number)
-selfrun_some ws g (Some n) m h = record { given = g; line = m; number = h }
+selfrun_some ws g None m h = λ n a. h n (number_as a.given g n (held_agree command.SelfRun ws a.given g a.line m) a.number)
+selfrun_some ws g (Some n) m h = record { given = m.given; line = m.line; number = number_as g m.given n (turned m.given g m.agree) h }
+
+pub no_single : (ws : List Text) (n : ℕ) → ws ≡ [] → IsOnlyNumber ws n → ⊥
+no_single ws n e o = let q = sym e ∙ o.only in cc
 
 -- ---- jobs
 
-pub job_some : (c : Command) (ws : List Text) (g : Given) (r : Result (Option Job) AllocError) → Gives c ws g
+pub job_some : (c : Command) (ws : List Text) (g : Given) (r : Result (Option Job) AllocError) → Holds c ws g
     → IfOk r (λ read. MatchOption read ((j : Job) → IsJob g j → ⊥) (IsJob g))
     → IfOk r (λ read. MatchOption read ((j : Job) → Asks c ws j → ⊥) (Asks c ws))
 job_some c ws g (Err e) m h = tt
-job_some c ws g (Ok None) m h = λ j a. h j (subst (λ (g : Given). IsJob g j) (one_given c ws a.given g a.line m) a.job_is)
-job_some c ws g (Ok (Some j)) m h = record { given = g; line = m; job_is = h }
+job_some c ws g (Ok None) m h = λ j a. h j (job_as a.given g j (held_agree c ws a.given g a.line m) a.job_is)
+job_some c ws g (Ok (Some j)) m h = record { given = m.given; line = m.line; job_is = job_as g m.given j (turned m.given g m.agree) h }
 
-pub check_some : (ws : List Text) (g : Given) (r : Result (Option (Job × Text)) AllocError) → Gives command.Check ws g
+pub check_some : (ws : List Text) (g : Given) (r : Result (Option (Job × Text)) AllocError) → Holds command.Check ws g
     → IfOk r (λ read. MatchOption read ((j : Job) (w : Text) → IsWitnessed g j w → ⊥) (λ p. IsWitnessed g p.0 p.1))
     → IfOk r (λ read. MatchOption read ((j : Job) (w : Text) → AsksCheck ws j w → ⊥) (λ p. AsksCheck ws p.0 p.1))
 check_some ws g (Err e) m h = tt
-check_some ws g (Ok None) m h = λ j w a. h j w (subst (λ (g : Given). IsWitnessed g j w) (one_given command.Check ws a.given g a.line m) a.witnessed)
-check_some ws g (Ok (Some p)) m h = record { given = g; line = m; witnessed = h }
+check_some ws g (Ok None) m h = λ j w a. h j w (witnessed_as a.given g j w (held_agree command.Check ws a.given g a.line m) a.witnessed)
+check_some ws g (Ok (Some p)) m h = record { given = m.given; line = m.line; witnessed = witnessed_as g m.given p.0 p.1 (turned m.given g m.agree) h }
 
 -- ---- files
 
@@ -77,6 +105,12 @@ pub many_logs : (ts : List (Bor Text)) (path : Text) (logs : List Text) → 64 <
 many_logs ts path logs e f = let n = log_count ts path logs f in let s = f.few in let d : 64 < length (drop 1 ts) = rw take_rest at e in omega (arith, length-drop 1 ts)
 
 -- ---- the first word
+
+words_next : (ws : List (String Global)) (i : ℕ) (w : String Global) → i < length ws → w ≡ get_or ws i w
+    → words_of (drop i ws) ≡ string_bytes w ∷ words_of (drop (i + 1) ws)
+words_next ws i w l e =
+    let front : drop i ws ≡ get_or ws i w ∷ drop (i + 1) ws = rw add-one (drop-cons ws i w l) in
+    ap words_of front ∙ ap (λ (s : String Global). string_bytes s ∷ words_of (drop (i + 1) ws)) (sym e)
 
 pub first_and_rest : (ws : List (String Global)) (first : String Global) → 1 ≤ length ws → first ≡ get_or ws 0 first
     → words_of ws ≡ string_bytes first ∷ words_of (take (length ws - 1) (drop 1 ws))

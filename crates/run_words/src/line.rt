@@ -1,182 +1,151 @@
-//! The words behind the command word.
+//! The words behind the command word, as `clap` reads them.
 
-ghost use Rattle.std.specs.Prelude.{◌≡◌, IfOk, MatchOption, OnOk};
-ghost use Rattle.run_words.specs.Line.{Given, Gives, begins_with_dash, is_given, words_of};
-ghost use Rattle.run_words.specs.Scan.{and_then, given_by, given_part, next_of, nothing, option_step, setting_of, step, step_by, stutter_step, with_value, word_step};
+ghost use Rattle.std.specs.Prelude.{◌≡◌, ◌↔◌, [], IfOk, IsTrue, MatchOption};
+ghost use Rattle.std.specs.List.{list_all};
+ghost use Rattle.clap.specs.Simple.{app_of, with_rule};
+ghost use Rattle.clap.specs.Values.{kind_of};
+ghost use Rattle.clap.specs.Walk.{rows_of};
+ghost use Rattle.clap.specs.Matches.{found_of};
+ghost use Rattle.run_words.specs.Line.{Given, Gives, is_given, words_of};
+ghost use Rattle.run_words.specs.Parsers.{Holds, app_for, are_given, bare_app, files_app, given_by, has_given_alone, setting_rule, stutter_rule, texts_of, vals, words_rule};
 
 use crate::command::{Command, Setting};
-use std::alloc::Global;
+use clap::error::ErrorKind;
+use clap::{Arg, ArgAction, ArgMatches, Error};
+use std::alloc::{AllocError, Global};
 use trace_base::NoMemory;
 
-/// What a line gives: its options with their values, its flags and its positional words, in their order.
-#[derive(Debug, Drop)]
-pub(crate) struct Line<'a> {
-    pub(crate) options: Vec<(Setting, &'a str)>,
-    pub(crate) stutters: Vec<&'a str>,
-    pub(crate) positional: Vec<&'a str>,
-}
-
-/// What may come next: any part of a line, the value of an option, or positional words alone.
-#[derive(Clone, Copy, Debug, Drop)]
-pub(crate) enum Expected {
-    Any,
-    Value(Setting),
-    Words,
-}
-
-/// What a word is, where it may stand.
-#[derive(Clone, Copy, Debug, Drop)]
-pub(crate) enum Part<'a> {
-    /// `--`, or the name of an option whose value is the next word.
-    Nothing,
-    /// An option with its value.
-    Valued(Setting, &'a str),
-    /// The flag.
-    Stutter(&'a str),
-    Positional(&'a str),
-}
-
-impl<'a> Line<'a> {
-    fn new(alloc: Global) -> Line<'a>
-        ensures { given_by result ≡ nothing }
-    {
-        Line {
-            options: Vec::new(alloc),
-            stutters: Vec::new(alloc),
-            positional: Vec::new(alloc),
-        }
-    }
-
-    fn add(&mut self, part: Part<'a>) -> Result<(), NoMemory>
-        ensures { OnOk result (given_by self.new ≡ and_then (given_by self.old) (given_part part.entry)) }
-    {
-        match part {
-            Part::Nothing => {}
-            Part::Valued(setting, value) => self.options.push((setting, value))?,
-            Part::Stutter(word) => self.stutters.push(word)?,
-            Part::Positional(word) => self.positional.push(word)?,
-        }
-        Ok(())
-    }
-}
-
-/// What a line gives, or none where the words are no line of the command.
+/// What the words give, or none where they are no line of the command.
 pub(crate) fn read_line<'a>(
     alloc: Global,
     command: Command,
     words: &'a [String],
-) -> Result<Option<Line<'a>>, NoMemory>
+) -> Result<Option<ArgMatches<'a>>, NoMemory>
     ensures { IfOk result (λ found. MatchOption found ((g : Given) → ¬ Gives command (words_of words.now) g)
-        (λ line. Gives command (words_of words.now) (given_by line))) }
+        (λ matches. Holds command (words_of words.now) (given_by matches))) }
 {
-    let mut line = Line::new(alloc);
-    let mut expected = Expected::Any;
-    for word in words {
-        let Some((next, part)) = read_word(command, expected, word.as_str()) else {
-            return Ok(None);
-        };
-        line.add(part)?;
-        expected = next;
-    }
-    match expected {
-        Expected::Value(_) => Ok(None),
-        Expected::Any => Ok(Some(line)),
-        Expected::Words => Ok(Some(line)),
-    }
-}
-
-/// What a word is and what may come behind it, or none where it may not stand there.
-#[tactic(auto, unfolding(crate::specs::Scan::step))]
-fn read_word<'a>(
-    command: Command,
-    expected: Expected,
-    word: &'a str,
-) -> Option<(Expected, Part<'a>)>
-    ensures { step_by result ≡ step command (next_of expected) word.now }
-{
-    match expected {
-        Expected::Any => read_part(command, word),
-        Expected::Value(setting) => {
-            if begins_with_dash(word) {
-                return None;
+    let parser = parser_of(alloc, command)?;
+    match parser.try_get_matches_from(words) {
+        Ok(matches) => {
+            if are_given(&matches) {
+                return Ok(Some(matches));
             }
-            with_value(command, Some(setting), word)
+            Ok(None)
         }
-        Expected::Words => positional(Expected::Words, word),
-    }
-}
-
-#[tactic(auto, unfolding(crate::specs::Scan::step))]
-fn read_part<'a>(command: Command, word: &'a str) -> Option<(Expected, Part<'a>)>
-    ensures { step_by result ≡ step command (next_of Expected.Any) word.now }
-{
-    if word == "--" {
-        return Some((Expected::Words, Part::Nothing));
-    }
-    if begins_with_dash(word) {
-        return read_option(command, word);
-    }
-    positional(Expected::Any, word)
-}
-
-fn read_option<'a>(command: Command, word: &'a str) -> Option<(Expected, Part<'a>)>
-    ensures { step_by result ≡ option_step command (setting_of word.now) word.now }
-{
-    match Setting::named(word) {
-        Some(setting) => {
-            if command.has_setting(setting) {
-                Some((Expected::Value(setting), Part::Nothing))
-            } else {
-                None
+        Err(error) => {
+            if wants_memory(&error) {
+                return Err(AllocError);
             }
+            Ok(None)
         }
-        None => read_joined(command, word),
     }
 }
 
-/// The flag, or an option with its value behind `=`.
-fn read_joined<'a>(command: Command, word: &'a str) -> Option<(Expected, Part<'a>)>
-    ensures { step_by result ≡ stutter_step command word.now }
+fn wants_memory(error: &Error) -> bool
+    ensures { IsTrue result ↔ (kind_of error.now ≡ ErrorKind.OutOfMemory) }
 {
-    if word == "--stutter" {
-        if command.has_stutter() {
-            return Some((Expected::Any, Part::Stutter(word)));
-        }
-        return None;
-    }
-    match word.split_once('=') {
-        Some((name, value)) => with_value(command, Setting::named(name), value),
-        None => None,
+    error.kind() == ErrorKind::OutOfMemory
+}
+
+/// How `clap` reads the words behind the command word. Each argument may stand more than once, so that its values can be
+/// counted.
+fn parser_of<'a>(alloc: Global, command: Command) -> Result<clap::Command<'a>, NoMemory>
+    ensures { IfOk result (λ parser. app_of parser ≡ app_for command) }
+{
+    match command {
+        Command::Validate => with_files(alloc, "validate", Setting::Limit),
+        Command::Check => with_files(alloc, "check", Setting::Witness),
+        Command::SelfRun => with_words(alloc, bare(alloc, "selfrun")),
     }
 }
 
-fn with_value<'a>(
-    command: Command,
-    setting: Option<Setting>,
-    value: &'a str,
-) -> Option<(Expected, Part<'a>)>
-    ensures { step_by result ≡ with_value command setting value.now }
+/// The parser of a command that takes a module and logs, with one option more.
+fn with_files<'a>(
+    alloc: Global,
+    name: &'a str,
+    last: Setting,
+) -> Result<clap::Command<'a>, NoMemory>
+    ensures { IfOk result (λ parser. app_of parser ≡ files_app name.entry.now last) }
 {
-    match setting {
-        Some(setting) => {
-            if command.has_setting(setting) && is_given(value) {
-                Some((Expected::Any, Part::Valued(setting, value)))
-            } else {
-                None
-            }
-        }
-        None => None,
+    let parser = with_setting(alloc, bare(alloc, name), Setting::Config)?;
+    let parser = with_setting(alloc, parser, Setting::Within)?;
+    let parser = with_setting(alloc, parser, Setting::Silent)?;
+    let parser = with_stutter(alloc, parser)?;
+    let parser = with_setting(alloc, parser, last)?;
+    with_words(alloc, parser)
+}
+
+fn bare<'a>(alloc: Global, name: &'a str) -> clap::Command<'a>
+    ensures { app_of result ≡ bare_app name.entry.now }
+{
+    clap::Command::new(alloc, name)
+        .no_binary_name(true)
+        .disable_help_flag(true)
+        .disable_version_flag(true)
+}
+
+fn with_setting<'a>(
+    alloc: Global,
+    parser: clap::Command<'a>,
+    setting: Setting,
+) -> Result<clap::Command<'a>, NoMemory>
+    ensures { IfOk result (λ more. app_of more ≡ with_rule (app_of parser.entry) (setting_rule setting)) }
+{
+    let arg = Arg::new(alloc, setting.id())
+        .long(setting.id())
+        .action(ArgAction::Append);
+    parser.arg(arg)
+}
+
+fn with_stutter<'a>(alloc: Global, parser: clap::Command<'a>) -> Result<clap::Command<'a>, NoMemory>
+    ensures { IfOk result (λ more. app_of more ≡ with_rule (app_of parser.entry) stutter_rule) }
+{
+    let arg = Arg::new(alloc, "stutter")
+        .long("stutter")
+        .action(ArgAction::Append)
+        .num_args(0)
+        .default_missing_value("");
+    parser.arg(arg)
+}
+
+fn with_words<'a>(alloc: Global, parser: clap::Command<'a>) -> Result<clap::Command<'a>, NoMemory>
+    ensures { IfOk result (λ more. app_of more ≡ with_rule (app_of parser.entry) words_rule) }
+{
+    parser.arg(Arg::new(alloc, "words").action(ArgAction::Append))
+}
+
+/// The values of an argument, of all its uses; none where it does not stand.
+pub(crate) fn values<'m, 'a>(matches: &'m ArgMatches<'a>, id: &str) -> Option<&'m [&'a str]>
+    ensures { MatchOption result (vals id.now (rows_of (found_of matches.now)) ≡ []) (λ values. texts_of values.now ≡ vals id.now (rows_of (found_of matches.now))) }
+{
+    matches.get_strs(id)
+}
+
+/// Whether no value and no positional word is empty or `-`.
+fn are_given(matches: &ArgMatches<'_>) -> bool
+    ensures { result ≡ are_given (rows_of (found_of matches.now)) }
+{
+    has_given_alone(matches, "config")
+        && has_given_alone(matches, "within")
+        && has_given_alone(matches, "silent")
+        && has_given_alone(matches, "limit")
+        && has_given_alone(matches, "witness")
+        && has_given_alone(matches, "words")
+}
+
+fn has_given_alone(matches: &ArgMatches<'_>, id: &str) -> bool
+    ensures { result ≡ has_given_alone (rows_of (found_of matches.now)) id.now }
+{
+    match values(matches, id) {
+        Some(words) => all_given(words),
+        None => true,
     }
 }
 
-fn positional<'a>(expected: Expected, word: &'a str) -> Option<(Expected, Part<'a>)>
-    ensures { step_by result ≡ word_step (next_of expected) word.now }
+fn all_given(words: &[&str]) -> bool
+    ensures { result ≡ list_all (λ word. is_given word.now) words.now }
 {
-    if is_given(word) {
-        Some((expected, Part::Positional(word)))
-    } else {
-        None
-    }
+    words.iter().all(|word| is_given(word))
 }
 
 /// Whether a word is neither empty nor `-`.
@@ -184,13 +153,4 @@ pub(crate) fn is_given(word: &str) -> bool
     ensures { result ≡ is_given word.now }
 {
     !word.is_empty() && word != "-"
-}
-
-fn begins_with_dash(word: &str) -> bool
-    ensures { result ≡ begins_with_dash word.now }
-{
-    match word.as_bytes() {
-        [] => false,
-        [first, ..] => *first == b'-',
-    }
 }

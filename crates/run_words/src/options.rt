@@ -1,15 +1,16 @@
 //! The values of the options of a line.
 
-ghost use Rattle.std.specs.Prelude.{◌≡◌, ◌≢◌, ◌≤◌, [], ◌∷◌, ℕ, Bool, List, Option, MatchOption, MatchResult, length, map, option_map};
+ghost use Rattle.std.specs.Prelude.{◌≡◌, ◌≢◌, ◌≤◌, [], ◌∷◌, ℕ, Bool, List, Option, MatchOption, MatchResult, length, option_map};
 ghost use Rattle.run_words.specs.Job.{IsNumberOr, SetsOptions, values_of};
-ghost use Rattle.run_words.specs.Scan.{given_by, text_of};
+ghost use Rattle.run_words.specs.Parsers.{given_by, texts_of};
 ghost use Rattle.run_words.specs.Values.{IsOperator, IsValue, NumberFrom, IsStutter};
 
 use crate::command::Setting;
 use crate::job::Options;
-use crate::line::Line;
+use crate::line::values;
 use crate::name::is_name;
 use crate::number::number;
+use clap::ArgMatches;
 
 /// An option stands more than once.
 #[derive(Clone, Copy, Debug, Drop)]
@@ -17,28 +18,32 @@ pub(crate) struct Repeated;
 
 /// The value of an option, where it stands.
 pub(crate) fn value_of<'a>(
-    options: &[(Setting, &'a str)],
+    matches: &ArgMatches<'a>,
     setting: Setting,
 ) -> Result<Option<&'a str>, Repeated>
-    ensures { MatchResult result (IsValue (values_of setting (map text_of options.now))) (λ _. 2 ≤ length (values_of setting (map text_of options.now))) }
+    ensures { MatchResult result (IsValue (values_of setting (given_by matches.now).options)) (λ _. 2 ≤ length (values_of setting (given_by matches.now).options)) }
 {
-    let mut found = None;
-    for (name, text) in options {
-        if setting.is_same(*name) {
-            if found.is_some() {
-                return Err(Repeated);
-            }
-            found = Some(*text);
-        }
+    match values(matches, setting.id()) {
+        Some(values) => single(values),
+        None => Ok(None),
     }
-    Ok(found)
+}
+
+fn single<'a>(values: &[&'a str]) -> Result<Option<&'a str>, Repeated>
+    ensures { MatchResult result (IsValue (texts_of values.now)) (λ _. 2 ≤ length (texts_of values.now)) }
+{
+    match values {
+        [] => Ok(None),
+        [value] => Ok(Some(*value)),
+        _ => Err(Repeated),
+    }
 }
 
 /// The value of `--silent`, where it stands: a name.
-pub(crate) fn operator<'a>(options: &[(Setting, &'a str)]) -> Option<Option<&'a str>>
-    ensures { MatchOption result ((v : Option (List ℕ)) → ¬ IsOperator (map text_of options.now) v) (λ v. IsOperator (map text_of options.now) (option_map (λ t. t.now) v)) }
+pub(crate) fn operator<'a>(matches: &ArgMatches<'a>) -> Option<Option<&'a str>>
+    ensures { MatchOption result ((v : Option (List ℕ)) → ¬ IsOperator (given_by matches.now).options v) (λ v. IsOperator (given_by matches.now).options (option_map (λ t. t.now) v)) }
 {
-    match value_of(options, Setting::Silent) {
+    match value_of(matches, Setting::Silent) {
         Ok(Some(name)) => {
             if is_name(name.as_bytes()) {
                 Some(Some(name))
@@ -52,22 +57,22 @@ pub(crate) fn operator<'a>(options: &[(Setting, &'a str)]) -> Option<Option<&'a 
 }
 
 /// The value of `--witness`, where that stands once.
-pub(crate) fn witness<'a>(options: &[(Setting, &'a str)]) -> Option<&'a str>
-    ensures { MatchOption result ((w : List ℕ) → values_of Setting.Witness (map text_of options.now) ≢ w ∷ []) (λ w. values_of Setting.Witness (map text_of options.now) ≡ w.now ∷ []) }
+pub(crate) fn witness<'a>(matches: &ArgMatches<'a>) -> Option<&'a str>
+    ensures { MatchOption result ((w : List ℕ) → values_of Setting.Witness (given_by matches.now).options ≢ w ∷ []) (λ w. values_of Setting.Witness (given_by matches.now).options ≡ w.now ∷ []) }
 {
-    match value_of(options, Setting::Witness) {
+    match value_of(matches, Setting::Witness) {
         Ok(found) => found,
         Err(_) => None,
     }
 }
 
 /// The options of a line that are numbers or flags.
-pub(crate) fn read_options(line: &Line<'_>) -> Option<Options>
-    ensures { MatchOption result ((o : Options) → ¬ SetsOptions (given_by line.now) o) (SetsOptions (given_by line.now)) }
+pub(crate) fn read_options(matches: &ArgMatches<'_>) -> Option<Options>
+    ensures { MatchOption result ((o : Options) → ¬ SetsOptions (given_by matches.now) o) (SetsOptions (given_by matches.now)) }
 {
-    let within = number_of(&line.options, Setting::Within, 1, 1, 8)?;
-    let limit = number_of(&line.options, Setting::Limit, 10000, 1, 100_000)?;
-    let stutter = is_once(&line.stutters)?;
+    let within = number_of(matches, Setting::Within, 1, 1, 8)?;
+    let limit = number_of(matches, Setting::Limit, 10000, 1, 100_000)?;
+    let stutter = stutter_of(matches)?;
     Some(Options {
         within,
         stutter,
@@ -76,8 +81,17 @@ pub(crate) fn read_options(line: &Line<'_>) -> Option<Options>
 }
 
 /// Whether the flag stands, which it may once.
+fn stutter_of(matches: &ArgMatches<'_>) -> Option<bool>
+    ensures { MatchOption result ((b : Bool) → ¬ IsStutter (given_by matches.now).stutters b) (IsStutter (given_by matches.now).stutters) }
+{
+    match values(matches, "stutter") {
+        Some(flags) => is_once(flags),
+        None => Some(false),
+    }
+}
+
 fn is_once(flags: &[&str]) -> Option<bool>
-    ensures { MatchOption result ((b : Bool) → ¬ IsStutter (length flags.now) b) (IsStutter (length flags.now)) }
+    ensures { MatchOption result ((b : Bool) → ¬ IsStutter (length (texts_of flags.now)) b) (IsStutter (length (texts_of flags.now))) }
 {
     match flags {
         [] => Some(false),
@@ -87,16 +101,16 @@ fn is_once(flags: &[&str]) -> Option<bool>
 }
 
 fn number_of(
-    options: &[(Setting, &str)],
+    matches: &ArgMatches<'_>,
     setting: Setting,
     default: u32,
     least: u32,
     most: u32,
 ) -> Option<u32>
-    ensures { MatchOption result ((n : ℕ) → ¬ IsNumberOr default (values_of setting (map text_of options.now)) least most n)
-        (IsNumberOr default (values_of setting (map text_of options.now)) least most) }
+    ensures { MatchOption result ((n : ℕ) → ¬ IsNumberOr default (values_of setting (given_by matches.now).options) least most n)
+        (IsNumberOr default (values_of setting (given_by matches.now).options) least most) }
 {
-    match value_of(options, setting) {
+    match value_of(matches, setting) {
         Ok(value) => number_or(value, default, least, most),
         Err(_) => None,
     }

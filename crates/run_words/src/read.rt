@@ -4,15 +4,16 @@ ghost use Rattle.std.specs.Prelude.{◌≡◌, ℕ, List, IfOk, IfSome, MatchOpt
 ghost use Rattle.run_words.specs.declared.command.Command.TheVariants.{Validate};
 ghost use Rattle.run_words.specs.Line.{words_of};
 ghost use Rattle.run_words.specs.Job.{AreFiles, IsJob};
-ghost use Rattle.run_words.specs.Scan.{given_by, texts_of};
+ghost use Rattle.run_words.specs.Parsers.{given_by, texts_of};
 ghost use Rattle.run_words.specs.Words.{Asks, AsksCheck, AsksNumber, IsOnlyNumber, IsWitnessed, MeetsRules, Reads};
 
 use crate::command::{Command, Setting};
 use crate::job::{Job, Words};
-use crate::line::{Line, read_line};
+use crate::line::{read_line, values};
 use crate::name::is_module;
 use crate::number::number;
 use crate::options::{operator, read_options, value_of, witness};
+use clap::ArgMatches;
 use std::alloc::Global;
 use trace_base::{Names, NoMemory, Text};
 
@@ -67,7 +68,7 @@ fn read_validate(alloc: Global, words: &[String]) -> Result<Option<Job>, NoMemor
     ensures { IfOk result (λ read. MatchOption read ((j : Job) → ¬ Asks Validate (words_of words.now) j) (Asks Validate (words_of words.now))) }
 {
     match read_line(alloc, Command::Validate, words)? {
-        Some(line) => read_job(alloc, &line),
+        Some(matches) => read_job(alloc, &matches),
         None => Ok(None),
     }
 }
@@ -77,18 +78,18 @@ fn read_check(alloc: Global, words: &[String]) -> Result<Option<(Job, Text)>, No
     ensures { IfOk result (λ read. MatchOption read ((j : Job) (w : List ℕ) → ¬ AsksCheck (words_of words.now) j w) (λ r. AsksCheck (words_of words.now) r.0 r.1)) }
 {
     match read_line(alloc, Command::Check, words)? {
-        Some(line) => read_witnessed(alloc, &line),
+        Some(matches) => read_witnessed(alloc, &matches),
         None => Ok(None),
     }
 }
 
-fn read_witnessed(alloc: Global, line: &Line<'_>) -> Result<Option<(Job, Text)>, NoMemory>
-    ensures { IfOk result (λ read. MatchOption read ((j : Job) (w : List ℕ) → ¬ IsWitnessed (given_by line.now) j w) (λ r. IsWitnessed (given_by line.now) r.0 r.1)) }
+fn read_witnessed(alloc: Global, matches: &ArgMatches<'_>) -> Result<Option<(Job, Text)>, NoMemory>
+    ensures { IfOk result (λ read. MatchOption read ((j : Job) (w : List ℕ) → ¬ IsWitnessed (given_by matches.now) j w) (λ r. IsWitnessed (given_by matches.now) r.0 r.1)) }
 {
-    let Some(path) = witness(&line.options) else {
+    let Some(path) = witness(matches) else {
         return Ok(None);
     };
-    match read_job(alloc, line)? {
+    match read_job(alloc, matches)? {
         Some(job) => Ok(Some((job, Text::from_text(alloc, path)?))),
         None => Ok(None),
     }
@@ -99,8 +100,17 @@ fn read_selfrun(alloc: Global, words: &[String]) -> Result<Option<u32>, NoMemory
     ensures { IfOk result (λ read. MatchOption read ((n : ℕ) → ¬ AsksNumber (words_of words.now) n) (AsksNumber (words_of words.now))) }
 {
     match read_line(alloc, Command::SelfRun, words)? {
-        Some(line) => Ok(only_number(&line.positional)),
+        Some(matches) => Ok(single_number(&matches)),
         None => Ok(None),
+    }
+}
+
+fn single_number(matches: &ArgMatches<'_>) -> Option<u32>
+    ensures { MatchOption result ((n : ℕ) → ¬ IsOnlyNumber (given_by matches.now).positional n) (IsOnlyNumber (given_by matches.now).positional) }
+{
+    match values(matches, "words") {
+        Some(words) => only_number(words),
+        None => None,
     }
 }
 
@@ -114,19 +124,22 @@ fn only_number(words: &[&str]) -> Option<u32>
 }
 
 /// The job of a line.
-fn read_job(alloc: Global, line: &Line<'_>) -> Result<Option<Job>, NoMemory>
-    ensures { IfOk result (λ read. MatchOption read ((j : Job) → ¬ IsJob (given_by line.now) j) (IsJob (given_by line.now))) }
+fn read_job(alloc: Global, matches: &ArgMatches<'_>) -> Result<Option<Job>, NoMemory>
+    ensures { IfOk result (λ read. MatchOption read ((j : Job) → ¬ IsJob (given_by matches.now) j) (IsJob (given_by matches.now))) }
 {
-    let Some((path, logs)) = files(&line.positional) else {
+    let Some(words) = values(matches, "words") else {
         return Ok(None);
     };
-    let Ok(config) = value_of(&line.options, Setting::Config) else {
+    let Some((path, logs)) = files(words) else {
         return Ok(None);
     };
-    let Some(silent) = operator(&line.options) else {
+    let Ok(config) = value_of(matches, Setting::Config) else {
         return Ok(None);
     };
-    let Some(options) = read_options(line) else {
+    let Some(silent) = operator(matches) else {
+        return Ok(None);
+    };
+    let Some(options) = read_options(matches) else {
         return Ok(None);
     };
     let module = Text::from_text(alloc, path)?;

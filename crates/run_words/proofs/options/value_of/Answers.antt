@@ -1,25 +1,16 @@
-use Rattle.std.proofs.Common.{◌≡◌, ◌∙◌, sym, refl, subst, Option, Some, drop, ◌+◌}
-use Rattle.run_words.proofs.ValueLaws.{Finds, finds_end, finds_first, finds_other, finds_second}
+use Rattle.std.proofs.Common.{◌≤◌, sym, subst, List, [], length, MatchResult}
+use Rattle.clap.specs.Matches.{found_of}
+use Rattle.clap.specs.Walk.{rows_of}
+use Rattle.run_words.specs.Line.{Text}
+use Rattle.run_words.specs.Parsers.{texts_of}
+use Rattle.run_words.specs.Values.{IsValue}
+use Rattle.run_words.proofs.Rows.{setting_held}
 use Rattle.run_words.proofs.options.value_of.Goals as goal
-use Rattle.run_words.proofs.options.value_of.Goals.{then-is_same+else-is_some, else-is_same}
 
-pub loop-name-preserved : goal.loop-name-preserved
-loop-name-preserved c =
-    let all = c.args.options.now in
-    let i = c.loop-name.name-index in
-    elim c.if-is_same.branch [
-      | then-is_same+else-is_some w ↦
-          subst (λ f. Finds c.args.setting all f (drop (i + 1) all)) (sym w.found-is)
-          (finds_first c.args.setting all c.loop-name.found i _ c.loop-name-test.true (sym c.is_same.ensures ∙ w.if-is_same.true) (sym w.is_some.ensures ∙ w.if-is_some.false) c.loop-name.invariant)
-      | else-is_same w ↦
-          subst (λ f. Finds c.args.setting all f (drop (i + 1) all)) (sym w.found-is)
-          (finds_other c.args.setting all c.loop-name.found i _ c.loop-name-test.true (sym c.is_same.ensures ∙ w.if-is_same.false) c.loop-name.invariant)
-    ]
+pub returns-in-Some : goal.returns-in-Some
+returns-in-Some c =
+    subst (λ (vs : List Text). MatchResult c.single.result (IsValue vs) (λ _. 2 ≤ length vs))
+    (setting_held (rows_of (found_of c.args.matches.now)) c.args.setting c.id.result.now (texts_of c.in-Some.values.now) c.id.ensures c.in-Some.ensures) c.single.ensures
 
-pub returns-then-is_some : goal.returns-then-is_some
-returns-then-is_some c =
-    finds_second c.args.setting c.args.options.now c.loop-name.found c.loop-name.name-index _ c.loop-name-test.true
-    (sym c.is_same.ensures ∙ c.if-is_same.true) (sym c.is_some.ensures ∙ c.if-is_some.true) c.loop-name.invariant
-
-pub returns : goal.returns
-returns c = finds_end c.args.setting c.args.options.now c.loop-name.found c.loop-name.name-index c.loop-name-test.false c.loop-name.invariant
+pub returns-in-None : goal.returns-in-None
+returns-in-None c = sym (setting_held (rows_of (found_of c.args.matches.now)) c.args.setting c.id.result.now [] c.id.ensures (sym c.in-None.ensures))

@@ -1,5 +1,5 @@
 use Rattle.std.proofs.Common.{◌≡◌, take}
-use Rattle.run_words.specs.Scan.{texts_of}
+use Rattle.run_words.specs.Parsers.{texts_of}
 use Rattle.run_words.proofs.read.names.Given as goal
 
 abbrev pub invariant-loop-text : goal.invariant-loop-text

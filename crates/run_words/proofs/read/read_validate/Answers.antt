@@ -1,5 +1,5 @@
 use Rattle.run_words.specs.Line.{Given, Gives, words_of}
-use Rattle.run_words.specs.Scan.{given_by}
+use Rattle.run_words.specs.Parsers.{Holds, given_by}
 use Rattle.run_words.specs.declared.command.Command.TheVariants.{Validate}
 use Rattle.run_words.proofs.ReadLaws.{at_none, at_some, job_some}
 use Rattle.run_words.proofs.read.read_validate.Goals as goal
@@ -7,11 +7,11 @@ use Rattle.run_words.proofs.read.read_validate.Goals as goal
 pub returns-in-Some : goal.returns-in-Some
 returns-in-Some c =
     let ws = words_of c.args.words.now in
-    let line = at_some c.in_ok-line.field-0 c.in-Some.line ((g : Given) → Gives Validate ws g → ⊥) (λ l. Gives Validate ws (given_by l)) c.in-Some.is c.in_ok-line.ensures in
-    job_some Validate ws (given_by c.in-Some.line) c.read_job.result line c.read_job.ensures
+    let line = at_some c.in_ok-matches.field-0 c.in-Some.matches ((g : Given) → Gives Validate ws g → ⊥) (λ m. Holds Validate ws (given_by m)) c.in-Some.is c.in_ok-matches.ensures in
+    job_some Validate ws (given_by c.in-Some.matches) c.read_job.result line c.read_job.ensures
 
 pub returns-in-None : goal.returns-in-None
 returns-in-None c =
     let ws = words_of c.args.words.now in
-    let none = at_none c.in_ok-line.field-0 ((g : Given) → Gives Validate ws g → ⊥) (λ l. Gives Validate ws (given_by l)) c.in-None.is c.in_ok-line.ensures in
+    let none = at_none c.in_ok-matches.field-0 ((g : Given) → Gives Validate ws g → ⊥) (λ m. Holds Validate ws (given_by m)) c.in-None.is c.in_ok-matches.ensures in
     λ j a. none a.given a.line

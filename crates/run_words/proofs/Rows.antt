@@ -1,0 +1,292 @@
+-- What the rows of a line's matches hold.
+use Rattle.std.proofs.Common.{◌≡◌, ◌∙◌, sym, ap, ap₂, subst, refl, ℕ, ◌+◌, Bool, true, false, List, [], ◌∷◌, ◌++◌, map, length, length-append, Option, Some, None, codes, append_assoc, arith}
+use Rattle.std.specs.Prelude.{if◌then◌else◌, MatchOption, option_map, unwrap_or}
+use Rattle.std.specs.Borrow.{Bor}
+use Rattle.std.specs.Str.{bytes_eq}
+use Rattle.std.proofs.lemmas.List.{append-nil}
+use Rattle.std.proofs.lemmas.Slice.Eq.{bytes_eq-Decides}
+use Rattle.clap.specs.Walk.{Row, all_of, rows_of, stronger, used, with_values}
+use Rattle.clap.specs.Matches.{matched_of, raw_values}
+use Rattle.clap.specs.declared.parser.matches.Found.{Found}
+use Rattle.clap.proofs.WalkLemmas.{raw_values-rows}
+use Rattle.clap.specs.declared.builder.value_parser.Reading.{Reading}
+use Rattle.clap.specs.declared.parser.matches.ValueSource.TheVariants.{CommandLine}
+use Rattle.clap.specs.Simple.{filled}
+use Rattle.run_words.specs.declared.command.Setting.{Setting}
+use Rattle.run_words.specs.declared.command.Setting.TheVariants.{Config, Within, Silent, Limit, Witness}
+use Rattle.run_words.specs.Job.{is_same, values_of}
+use Rattle.run_words.specs.Line.{Text, Part, apart, joined, stutter, positional, Line, Given, given_behind, given_of, given_parts, with_part}
+use Rattle.run_words.specs.Parsers.{Agree, given_in, id_of, options_in, setting_rule, stutter_rule, texts_of, vals}
+use Rattle.run_words.proofs.Walks.{word_rule}
+use Rattle.run_words.proofs.Lines.{used_behind, used_line, used_part, used_parts, used_words}
+
+-- ---- one use of an argument
+
+passed_over : (id : Text) (r : Row) (rs : List Row) → bytes_eq r.id id ≡ false → vals id (r ∷ rs) ≡ vals id rs
+passed_over id r rs e = rw e refl
+
+found_at : (id : Text) (r : Row) (rs : List Row) → bytes_eq r.id id ≡ true → vals id (r ∷ rs) ≡ r.values
+found_at id r rs e = rw e refl
+
+abbrev more_of : List Text → Row → Row
+more_of vs r = record r { values = r.values ++ vs; source = Some (stronger r.source CommandLine) }
+
+changed : (id : Text) (how : Reading) (vs : List Text) (r : Row) (rs : List Row) → bytes_eq r.id id ≡ true → with_values id how CommandLine vs (r ∷ rs) ≡ more_of vs r ∷ rs
+changed id how vs r rs e = rw e refl
+
+kept : (id : Text) (how : Reading) (vs : List Text) (r : Row) (rs : List Row) → bytes_eq r.id id ≡ false → with_values id how CommandLine vs (r ∷ rs) ≡ r ∷ with_values id how CommandLine vs rs
+kept id how vs r rs e = rw e refl
+
+vals_same : (id : Text) (how : Reading) (vs : List Text) (rows : List Row) → bytes_eq id id ≡ true → vals id (with_values id how CommandLine vs rows) ≡ vals id rows ++ vs
+vals_same id how vs [] e = rw e refl
+vals_same id how vs (r ∷ rs) e = by_id (bytes_eq r.id id) refl (vals_same id how vs rs e)
+  where
+    by_id : (b : Bool) → bytes_eq r.id id ≡ b → vals id (with_values id how CommandLine vs rs) ≡ vals id rs ++ vs → vals id (with_values id how CommandLine vs (r ∷ rs)) ≡ vals id (r ∷ rs) ++ vs
+    by_id true q i = ap (vals id) (changed id how vs r rs q) ∙ found_at id (more_of vs r) rs q ∙ ap (λ us. us ++ vs) (sym (found_at id r rs q))
+    by_id false q i = ap (vals id) (kept id how vs r rs q) ∙ passed_over id r (with_values id how CommandLine vs rs) q ∙ i ∙ ap (λ us. us ++ vs) (sym (passed_over id r rs q))
+
+vals_other : (id other : Text) (how : Reading) (vs : List Text) (rows : List Row) → bytes_eq other id ≡ false → vals id (with_values other how CommandLine vs rows) ≡ vals id rows
+vals_other id other how vs [] e = rw e refl
+vals_other id other how vs (r ∷ rs) e = by_other (bytes_eq r.id other) refl (vals_other id other how vs rs e)
+  where
+    by_id : (b : Bool) → bytes_eq r.id other ≡ false → bytes_eq r.id id ≡ b → vals id (with_values other how CommandLine vs rs) ≡ vals id rs
+        → vals id (with_values other how CommandLine vs (r ∷ rs)) ≡ vals id (r ∷ rs)
+    by_id true o q i = rw (o, q) refl
+    by_id false o q i = rw (o, q) i
+
+    by_other : (b : Bool) → bytes_eq r.id other ≡ b → vals id (with_values other how CommandLine vs rs) ≡ vals id rs → vals id (with_values other how CommandLine vs (r ∷ rs)) ≡ vals id (r ∷ rs)
+    by_other true o i = let q : bytes_eq r.id id ≡ false = subst (λ (x : Text). bytes_eq x id ≡ false) (sym ((bytes_eq-Decides r.id other).0 o)) e in rw (o, q) refl
+    by_other false o i = by_id (bytes_eq r.id id) o refl i
+
+same_ids : (s t : Setting) → bytes_eq (id_of t) (id_of s) ≡ is_same s t
+same_ids Config Config = refl
+same_ids Config Within = refl
+same_ids Config Silent = refl
+same_ids Config Limit = refl
+same_ids Config Witness = refl
+same_ids Within Config = refl
+same_ids Within Within = refl
+same_ids Within Silent = refl
+same_ids Within Limit = refl
+same_ids Within Witness = refl
+same_ids Silent Config = refl
+same_ids Silent Within = refl
+same_ids Silent Silent = refl
+same_ids Silent Limit = refl
+same_ids Silent Witness = refl
+same_ids Limit Config = refl
+same_ids Limit Within = refl
+same_ids Limit Silent = refl
+same_ids Limit Limit = refl
+same_ids Limit Witness = refl
+same_ids Witness Config = refl
+same_ids Witness Within = refl
+same_ids Witness Silent = refl
+same_ids Witness Limit = refl
+same_ids Witness Witness = refl
+
+pub same_self : (s : Setting) → is_same s s ≡ true
+same_self Config = refl
+same_self Within = refl
+same_self Silent = refl
+same_self Limit = refl
+same_self Witness = refl
+
+-- the values of an option behind a use of it, or of another
+used_same : (s t : Setting) (v : Text) (rows : List Row) → is_same s t ≡ true → vals (id_of s) (used (filled (setting_rule t)) (v ∷ []) rows) ≡ vals (id_of s) rows ++ v ∷ []
+used_same Config Config v rows e = vals_same (codes "config") _ (v ∷ []) rows refl
+used_same Within Within v rows e = vals_same (codes "within") _ (v ∷ []) rows refl
+used_same Silent Silent v rows e = vals_same (codes "silent") _ (v ∷ []) rows refl
+used_same Limit Limit v rows e = vals_same (codes "limit") _ (v ∷ []) rows refl
+used_same Witness Witness v rows e = vals_same (codes "witness") _ (v ∷ []) rows refl
+used_same s t v rows e = cc
+
+option_used : (s t : Setting) (v : Text) (rows : List Row) → vals (id_of s) (used (filled (setting_rule t)) (v ∷ []) rows) ≡ vals (id_of s) rows ++ (if is_same s t then v ∷ [] else [])
+option_used s t v rows = by_same (is_same s t) refl
+  where
+    by_same : (b : Bool) → is_same s t ≡ b → vals (id_of s) (used (filled (setting_rule t)) (v ∷ []) rows) ≡ vals (id_of s) rows ++ (if b then v ∷ [] else [])
+    by_same true e = used_same s t v rows e
+    by_same false e = vals_other (id_of s) (id_of t) _ (v ∷ []) rows (same_ids s t ∙ e) ∙ sym (append-nil _)
+
+flag_used : (s : Setting) (rows : List Row) → vals (id_of s) (used (filled stutter_rule) [] rows) ≡ vals (id_of s) rows
+flag_used Config rows = vals_other (codes "config") (codes "stutter") _ _ rows refl
+flag_used Within rows = vals_other (codes "within") (codes "stutter") _ _ rows refl
+flag_used Silent rows = vals_other (codes "silent") (codes "stutter") _ _ rows refl
+flag_used Limit rows = vals_other (codes "limit") (codes "stutter") _ _ rows refl
+flag_used Witness rows = vals_other (codes "witness") (codes "stutter") _ _ rows refl
+
+word_used : (s : Setting) (w : Text) (rows : List Row) → vals (id_of s) (used word_rule (w ∷ []) rows) ≡ vals (id_of s) rows
+word_used Config w rows = vals_other (codes "config") (codes "words") _ _ rows refl
+word_used Within w rows = vals_other (codes "within") (codes "words") _ _ rows refl
+word_used Silent w rows = vals_other (codes "silent") (codes "words") _ _ rows refl
+word_used Limit w rows = vals_other (codes "limit") (codes "words") _ _ rows refl
+word_used Witness w rows = vals_other (codes "witness") (codes "words") _ _ rows refl
+
+no_flag_used : (s : Setting) (v : Text) (rows : List Row) → vals (codes "stutter") (used (filled (setting_rule s)) (v ∷ []) rows) ≡ vals (codes "stutter") rows
+no_flag_used Config v rows = vals_other (codes "stutter") (codes "config") _ _ rows refl
+no_flag_used Within v rows = vals_other (codes "stutter") (codes "within") _ _ rows refl
+no_flag_used Silent v rows = vals_other (codes "stutter") (codes "silent") _ _ rows refl
+no_flag_used Limit v rows = vals_other (codes "stutter") (codes "limit") _ _ rows refl
+no_flag_used Witness v rows = vals_other (codes "stutter") (codes "witness") _ _ rows refl
+
+no_word_used : (s : Setting) (v : Text) (rows : List Row) → vals (codes "words") (used (filled (setting_rule s)) (v ∷ []) rows) ≡ vals (codes "words") rows
+no_word_used Config v rows = vals_other (codes "words") (codes "config") _ _ rows refl
+no_word_used Within v rows = vals_other (codes "words") (codes "within") _ _ rows refl
+no_word_used Silent v rows = vals_other (codes "words") (codes "silent") _ _ rows refl
+no_word_used Limit v rows = vals_other (codes "words") (codes "limit") _ _ rows refl
+no_word_used Witness v rows = vals_other (codes "words") (codes "witness") _ _ rows refl
+
+-- ---- the values of an option
+
+own : Setting → Part → List Text
+own s (apart t v) = if is_same s t then v ∷ [] else []
+own s (joined t v) = if is_same s t then v ∷ [] else []
+own s stutter = []
+own s (positional w) = []
+
+part_values : (s : Setting) (p : Part) (rows : List Row) → vals (id_of s) (used_part p rows) ≡ vals (id_of s) rows ++ own s p
+unfolding own
+part_values s (apart t v) rows = option_used s t v rows
+part_values s (joined t v) rows = option_used s t v rows
+part_values s stutter rows = flag_used s rows ∙ sym (append-nil _)
+part_values s (positional w) rows = word_used s w rows ∙ sym (append-nil _)
+
+one_or_none : (b : Bool) (v : Text) (vs : List Text) → (if b then v ∷ [] else []) ++ vs ≡ (if b then v ∷ vs else vs)
+one_or_none true v vs = refl
+one_or_none false v vs = refl
+
+own_values : (s : Setting) (p : Part) (g : Given) → own s p ++ values_of s g.options ≡ values_of s (with_part p g).options
+unfolding own
+own_values s (apart t v) g = one_or_none (is_same s t) v (values_of s g.options)
+own_values s (joined t v) g = one_or_none (is_same s t) v (values_of s g.options)
+own_values s stutter g = refl
+own_values s (positional w) g = refl
+
+words_values : (s : Setting) (ws : List Text) (rows : List Row) → vals (id_of s) (used_words ws rows) ≡ vals (id_of s) rows
+words_values s [] rows = refl
+words_values s (w ∷ ws) rows = words_values s ws (used word_rule (w ∷ []) rows) ∙ word_used s w rows
+
+behind_values : (s : Setting) (b : Option (List Text)) (rows : List Row) → vals (id_of s) (used_behind b rows) ≡ vals (id_of s) rows ++ values_of s (given_behind b).options
+behind_values s None rows = sym (append-nil _)
+behind_values s (Some ws) rows = words_values s ws rows ∙ sym (append-nil _)
+
+parts_values : (s : Setting) (ps : List Part) (b : Option (List Text)) (rows : List Row)
+    → vals (id_of s) (used_behind b (used_parts ps rows)) ≡ vals (id_of s) rows ++ values_of s (given_parts ps (given_behind b)).options
+parts_values s [] b rows = behind_values s b rows
+parts_values s (p ∷ ps) b rows =
+    let g = given_parts ps (given_behind b) in
+    parts_values s ps b (used_part p rows) ∙ ap (λ vs. vs ++ values_of s g.options) (part_values s p rows)
+    ∙ append_assoc (vals (id_of s) rows) (own s p) (values_of s g.options) ∙ ap (λ vs. vals (id_of s) rows ++ vs) (own_values s p g)
+
+-- ---- the positional words
+
+part_words : (p : Part) (g : Given) (rows : List Row) → vals (codes "words") (used_part p rows) ++ g.positional ≡ vals (codes "words") rows ++ (with_part p g).positional
+part_words (apart s v) g rows = ap (λ vs. vs ++ g.positional) (no_word_used s v rows)
+part_words (joined s v) g rows = ap (λ vs. vs ++ g.positional) (no_word_used s v rows)
+part_words stutter g rows = ap (λ vs. vs ++ g.positional) (vals_other (codes "words") (codes "stutter") _ _ rows refl)
+part_words (positional w) g rows = ap (λ vs. vs ++ g.positional) (vals_same (codes "words") _ (w ∷ []) rows refl) ∙ append_assoc (vals (codes "words") rows) (w ∷ []) g.positional
+
+words_words : (ws : List Text) (rows : List Row) → vals (codes "words") (used_words ws rows) ≡ vals (codes "words") rows ++ ws
+words_words [] rows = sym (append-nil _)
+words_words (w ∷ ws) rows =
+    words_words ws (used word_rule (w ∷ []) rows) ∙ ap (λ vs. vs ++ ws) (vals_same (codes "words") _ (w ∷ []) rows refl) ∙ append_assoc (vals (codes "words") rows) (w ∷ []) ws
+
+behind_words : (b : Option (List Text)) (rows : List Row) → vals (codes "words") (used_behind b rows) ≡ vals (codes "words") rows ++ (given_behind b).positional
+behind_words None rows = sym (append-nil _)
+behind_words (Some ws) rows = words_words ws rows
+
+parts_words : (ps : List Part) (b : Option (List Text)) (rows : List Row) → vals (codes "words") (used_behind b (used_parts ps rows)) ≡ vals (codes "words") rows ++ (given_parts ps (given_behind b)).positional
+parts_words [] b rows = behind_words b rows
+parts_words (p ∷ ps) b rows = parts_words ps b (used_part p rows) ∙ part_words p (given_parts ps (given_behind b)) rows
+
+-- ---- how often the flag stands
+
+flags : List Row → ℕ
+flags rows = length (vals (codes "stutter") rows)
+
+one_flag : (rows : List Row) → flags (used (filled stutter_rule) [] rows) ≡ flags rows + 1
+unfolding flags
+one_flag rows = ap length (vals_same (codes "stutter") _ (codes "" ∷ []) rows refl) ∙ length-append (vals (codes "stutter") rows) (codes "" ∷ [])
+
+part_flags : (p : Part) (g : Given) (rows : List Row) → flags (used_part p rows) + g.stutters ≡ flags rows + (with_part p g).stutters
+unfolding flags
+part_flags (apart s v) g rows = ap (λ vs. length vs + g.stutters) (no_flag_used s v rows)
+part_flags (joined s v) g rows = ap (λ vs. length vs + g.stutters) (no_flag_used s v rows)
+part_flags stutter g rows = let one = one_flag rows in omega arith
+part_flags (positional w) g rows = ap (λ vs. length vs + g.stutters) (vals_other (codes "stutter") (codes "words") _ _ rows refl)
+
+words_flags : (ws : List Text) (rows : List Row) → flags (used_words ws rows) ≡ flags rows
+unfolding flags
+words_flags [] rows = refl
+words_flags (w ∷ ws) rows = words_flags ws (used word_rule (w ∷ []) rows) ∙ ap length (vals_other (codes "stutter") (codes "words") _ _ rows refl)
+
+behind_flags : (b : Option (List Text)) (rows : List Row) → flags (used_behind b rows) ≡ flags rows + (given_behind b).stutters
+behind_flags None rows = omega arith
+behind_flags (Some ws) rows = let same = words_flags ws rows in omega arith
+
+parts_flags : (ps : List Part) (b : Option (List Text)) (rows : List Row) → flags (used_behind b (used_parts ps rows)) ≡ flags rows + (given_parts ps (given_behind b)).stutters
+parts_flags [] b rows = behind_flags b rows
+parts_flags (p ∷ ps) b rows = parts_flags ps b (used_part p rows) ∙ part_flags p (given_parts ps (given_behind b)) rows
+
+-- ---- what the matches give
+
+values_append : (s : Setting) (os qs : List (Setting × Text)) → values_of s (os ++ qs) ≡ values_of s os ++ values_of s qs
+values_append s [] qs = refl
+values_append s (o ∷ os) qs = by_same (is_same s o.0) (values_append s os qs)
+  where
+    by_same : (b : Bool) → values_of s (os ++ qs) ≡ values_of s os ++ values_of s qs
+        → (if b then o.1 ∷ values_of s (os ++ qs) else values_of s (os ++ qs)) ≡ (if b then o.1 ∷ values_of s os else values_of s os) ++ values_of s qs
+    by_same true e = ap (λ vs. o.1 ∷ vs) e
+    by_same false e = e
+
+either : (b : Bool) (vs : List Text) → vs ≡ (if b then vs else vs)
+either true vs = refl
+either false vs = refl
+
+values_own : (s t : Setting) (vs : List Text) → values_of s (map (λ v. (t, v)) vs) ≡ (if is_same s t then vs else [])
+values_own s t [] = either (is_same s t) []
+values_own s t (v ∷ vs) = by_same (is_same s t) (values_own s t vs)
+  where
+    by_same : (b : Bool) → values_of s (map (λ v. (t, v)) vs) ≡ (if b then vs else [])
+        → (if b then v ∷ values_of s (map (λ v. (t, v)) vs) else values_of s (map (λ v. (t, v)) vs)) ≡ (if b then v ∷ vs else [])
+    by_same true e = ap (λ vs. v ∷ vs) e
+    by_same false e = e
+
+held : List Row → Setting → Setting → List Text
+held rows s t = if is_same s t then vals (id_of t) rows else []
+
+more_held : (rows : List Row) (s t : Setting) (os : List (Setting × Text)) (vs : List Text) → values_of s os ≡ vs → values_of s (options_in rows t ++ os) ≡ held rows s t ++ vs
+unfolding held
+more_held rows s t os vs e = values_append s (options_in rows t) os ∙ ap₂ (λ us vs. us ++ vs) (values_own s t (vals (id_of t) rows)) e
+
+all_held : (rows : List Row) (s : Setting) → values_of s (given_in rows).options ≡ held rows s Config ++ (held rows s Within ++ (held rows s Silent ++ (held rows s Limit ++ held rows s Witness)))
+unfolding held
+all_held rows s = more_held rows s Config _ _ (more_held rows s Within _ _ (more_held rows s Silent _ _ (more_held rows s Limit _ _ (values_own s Witness (vals (id_of Witness) rows)))))
+
+pub values_in : (rows : List Row) (s : Setting) → values_of s (given_in rows).options ≡ vals (id_of s) rows
+unfolding held
+values_in rows Config = all_held rows Config ∙ append-nil _
+values_in rows Within = all_held rows Within ∙ append-nil _
+values_in rows Silent = all_held rows Silent ∙ append-nil _
+values_in rows Limit = all_held rows Limit ∙ append-nil _
+values_in rows Witness = all_held rows Witness
+
+pub line_agrees : (l : Line) → Agree (given_of l) (given_in (used_line l))
+unfolding flags
+line_agrees l = record {
+  settings = λ s. sym (values_in (used_line l) s ∙ parts_values s l.parts l.behind []);
+  stutters = let e = parts_flags l.parts l.behind [] in omega arith;
+  positional = sym (parts_words l.parts l.behind []);
+}
+
+-- what the program reads of the matches
+pub values_are : (f : Found) (id : Text) (r : Option (Bor (List (Bor Text)))) → option_map (λ s. map (λ v. v.now) s.now) r ≡ option_map raw_values (matched_of f id)
+    → MatchOption r (vals id (rows_of f) ≡ []) (λ s. texts_of s.now ≡ vals id (rows_of f))
+values_are f id r e = by_rows r (e ∙ raw_values-rows f id)
+  where
+    by_rows : (r : Option (Bor (List (Bor Text)))) → option_map (λ s. map (λ v. v.now) s.now) r ≡ all_of id (rows_of f) → MatchOption r (vals id (rows_of f) ≡ []) (λ s. texts_of s.now ≡ vals id (rows_of f))
+    by_rows None q = ap (λ o. unwrap_or o []) (sym q)
+    by_rows (Some s) q = ap (λ o. unwrap_or o []) q
+
+pub setting_held : (rows : List Row) (s : Setting) (id : Text) (vs : List Text) → id ≡ id_of s → vs ≡ vals id rows → vs ≡ values_of s (given_in rows).options
+setting_held rows s id vs e q = q ∙ ap (λ id. vals id rows) e ∙ sym (values_in rows s)
