@@ -1,0 +1,2 @@
+mod TokenLines
+mod UncheckedLines

@@ -1,0 +1,49 @@
+-- What is accepted is printed in lines, and what is printed is valid.
+use Rattle.std.proofs.Common.{◌≡◌, ℕ, List, ◌∷◌, Option, Ok, length, refl, sym, subst}
+use Rattle.std.specs.Prelude.{All, IsUtf8}
+use Rattle.std.proofs.lemmas.List.Elements.{All-nil}
+use Rattle.trace_base.specs.Device.{File}
+use Rattle.tla_ast.specs.declared.config.Config.{Config}
+use Rattle.tla_ast.specs.declared.module.Program.{Program}
+use Rattle.tla_core.specs.declared.state.Shown.{Shown}
+use Rattle.tla_terms.specs.declared.spec.Spec.{Spec}
+use Rattle.tla_levels.specs.Resolved.{Resolved, accepted}
+use Rattle.path_updates.specs.declared.line.Log.{Log}
+use Rattle.state_verdicts.specs.declared.verdict.Verdict.TheVariants.{Valid}
+use Rattle.run_words.specs.declared.job.Job.{Job}
+use Rattle.run_reading.specs.Reaches.{AllRead, Reaches, configured, has_forms, logged, needs_no_configuration, reads_configuration, reads_log, resolved, resolves}
+use Rattle.run_reading.specs.Texts.{LogsRead}
+use Rattle.unchecked_laws.specs.Laws.{HasNoFeed, UncheckedAreLines}
+use Rattle.printed_laws.specs.Laws.{IsPlaced, PrintedIsValid}
+use Rattle.trace_cli.specs.Calls.{asked_by, is_answered_given, is_judged, named_in}
+use Rattle.valid_reports.specs.Laws.{IsCheckedValid, PrintsValid}
+
+configured_lines : (holds : Option (List File)) (job : Job) (p : Program) (c : Config) → UncheckedAreLines → Reaches holds job (configured p c) → All HasNoFeed c.unchecked
+configured_lines holds job p c law (needs_no_configuration _ reaches none) = All-nil HasNoFeed
+configured_lines holds job p c law (reads_configuration _ name text _ reaches some has reads) = law (length p.files) name text c reads
+
+-- a specification leaves unchecked what its configuration does
+same_unchecked : (p : Program) (c : Config) (silent : Option (List ℕ)) (s : Spec) → Resolved p c silent (Ok s) → s.unchecked ≡ c.unchecked
+same_unchecked p c silent _ (accepted values number ops assumes s conf low is) = is.unchecked
+
+resolved_lines : (holds : Option (List File)) (job : Job) (p : Program) (c : Config) (s : Spec) → UncheckedAreLines → Reaches holds job (resolved p c s) → All HasNoFeed s.unchecked
+resolved_lines holds job p c s law (resolves _ _ _ reaches is) =
+    subst (All HasNoFeed) (sym (same_unchecked p c job.silent s is)) (configured_lines holds job p c law reaches)
+
+logged_lines : (holds : Option (List File)) (job : Job) (p : Program) (c : Config) (s : Spec) (read : LogsRead) (names : List (List ℕ)) → UncheckedAreLines
+    → Reaches holds job (logged p c s read names) → All HasNoFeed s.unchecked
+logged_lines holds job p c s _ _ law (has_forms _ _ _ reaches whole) = resolved_lines holds job p c s law reaches
+logged_lines holds job p c s _ names law (reads_log _ _ _ read name _ text f reaches log says) = logged_lines holds job p c s read (name ∷ names) law reaches
+
+pub accepted_lines : (holds : Option (List File)) (job : Job) (p : Program) (c : Config) (s : Spec) (log : Log) → UncheckedAreLines → AllRead holds job p c s log → All HasNoFeed s.unchecked
+accepted_lines holds job p c s log law all = logged_lines holds job p c s all.read _ law all.reaches
+
+pub prints_valid : (job : Job) (p : Program) (c : Config) (s : Spec) (log : Log) → PrintedIsValid s log (asked_by job.options) → All HasNoFeed s.unchecked → All IsUtf8 s.variables
+    → All IsPlaced log.lines → PrintsValid job p c s log
+prints_valid job p c s log law lines texts places w widest a =
+    law (named_in job p c s log) w widest (record { variables = refl; texts = texts; unchecked = lines; places = places }) a
+
+pub is_checked_valid : (job : Job) (p : Program) (c : Config) (s : Spec) (log : Log) → PrintsValid job p c s log → IsCheckedValid job p c s log
+is_checked_valid job p c s log valid w widest a holds before now witness all has =
+    let v = valid w widest a in
+    is_answered_given p c s log w _ _ (record { all_read = all; text = _; has_text = has; says = v.0 }) (is_judged Valid a.0 v.1 refl refl)

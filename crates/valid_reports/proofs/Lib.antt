@@ -1,0 +1,2 @@
+mod UpTo
+mod Accepting

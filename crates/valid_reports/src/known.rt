@@ -1,0 +1,44 @@
+//! What the types of names and of lines tell a proof.
+
+ghost use Rattle.std.specs.Prelude.{All, IsUtf8};
+ghost use Rattle.printed_laws.specs.Laws.{IsPlaced};
+
+use path_updates::{Line, Log};
+use trace_base::{Names, Text};
+
+/// That names are UTF-8.
+pub(crate) fn known_texts(names: &Names)
+    ensures { All IsUtf8 names.now }
+{
+    are_texts(names.items());
+}
+
+fn are_texts(texts: &[Text])
+    ensures { All IsUtf8 texts.now }
+{
+    for text in texts {
+        text.is_text();
+    }
+}
+
+/// That each line has its place: numbers of 32 bits.
+pub(crate) fn known_places(log: &Log)
+    ensures { All IsPlaced log.now.lines }
+{
+    are_placed(log.lines.items());
+}
+
+fn are_placed(lines: &[Line])
+    ensures { All IsPlaced lines.now }
+{
+    for line in lines {
+        is_placed(line);
+    }
+}
+
+fn is_placed(line: &Line)
+    ensures { IsPlaced line.now }
+{
+    let _file = line.at.file;
+    let _line = line.at.line;
+}

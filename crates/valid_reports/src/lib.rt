@@ -1,0 +1,7 @@
+//! The law that what `validate` prints of a log that is explained is valid, as `check` reads it again.
+#![tactic(auto)]
+
+mod known;
+mod laws;
+
+pub use laws::printed_is_valid;
