@@ -1,0 +1,74 @@
+use std::alloc::{AllocError, Global};
+use std::rt::HostRuntime;
+use term_parts::{mentions_below, uses_smaller};
+use tla_terms::{DefId, DefIds, Level, Operator, Term, TermNode, Terms};
+use trace_base::{Place, Text};
+
+fn term(node: TermNode) -> Term {
+    Term {
+        at: Place {
+            file: 0,
+            line: 1,
+            col: 60,
+        },
+        level: Level::Temporal,
+        node,
+    }
+}
+
+/// `LET d == .. IN F`, where d has this number and F number 2.
+fn mentions(alloc: Global, number: DefId) -> Result<Term, AllocError> {
+    let inner = term(TermNode::Use(DefId(2), Terms::new(alloc)));
+    let mut numbers = DefIds::new(alloc);
+    numbers.push(number)?;
+    let inner = Box::new(alloc, inner).map_err(|_| AllocError)?;
+    Ok(term(TermNode::Scoped(numbers, inner)))
+}
+
+fn mentioned(alloc: Global) -> Result<bool, AllocError> {
+    let outer = mentions(alloc, DefId(4))?;
+    let inner = mentions(alloc, DefId(0))?;
+    Ok(
+        mentions_below(alloc, 5, &outer)?
+            && !mentions_below(alloc, 4, &outer)?
+            && mentions_below(alloc, 3, &inner)?
+            && !mentions_below(alloc, 2, &inner)?,
+    )
+}
+
+fn define(alloc: Global, table: &mut Vec<Operator>, node: TermNode) -> Result<(), AllocError> {
+    let name = Text::from_text(alloc, "")?;
+    table.push(Operator {
+        name,
+        outer: 0,
+        params: 0,
+        level: Level::Temporal,
+        body: term(node),
+    })?;
+    Ok(())
+}
+
+/// A definition uses the one before it, and then itself.
+fn ordered(alloc: Global) -> Result<bool, AllocError> {
+    let mut table = Vec::new(alloc);
+    define(alloc, &mut table, TermNode::Slot(0))?;
+    define(
+        alloc,
+        &mut table,
+        TermNode::Use(DefId(0), Terms::new(alloc)),
+    )?;
+    let before = uses_smaller(alloc, &table)?;
+    define(
+        alloc,
+        &mut table,
+        TermNode::Use(DefId(2), Terms::new(alloc)),
+    )?;
+    Ok(before && !uses_smaller(alloc, &table)?)
+}
+
+#[test]
+fn definitions_of_smaller_numbers(rt: HostRuntime) {
+    let alloc = rt.alloc();
+    assert!(rt; mentioned(alloc) == Ok(true));
+    assert!(rt; ordered(alloc) == Ok(true));
+}
