@@ -4,6 +4,3 @@
 mod order;
 
 pub use order::{LineRef, merge, order_laws};
-
-#[cfg(test)]
-mod tests;

@@ -10,6 +10,3 @@ pub use described::{Described, DescribedNode, Field, Fields, Parts};
 pub use laws::outcome_law;
 pub use lists::{list, list_laws, listed};
 pub use members::member;
-
-#[cfg(test)]
-mod tests;

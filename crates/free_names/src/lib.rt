@@ -5,6 +5,3 @@ mod hidden;
 mod walk;
 
 pub use walk::free_names;
-
-#[cfg(test)]
-mod tests;

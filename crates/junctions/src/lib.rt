@@ -12,6 +12,3 @@ mod summary;
 
 pub use fault::LayFault;
 pub use marking::lay;
-
-#[cfg(test)]
-mod tests;

@@ -6,6 +6,3 @@ mod walk;
 
 pub use spec::knows_specification;
 pub use walk::knows_values;
-
-#[cfg(test)]
-mod tests;

@@ -6,6 +6,3 @@ mod moving;
 
 pub use agreeing::{agrees, seen_laws};
 pub use moving::moved;
-
-#[cfg(test)]
-mod tests;

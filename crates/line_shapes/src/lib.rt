@@ -15,6 +15,3 @@ pub use path::path_of;
 pub use raw::{RawPath, RawSee, RawUpdate};
 pub use reading::line_shape;
 pub use shape::Shape;
-
-#[cfg(test)]
-mod tests;

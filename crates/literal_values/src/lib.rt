@@ -6,6 +6,3 @@ mod literal;
 
 pub use laws::literal_laws;
 pub use literal::literal_value;
-
-#[cfg(test)]
-mod tests;

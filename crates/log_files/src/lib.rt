@@ -10,6 +10,3 @@ mod placing;
 pub use laws::logs_laws;
 pub use logs::{LogRefusal, read_logs};
 pub use placing::log_of;
-
-#[cfg(test)]
-mod tests;

@@ -4,4 +4,3 @@ pub mod Lines
 pub mod Files
 pub mod Laws
 pub mod Walks
-pub mod Sample

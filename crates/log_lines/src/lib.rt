@@ -19,6 +19,3 @@ pub use laws::line_laws;
 pub use names::SpecNames;
 pub use position::Position;
 pub use reading::read_line;
-
-#[cfg(test)]
-mod tests;

@@ -16,6 +16,3 @@ pub use path::Path;
 pub use seeing::seen;
 pub use update::{Op, See, Update};
 pub use values::Values;
-
-#[cfg(test)]
-mod tests;

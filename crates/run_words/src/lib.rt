@@ -10,8 +10,6 @@ mod number;
 mod options;
 mod read;
 mod rules;
-#[cfg(test)]
-mod tests;
 
 pub use command::{Command, Setting};
 pub use job::{Job, Options, Words};

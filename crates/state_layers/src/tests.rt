@@ -5,13 +5,13 @@ ghost use Rattle.state_layers.specs.Table.{Leads, IsEdge, Takes, IsRefused, none
 
 use crate::last::into_entries;
 use crate::layer::add;
-use crate::{Answer, Member, StepFault, Steps, search_entries, search_layers};
+use crate::{Answer, Member, StepFault, Steps, search_entries};
 use indexmap::IndexMap;
 use std::alloc::{AllocError, Global};
 use std::hash::{Hash, Hasher};
 use std::marker::Model;
 use std::rt::HostRuntime;
-use tla_core::{Behaviour, EvalKind, Fault, Mark, State};
+use tla_core::{EvalKind, Fault, Mark, State};
 use tla_values::Value;
 use trace_base::{LineAt, Place};
 
@@ -231,19 +231,28 @@ impl Steps for Table {
     ghost shows = { λ x m. refl };
 }
 
-/// A step of this kind, from a state if it is no first one, to a state; or a fault there.
+/// A step of this kind, from a state if it is no first one, to a state.
 #[derive(Drop)]
-struct Row(Mark, Option<u32>, u32, bool);
+struct Row(Mark, Option<u32>, u32);
+
+/// How far the search came, and what it kept of that: the widest layer, or the lines that fit, or the layer that is too large.
+#[derive(PartialEq, Eq, Drop)]
+enum Outcome {
+    Explained(u32),
+    NotExplained(u32),
+    TotalLimit(u32, u32),
+    Other,
+}
 
 #[derive(Drop)]
 struct Case<'a> {
     rows: &'a [Row],
-    assumptions: &'a [Result<Option<Place>, Fault>],
     count: u32,
     within: u32,
     limit: u32,
     total: u32,
-    expected: &'a str,
+    outcome: Outcome,
+    last: &'a [u32],
 }
 
 // the state of the last digit at the place of the digits before it
@@ -273,7 +282,7 @@ fn from_row(alloc: Global, row: &Row) -> Result<Edge, AllocError> {
             None => nowhere(alloc),
         },
         to: from_digits(alloc, row.2)?,
-        faults: row.3,
+        faults: false,
     })
 }
 
@@ -284,12 +293,10 @@ fn table_of(alloc: Global, case: &Case) -> Result<Table, AllocError>
     for row in case.rows {
         edges.push(from_row(alloc, row)?)?;
     }
-    let mut assumptions = Vec::new(alloc);
-    assumptions.extend_from_slice(case.assumptions)?;
     Ok(Table {
         edges,
-        assumes: 2,
-        assumptions,
+        assumes: 0,
+        assumptions: Vec::new(alloc),
         count: case.count,
         within: case.within,
         limit: case.limit,
@@ -297,104 +304,33 @@ fn table_of(alloc: Global, case: &Case) -> Result<Table, AllocError>
     })
 }
 
-fn number_of(state: &State) -> i64 {
-    match state.get(0) {
-        Some(value) => value.as_int().unwrap_or(0),
-        None => 0,
-    }
-}
-
-fn tell_states(alloc: Global, behaviour: &Behaviour) -> Result<String, AllocError> {
-    let mut text = String::new(alloc);
-    for shown in behaviour.items() {
-        match shown.mark {
-            Mark::Init => text.push_str(" init")?,
-            Mark::Silent => text.push_str(" silent")?,
-            Mark::Line(at) => text.push_str(format!(in alloc;
-                " line-{}@{}",
-                at.line, at.file
-            )?.as_str())?,
-        }
-        text.push_str(format!(in alloc; " {}", number_of(&shown.state))?.as_str())?;
-    }
-    Ok(text)
-}
-
-fn tell_fault(alloc: Global, kind: EvalKind, at: Place) -> Result<String, AllocError> {
-    let known = if kind == FAULT.kind {
-        "Overflow"
-    } else {
-        "another kind"
-    };
-    format!(in alloc; "{known} at {}", at.line)
-}
-
-fn tell_stopped(alloc: Global, name: &str, after: u32, silent: u32) -> Result<String, AllocError> {
-    let mut text = String::from_str(alloc, name)?;
-    text.push_str(format!(in alloc; " after {after} and {silent}")?.as_str())?;
-    Ok(text)
-}
-
-fn tell_rest(alloc: Global, answer: &Answer) -> Result<String, AllocError> {
+fn outcome_of(answer: &Answer) -> Outcome {
     match answer {
-        Answer::InitFault { kind, at } => format!(in alloc;
-            "init fault {}",
-            tell_fault(alloc, *kind, *at)?
-        ),
-        Answer::AssumeFault { kind, at } => format!(in alloc;
-            "assume fault {}",
-            tell_fault(alloc, *kind, *at)?
-        ),
-        Answer::AssumeFalse { at } => format!(in alloc; "assume false at {}", at.line),
-        Answer::LayerLimit { after, silent } => tell_stopped(alloc, "layer limit", *after, *silent),
-        Answer::TotalLimit { after, silent } => tell_stopped(alloc, "total limit", *after, *silent),
-        _ => String::from_str(alloc, "no initial"),
+        Answer::Explained { widest, .. } => Outcome::Explained(*widest),
+        Answer::NotExplained { prefix, .. } => Outcome::NotExplained(*prefix),
+        Answer::TotalLimit { after, silent } => Outcome::TotalLimit(*after, *silent),
+        _ => Outcome::Other,
     }
 }
 
-fn tell(alloc: Global, answer: &Answer) -> Result<String, AllocError> {
-    match answer {
-        Answer::Explained { behaviour, widest } => format!(in alloc;
-            "explained {widest}:{}",
-            tell_states(alloc, behaviour)?
-        ),
-        Answer::NotExplained {
-            prefix,
-            of,
-            after,
-            behaviour,
-        } => {
-            let mut text = format!(in alloc; "not explained {prefix} of {of}")?;
-            text.push_str(format!(in alloc;
-                " next {}@{}:{}",
-                after.line,
-                after.file,
-                tell_states(alloc, behaviour)?
-            )?
-            .as_str())?;
-            Ok(text)
+fn is_placed(entry: &Placed, number: u32) -> bool {
+    match entry.state.get(0) {
+        Some(value) => {
+            entry.place == number / 10 && value.as_int() == Some(i64::from(number % 10))
         }
-        Answer::Fault {
-            after,
-            silent,
-            state,
-            kind,
-            at,
-        } => {
-            let mut text = tell_stopped(alloc, "fault", *after, *silent)?;
-            text.push_str(format!(in alloc;
-                " in {}: {}",
-                number_of(state),
-                tell_fault(alloc, *kind, *at)?
-            )?
-            .as_str())?;
-            Ok(text)
-        }
-        other => tell_rest(alloc, other),
+        None => false,
     }
 }
 
-fn run(alloc: Global, case: &Case) -> Result<String, AllocError> {
+fn are_placed(entries: &[Placed], numbers: &[u32]) -> bool {
+    entries.len() == numbers.len()
+        && entries
+            .iter()
+            .zip(numbers.iter())
+            .all(|(entry, number)| is_placed(entry, *number))
+}
+
+fn holds(alloc: Global, case: &Case) -> Result<bool, AllocError> {
     let table = table_of(alloc, case)?;
     if table.count > 200000
         || table.within < 1
@@ -402,233 +338,105 @@ fn run(alloc: Global, case: &Case) -> Result<String, AllocError> {
         || table.limit > 100000
         || table.total > 2000000
     {
-        return String::from_str(alloc, "too large");
+        return Ok(false);
     }
     let searched = search_entries(alloc, &table)?;
-    let mut text = tell(alloc, &searched.answer)?;
-    if text.as_str() != tell(alloc, &search_layers(alloc, &table)?)?.as_str() {
-        text.push_str(" or another")?;
-    }
-    for entry in &searched.last {
-        text.push_str(format!(in alloc; " {}{}", entry.place, number_of(entry.state()))?.as_str())?;
-    }
-    Ok(text)
+    let last = are_placed(searched.last.as_slice(), case.last);
+    Ok(outcome_of(&searched.answer) == case.outcome && last)
 }
 
-const fn line(number: u32) -> Mark {
-    Mark::Line(LineAt {
-        file: 1,
-        line: number,
-    })
-}
+const FIRST_LINE: Mark = Mark::Line(LineAt { file: 1, line: 0 });
+
+const SECOND_LINE: Mark = Mark::Line(LineAt { file: 1, line: 1 });
+
+const BRANCHING: [Row; 5] = [
+    Row(Mark::Init, None, 0),
+    Row(FIRST_LINE, Some(0), 10),
+    Row(FIRST_LINE, Some(0), 20),
+    Row(FIRST_LINE, Some(0), 30),
+    Row(SECOND_LINE, Some(20), 12),
+];
+
+const COUNTING: [Row; 5] = [
+    Row(Mark::Init, None, 0),
+    Row(Mark::Silent, Some(0), 1),
+    Row(Mark::Silent, Some(1), 2),
+    Row(Mark::Silent, Some(2), 3),
+    Row(FIRST_LINE, Some(2), 3),
+];
+
+const TURNING: [Row; 5] = [
+    Row(Mark::Init, None, 10),
+    Row(Mark::Init, None, 20),
+    Row(Mark::Silent, Some(10), 20),
+    Row(Mark::Silent, Some(20), 30),
+    Row(Mark::Silent, Some(30), 10),
+];
+
+/// The same state at several places, all of one hash; and limits on all layers together that are small.
+const CASES: [Case<'static>; 6] = [
+    Case {
+        rows: &BRANCHING,
+        count: 2,
+        within: 1,
+        limit: 3,
+        total: 5,
+        outcome: Outcome::Explained(3),
+        last: &[],
+    },
+    Case {
+        rows: &BRANCHING,
+        count: 3,
+        within: 1,
+        limit: 3,
+        total: 5,
+        outcome: Outcome::NotExplained(2),
+        last: &[12],
+    },
+    Case {
+        rows: &BRANCHING,
+        count: 2,
+        within: 1,
+        limit: 3,
+        total: 3,
+        outcome: Outcome::TotalLimit(1, 0),
+        last: &[],
+    },
+    Case {
+        rows: &COUNTING,
+        count: 1,
+        within: 3,
+        limit: 10,
+        total: 2,
+        outcome: Outcome::TotalLimit(0, 2),
+        last: &[],
+    },
+    Case {
+        rows: &COUNTING,
+        count: 1,
+        within: 2,
+        limit: 10,
+        total: 100,
+        outcome: Outcome::NotExplained(0),
+        last: &[0, 1],
+    },
+    Case {
+        rows: &TURNING,
+        count: 1,
+        within: 3,
+        limit: 2,
+        total: 6,
+        outcome: Outcome::NotExplained(0),
+        last: &[10, 20, 30],
+    },
+];
 
 #[test]
-fn answers(rt: HostRuntime) {
+fn entries_are_told_apart(rt: HostRuntime) {
     let alloc = rt.alloc();
-    let place = FAULT.at;
-    let first = Row(Mark::Init, None, 0, false);
-    let branching = [
-        Row(Mark::Init, None, 0, false),
-        Row(line(0), Some(0), 10, false),
-        Row(line(0), Some(0), 20, false),
-        Row(line(0), Some(0), 30, false),
-        Row(line(1), Some(20), 12, false),
-    ];
-    let pairs = [
-        Row(Mark::Init, None, 0, false),
-        Row(line(0), Some(0), 11, false),
-        Row(line(0), Some(0), 12, false),
-        Row(line(1), Some(12), 24, false),
-    ];
-    let counting = [
-        Row(Mark::Init, None, 0, false),
-        Row(Mark::Silent, Some(0), 1, false),
-        Row(Mark::Silent, Some(1), 2, false),
-        Row(Mark::Silent, Some(2), 3, false),
-        Row(line(0), Some(2), 3, false),
-    ];
-    let repeating = [
-        Row(Mark::Init, None, 0, false),
-        Row(line(0), Some(0), 1, false),
-        Row(line(0), Some(0), 2, false),
-        Row(line(0), Some(0), 3, false),
-        Row(line(0), Some(0), 1, false),
-        Row(line(0), Some(0), 2, false),
-    ];
-    let turning = [
-        Row(Mark::Init, None, 10, false),
-        Row(Mark::Init, None, 20, false),
-        Row(Mark::Silent, Some(10), 20, false),
-        Row(Mark::Silent, Some(20), 30, false),
-        Row(Mark::Silent, Some(30), 10, false),
-    ];
-    let faulty = [
-        Row(Mark::Init, None, 0, false),
-        Row(line(0), Some(0), 7, false),
-        Row(Mark::Silent, Some(7), 8, true),
-        Row(line(1), Some(7), 9, true),
-    ];
-    let bad_first = [Row(Mark::Init, None, 0, true)];
-    let cases = [
-        Case {
-            rows: &branching,
-            assumptions: &[],
-            count: 3,
-            within: 1,
-            limit: 10,
-            total: 100,
-            expected: "not explained 2 of 3 next 2@1: init 0 line-0@2 0 line-1@1 2 12",
-        },
-        Case {
-            rows: &pairs,
-            assumptions: &[],
-            count: 2,
-            within: 1,
-            limit: 10,
-            total: 100,
-            expected: "explained 2: init 0 line-0@1 2 line-1@2 4",
-        },
-        Case {
-            rows: &counting,
-            assumptions: &[],
-            count: 1,
-            within: 3,
-            limit: 10,
-            total: 100,
-            expected: "explained 1: init 0 silent 1 silent 2 line-0@0 3",
-        },
-        Case {
-            rows: &counting,
-            assumptions: &[],
-            count: 1,
-            within: 2,
-            limit: 10,
-            total: 100,
-            expected: "not explained 0 of 1 next 0@0: init 0 00 01",
-        },
-        Case {
-            rows: &turning,
-            assumptions: &[],
-            count: 1,
-            within: 3,
-            limit: 2,
-            total: 6,
-            expected: "not explained 0 of 1 next 0@1: init 0 10 20 30",
-        },
-        Case {
-            rows: &repeating,
-            assumptions: &[],
-            count: 1,
-            within: 1,
-            limit: 3,
-            total: 4,
-            expected: "explained 3: init 0 line-0@0 1",
-        },
-        Case {
-            rows: &repeating,
-            assumptions: &[],
-            count: 1,
-            within: 1,
-            limit: 2,
-            total: 100,
-            expected: "layer limit after 1 and 0",
-        },
-        Case {
-            rows: &repeating,
-            assumptions: &[],
-            count: 1,
-            within: 1,
-            limit: 3,
-            total: 3,
-            expected: "total limit after 1 and 0",
-        },
-        Case {
-            rows: &counting,
-            assumptions: &[],
-            count: 1,
-            within: 3,
-            limit: 10,
-            total: 2,
-            expected: "total limit after 0 and 2",
-        },
-        Case {
-            rows: &[first],
-            assumptions: &[],
-            count: 0,
-            within: 1,
-            limit: 1,
-            total: 1,
-            expected: "explained 1: init 0",
-        },
-        Case {
-            rows: &[],
-            assumptions: &[],
-            count: 1,
-            within: 1,
-            limit: 10,
-            total: 100,
-            expected: "no initial",
-        },
-        Case {
-            rows: &bad_first,
-            assumptions: &[],
-            count: 1,
-            within: 1,
-            limit: 10,
-            total: 100,
-            expected: "init fault Overflow at 3",
-        },
-        Case {
-            rows: &faulty,
-            assumptions: &[],
-            count: 2,
-            within: 1,
-            limit: 10,
-            total: 100,
-            expected: "fault after 1 and 0 in 7: Overflow at 3",
-        },
-        Case {
-            rows: &faulty,
-            assumptions: &[],
-            count: 2,
-            within: 2,
-            limit: 10,
-            total: 100,
-            expected: "fault after 1 and 0 in 7: Overflow at 3",
-        },
-        Case {
-            rows: &faulty,
-            assumptions: &[],
-            count: 1,
-            within: 2,
-            limit: 10,
-            total: 100,
-            expected: "explained 1: init 0 line-0@0 7",
-        },
-        Case {
-            rows: &faulty,
-            assumptions: &[Ok(None), Ok(Some(place))],
-            count: 2,
-            within: 1,
-            limit: 10,
-            total: 100,
-            expected: "assume false at 3",
-        },
-        Case {
-            rows: &pairs,
-            assumptions: &[Err(FAULT), Ok(Some(place))],
-            count: 2,
-            within: 1,
-            limit: 10,
-            total: 100,
-            expected: "assume fault Overflow at 3",
-        },
-    ];
-    for case in &cases {
-        assert!(rt;
-            run(alloc, case).is_ok_and(|told| told.as_str() == case.expected),
-            "{}",
-            case.expected
-        );
+    for case in &CASES {
+        let held = holds(alloc, case) == Ok(true);
+        let total = case.total;
+        assert!(rt; held, "{total}");
     }
 }

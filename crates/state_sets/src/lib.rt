@@ -4,6 +4,3 @@
 mod states;
 
 pub use states::states_of;
-
-#[cfg(test)]
-mod tests;

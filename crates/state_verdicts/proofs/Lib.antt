@@ -4,4 +4,3 @@ pub mod Law
 pub mod One
 pub mod FoundLaws
 pub mod Passing
-pub mod TableLaws

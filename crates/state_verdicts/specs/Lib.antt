@@ -5,4 +5,3 @@ pub mod Laws
 pub mod Tellings
 pub mod Founds
 pub mod Passes
-pub mod Table

@@ -11,6 +11,3 @@ pub use checking::check;
 pub use laws::{clean_law, found_law, one_law};
 pub use pairs::{Pairs, Told};
 pub use verdict::{Reason, Verdict};
-
-#[cfg(test)]
-mod tests;

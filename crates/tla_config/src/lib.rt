@@ -9,8 +9,6 @@ mod mark;
 mod reading;
 mod sets;
 mod step;
-#[cfg(test)]
-mod tests;
 mod values;
 
 pub use fault::{ConfigFault, ConfigKind};

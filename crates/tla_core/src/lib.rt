@@ -15,6 +15,3 @@ pub use state::{Behaviour, Mark, Shown, State};
 pub use tla_values::EvalKind;
 pub use var_id::VarId;
 pub use var_set::VarSet;
-
-#[cfg(test)]
-mod tests;

@@ -12,6 +12,3 @@ pub use fault::EvalFault;
 pub use kinds::{expect_function, expect_set, truth_at};
 pub use made::{function_of, key_of, sequence_of, set_of};
 pub use operate::{infix, prefix, standard};
-
-#[cfg(test)]
-mod tests;

@@ -10,8 +10,6 @@ mod places;
 mod spellings;
 mod start;
 mod strings;
-#[cfg(test)]
-mod tests;
 
 pub use fault::LexFault;
 pub use lexer::{lex, lex_plain};

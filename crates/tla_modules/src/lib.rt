@@ -13,6 +13,3 @@ mod twice;
 
 pub use fault::{LoadFault, LoadWhy};
 pub use loading::load;
-
-#[cfg(test)]
-mod tests;

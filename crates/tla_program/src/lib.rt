@@ -12,6 +12,3 @@ pub use names::program_names;
 pub use numbered::{add_numbered, names_by_definition, numbered_names};
 pub use replacing::definition_index;
 pub use standard::brought;
-
-#[cfg(test)]
-mod tests;

@@ -17,6 +17,3 @@ pub use term::{
     Arm, Arms, Bound, Bounds, Change, Changes, Field, Fields, Operand, Operands, Step, StepAt,
     Steps, Term, TermNode, Terms,
 };
-
-#[cfg(test)]
-mod tests;

@@ -14,10 +14,3 @@ pub use laid_ends::laid_ends_once;
 pub use module_laws::one_module;
 pub use reader::module;
 pub use tla_exprs::ParseFault;
-
-#[cfg(test)]
-mod modules;
-#[cfg(test)]
-mod tests;
-#[cfg(test)]
-mod worked;

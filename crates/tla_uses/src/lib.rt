@@ -4,6 +4,3 @@
 mod used;
 
 pub use used::uses;
-
-#[cfg(test)]
-mod tests;

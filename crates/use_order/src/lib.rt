@@ -9,6 +9,3 @@ mod walk;
 pub use laws::order_laws;
 pub use reach::uses_itself;
 pub use walk::order;
-
-#[cfg(test)]
-mod tests;
