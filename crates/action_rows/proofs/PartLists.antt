@@ -2,7 +2,7 @@
 use Rattle.std.proofs.Common.{◌≡◌, ap, sym, ◌∙◌, ℕ, ◌+◌, ◌≤◌, List, [], ◌∷◌, ◌++◌, length, drop, map, append_assoc, rules}
 use Rattle.std.proofs.lemmas.List.{map-append}
 use Rattle.tla_terms.specs.Terms.{Term}
-use Rattle.evaluator.proofs.Loops.{Cut, cut_end}
+use Rattle.eval_parts.proofs.Loops.{Cut, cut_end}
 use Rattle.action_rows.specs.Rows.{part_term}
 use Rattle.action_rows.specs.declared.part.Part.{Part}
 

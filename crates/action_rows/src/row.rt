@@ -7,8 +7,8 @@ ghost use Rattle.tla_terms.specs.Terms.{First, Infix, Prefix, place_of};
 ghost use Rattle.tla_terms.specs.TermViews.{node_view};
 ghost use Rattle.tla_terms.specs.declared.level.Level.TheVariants.{State};
 ghost use Rattle.trace_base.specs.declared.place.Place.{Place};
-ghost use Rattle.evaluator.specs.Following.{followed};
-ghost use Rattle.evaluator.specs.Scenes.{HasMore};
+ghost use Rattle.eval_parts.specs.Following.{followed};
+ghost use Rattle.eval_parts.specs.Scenes.{HasMore};
 ghost use Rattle.action_rows.specs.Rows.{form_of, part_term, primed_variable_of, setting, variable_of};
 
 use crate::part::Part;

@@ -13,7 +13,7 @@ use Rattle.tla_eval.specs.Binders.{combinations, with_each}
 use Rattle.tla_eval.specs.Contexts.{Context, Places, bind}
 use Rattle.tla_eval.specs.Outcomes.{fault}
 use Rattle.tla_actions.specs.Forms.{Setting}
-use Rattle.evaluator.proofs.Loops.{Cut}
+use Rattle.eval_parts.proofs.Loops.{Cut}
 use Rattle.found_states.specs.Walks.{FailsOf, HoldsOf}
 use Rattle.found_states.specs.Parts.{FailsAny, HoldsAny, Parts}
 use Rattle.found_states.proofs.Lists.{any_of, in_cases, in_left, in_right, of_any, one_in}

@@ -9,7 +9,7 @@ use Rattle.tla_eval.specs.Contexts.{Context, Places}
 use Rattle.tla_actions.specs.Forms.{Setting}
 use Rattle.tla_actions.specs.Reads.{VariableSet}
 use Rattle.tla_actions.specs.Outcomes.{Fixes}
-use Rattle.evaluator.proofs.Loops.{Cut, cut_end}
+use Rattle.eval_parts.proofs.Loops.{Cut, cut_end}
 use Rattle.form_growth.specs.Laws.{FormsGrow}
 use Rattle.action_reads.specs.Filled.{Fills}
 use Rattle.action_reads.specs.Walkable.{Walkable}

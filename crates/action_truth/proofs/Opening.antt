@@ -14,7 +14,7 @@ use Rattle.tla_actions.specs.Forms.{Form, Setting, form}
 use Rattle.tla_actions.specs.Reads.{VariableSet}
 use Rattle.tla_actions.specs.Holds.{Holds, Opened, all_of, one_of}
 use Rattle.tla_actions.specs.Fails.{Fails}
-use Rattle.evaluator.specs.Scenes.{Stops}
+use Rattle.eval_parts.specs.Scenes.{Stops}
 use Rattle.action_reads.specs.Filled.{at_next}
 use Rattle.action_reads.specs.Walkable.{FormWalks, Walkable}
 use Rattle.found_states.specs.Walks.{FailsOf, HoldsOf}

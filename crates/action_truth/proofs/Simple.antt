@@ -27,7 +27,7 @@ use Rattle.eval_laws.proofs.OneAnswer.{HasOneAnswer}
 use Rattle.tla_actions.specs.Forms.{Form, Setting, assign, choose, form, test}
 use Rattle.tla_actions.specs.Holds.{FormHolds, Holds}
 use Rattle.tla_actions.specs.Fails.{Fails, FormFails}
-use Rattle.evaluator.specs.Following.{variable_at}
+use Rattle.eval_parts.specs.Following.{variable_at}
 use Rattle.action_reads.specs.Filled.{Completes, at_next}
 use Rattle.found_states.specs.Walks.{FailsOf, HoldsOf}
 use Rattle.found_states.proofs.FormParts.{form_knows}

@@ -23,8 +23,8 @@ use Rattle.tla_actions.specs.declared.which.Which.TheVariants as which
 use Rattle.tla_actions.specs.Forms.{Form, Setting, is_taken, unchanged_form, arms, assign, both, branch, call, changing, choose, either, inside, narrowed, some, test}
 use Rattle.tla_actions.specs.Holds.{Chosen}
 use Rattle.eval_reads.specs.Reads.{BoundsRead, Reads, ReadsEach}
-use Rattle.evaluator.specs.Following.{variable_at}
-use Rattle.evaluator.specs.Scenes.{Stops}
+use Rattle.eval_parts.specs.Following.{variable_at}
+use Rattle.eval_parts.specs.Scenes.{Stops}
 use Rattle.form_growth.specs.Laws.{FormsGrow}
 use Rattle.action_reads.specs.Filled.{at_next}
 use Rattle.action_reads.specs.Walkable.{ArmsWalk, Walkable}

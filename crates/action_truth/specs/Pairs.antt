@@ -1,7 +1,7 @@
 -- What a pair of Rust stands for.
 use Rattle.tla_eval.specs.Contexts.{Context}
 use Rattle.tla_actions.specs.Forms.{Setting}
-use Rattle.evaluator.specs.Scenes.{context, table}
+use Rattle.eval_parts.specs.Scenes.{context, table}
 use Rattle.action_truth.specs.declared.pair.Pair.{Pair}
 
 abbrev pub setting : Pair → Setting

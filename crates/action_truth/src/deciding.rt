@@ -6,10 +6,10 @@ ghost use Rattle.tla_terms.specs.Terms.{place_of};
 ghost use Rattle.tla_eval.specs.Binders.{combinations, ranges, with_each};
 ghost use Rattle.tla_eval.specs.Unchanged.{unchanged_of};
 ghost use Rattle.tla_actions.specs.Forms.{arms, assign, both, branch, call, changing, choose, either, inside, narrowed, some, test};
-ghost use Rattle.evaluator.specs.Following.{variable_at};
+ghost use Rattle.eval_parts.specs.Following.{variable_at};
 ghost use Rattle.found_states.specs.Grounds.{Grounds};
 ghost use Rattle.action_rows.specs.Rows.{form_of, part_term};
-ghost use Rattle.action_values.specs.BoundSets.{bound_members};
+ghost use Rattle.eval_parts.specs.BoundSets.{bound_members};
 ghost use Rattle.action_truth.specs.Pairs.{at, setting};
 ghost use Rattle.action_truth.specs.Truths.{AreStates, IsTold, IsWhole, everything};
 ghost use Rattle.action_truth.specs.Deciding.{AllDecided, AllReady, AnyDecided, AnyReady, BodyDecided, BodyReady, IsForm, IsToldFault, PartDecided, PartReady, parts_at, under};
@@ -18,11 +18,9 @@ use crate::pair::{Pair, narrowed, pair_with, stage_of};
 use crate::told::Told;
 use crate::values::{has_member, has_one_value, has_value};
 use action_rows::{Part, Row, part_place, plain_parts, row_of, unchanged_parts};
-use action_values::{
-    BoundSet, changed_truth, chosen_arm, describe_set, eval_bounds, eval_each, eval_truth,
-    member_lists, part_truth,
-};
-use evaluator::{definition, eval, one_more, slots_and};
+use action_values::{changed_truth, chosen_arm, part_truth};
+use eval_parts::{BoundSet, definition, member_lists, one_more, slots_and};
+use evaluator::{describe_set, eval, eval_bounds, eval_each, eval_truth};
 use form_growth::growth_law;
 use std::alloc::{AllocError, Global};
 use tla_core::{Fault, VarId};

@@ -1,11 +1,11 @@
 ghost use Rattle.std.specs.Prelude.{◌≡◌, map};
 ghost use Rattle.tla_eval.specs.Contexts.{within};
-ghost use Rattle.evaluator.specs.Scenes.{with_slots};
+ghost use Rattle.eval_parts.specs.Scenes.{with_slots};
 ghost use Rattle.action_rows.specs.Rows.{setting as stage_setting};
 ghost use Rattle.action_truth.specs.Pairs.{at, setting};
 
 use action_rows::Stage;
-use evaluator::{Scene, with_slots};
+use eval_parts::{Scene, with_slots};
 use tla_actions::Which;
 use tla_values::Value;
 

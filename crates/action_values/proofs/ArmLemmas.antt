@@ -11,8 +11,8 @@ use Rattle.tla_eval.specs.Contexts.{Context}
 use Rattle.tla_eval.specs.Outcomes.{Outcome, fault}
 use Rattle.tla_actions.specs.Holds.{Chosen}
 use Rattle.eval_reads.specs.Reads.{Reading, ReadsEach}
-use Rattle.evaluator.specs.Scenes.{Stops}
-use Rattle.evaluator.proofs.Loops.{Cut, cut_end}
+use Rattle.eval_parts.specs.Scenes.{Stops}
+use Rattle.eval_parts.proofs.Loops.{Cut, cut_end}
 
 module _ (truth : Term → Outcome Bool) (at : Place) (other : Option Term) where
   abbrev pub ChosenSoFar : List (Term × Term) → ℕ → Type 0

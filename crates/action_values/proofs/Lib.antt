@@ -1,3 +1,2 @@
-pub mod BoundLemmas
 pub mod ArmLemmas
 pub mod TestLemmas

@@ -1,2 +1,1 @@
-pub mod BoundSets
 pub mod Tested

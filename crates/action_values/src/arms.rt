@@ -6,10 +6,10 @@ ghost use Rattle.tla_eval.specs.Evaluates.{Evaluates};
 ghost use Rattle.tla_eval.specs.Unchanged.{TruthOf};
 ghost use Rattle.tla_terms.specs.Lists.{arms_list};
 ghost use Rattle.eval_reads.specs.Reads.{Reads, ReadsEach};
-ghost use Rattle.evaluator.specs.Scenes.{Stops, context, table};
+ghost use Rattle.eval_parts.specs.Scenes.{Stops, context, table};
 
-use crate::values::eval_truth;
-use evaluator::Scene;
+use eval_parts::Scene;
+use evaluator::eval_truth;
 use std::alloc::Global;
 use tla_eval::EvalFault;
 use tla_terms::{Arms, Term};

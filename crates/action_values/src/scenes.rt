@@ -3,10 +3,10 @@
 ghost use Rattle.std.specs.Prelude.{◌≡◌, map};
 ghost use Rattle.action_reads.specs.Filled.{at_next};
 ghost use Rattle.action_rows.specs.Rows.{before};
-ghost use Rattle.evaluator.specs.Scenes.{context, table};
+ghost use Rattle.eval_parts.specs.Scenes.{context, table};
 
 use action_rows::Stage;
-use evaluator::Scene;
+use eval_parts::Scene;
 use tla_actions::Which;
 use tla_core::Partial;
 use tla_values::Value;

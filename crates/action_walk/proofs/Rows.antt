@@ -14,7 +14,7 @@ use Rattle.tla_actions.specs.Forms.{Form, Setting, form}
 use Rattle.tla_actions.specs.Holds.{Opened, all_of, one_of}
 use Rattle.tla_actions.specs.Reads.{VariableSet}
 use Rattle.path_updates.specs.declared.update.See.{See}
-use Rattle.evaluator.specs.Scenes.{Stops}
+use Rattle.eval_parts.specs.Scenes.{Stops}
 use Rattle.action_reads.specs.Walkable.{FormWalks, Walkable}
 use Rattle.found_states.specs.Grounds.{Grounds, OpensFrom}
 use Rattle.found_states.specs.Parts.{Parts}

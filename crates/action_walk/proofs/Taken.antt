@@ -20,8 +20,8 @@ use Rattle.tla_actions.specs.Forms.{Form, Setting, is_taken, unchanged_form, tes
 use Rattle.tla_actions.specs.Holds.{Chosen}
 use Rattle.path_updates.specs.declared.update.See.{See}
 use Rattle.eval_reads.specs.Reads.{BoundsRead, Reads, ReadsEach}
-use Rattle.evaluator.specs.Scenes.{Stops, context, table}
-use Rattle.evaluator.specs.declared.scene.Scene.{Scene}
+use Rattle.eval_parts.specs.Scenes.{Stops, context, table}
+use Rattle.eval_parts.specs.declared.scene.Scene.{Scene}
 use Rattle.action_reads.specs.Filled.{at_next}
 use Rattle.action_reads.specs.Walkable.{ArmsWalk, Walkable}
 use Rattle.found_states.specs.Parts.{Parts}

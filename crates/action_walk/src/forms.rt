@@ -11,19 +11,19 @@ ghost use Rattle.tla_eval.specs.Unchanged.{TruthOf, changed_of, unchanged_of};
 ghost use Rattle.eval_reads.specs.Reads.{Reads};
 ghost use Rattle.action_reads.specs.Filled.{at_next};
 ghost use Rattle.tla_actions.specs.Forms.{arms, assign, both, branch, call, changing, choose, either, inside, narrowed, some, test};
-ghost use Rattle.evaluator.specs.Following.{variable_at};
-ghost use Rattle.evaluator.specs.Walks.{AreWithin, at_places};
+ghost use Rattle.eval_parts.specs.Following.{variable_at};
+ghost use Rattle.eval_parts.specs.Walks.{AreWithin, at_places};
 ghost use Rattle.action_rows.specs.Rows.{before, form_of, part_term, setting};
-ghost use Rattle.action_values.specs.BoundSets.{bound_members};
+ghost use Rattle.eval_parts.specs.BoundSets.{bound_members};
 ghost use Rattle.action_walk.specs.Walking.{AllGrounded, AllWalked, AnyGrounded, AnyWalked, BodyGrounded, BodyWalked, EachGrounded, EachReads, EachTested, EachWalked, Grounded, IsForm, IsWalked, PartGrounded, PartWalked, parts_at, under};
 
 use crate::lists::{add_if, append, boxed_parts, outermost};
 use action_rows::{Part, Row, Stage, part_place, plain_parts, row_of, unchanged_parts};
-use action_values::{
-    BoundSet, advance, changed_truth, chosen_arm, describe_set, eval_bounds, eval_each, eval_truth,
-    has_combination, kept_value, member_lists, part_truth, scene_at, slots_with, start,
+use action_values::{changed_truth, chosen_arm, kept_value, part_truth, scene_at};
+use eval_parts::{
+    BoundSet, advance, definition, has_combination, member_lists, slots_and, slots_with, start,
 };
-use evaluator::{definition, eval, slots_and};
+use evaluator::{describe_set, eval, eval_bounds, eval_each, eval_truth};
 use std::alloc::Global;
 use step_filling::{assigned, chosen, one_if, one_place};
 use tla_core::{Partial, VarId};

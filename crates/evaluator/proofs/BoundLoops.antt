@@ -8,8 +8,8 @@ use Rattle.tla_eval.specs.declared.fault.EvalFault.{EvalFault}
 use Rattle.tla_eval.specs.declared.fault.EvalFault.TheVariants.{Refused, NoMemory}
 use Rattle.tla_eval.specs.Answers.{Tells}
 use Rattle.tla_eval.specs.Outcomes.{Outcome, Gives, Then, Each, AllTrue, SomeTrue, fault}
-use Rattle.evaluator.specs.Scenes.{Stops}
-use Rattle.evaluator.specs.Walks.{Decided}
+use Rattle.eval_parts.specs.Scenes.{Stops}
+use Rattle.eval_parts.specs.Walks.{Decided}
 
 to_end : {X : Type 0} (xs : List X) → xs ++ [] ≡ xs
 to_end xs = search rules

@@ -15,7 +15,7 @@ use Rattle.tla_eval.specs.Contexts.{Context, Describe, Evaluate}
 use Rattle.tla_eval.specs.Meanings.{InfixDescribed, InfixEvaluates}
 use Rattle.tla_eval.specs.Outcomes.{Then, fault}
 use Rattle.tla_eval.specs.Sets.{ChainDescribed, Joined, ListedAt, first_operand, other_operands}
-use Rattle.evaluator.proofs.Loops.{Cut, cut_end}
+use Rattle.eval_parts.proofs.Loops.{Cut, cut_end}
 
 -- a chain whose operands before the index have been taken
 module _ (de : Describe) (c : Context) (o : InfixOperator) where

@@ -17,7 +17,7 @@ use Rattle.tla_eval.specs.Functions.{KeyOf}
 use Rattle.tla_eval.specs.Meanings.{PairOf}
 use Rattle.tla_eval.specs.Outcomes.{Each}
 use Rattle.evaluator.proofs.RecordLemmas.{different_once}
-use Rattle.evaluator.specs.Walks.{AllDiffer}
+use Rattle.eval_parts.specs.Walks.{AllDiffer}
 
 -- two lists without a common item
 both_differ : {X : Type 0} (xs ys : List X) → AreDifferent xs → AreDifferent ys → ((x : X) → Contains xs x → Contains ys x → ⊥) → AreDifferent (xs ++ ys)

@@ -1,16 +1,6 @@
-pub mod Loops
 pub mod Levels
-pub mod Listed
-pub mod Rows
 pub mod RecordLemmas
 pub mod JoinedLoops
-pub mod Walking
 pub mod BoundLoops
-pub mod BoundLemmas
 pub mod KeysDiffer
-pub mod StepWalk
-pub mod ChangeWalk
-pub mod RecordSets
 pub mod PrefixRows
-pub mod ProductLemmas
-pub mod FollowingLemmas

@@ -17,8 +17,8 @@ use Rattle.tla_terms.specs.declared.term.Field.{Field}
 use Rattle.tla_eval.specs.Contexts.{Context, Evaluate}
 use Rattle.tla_eval.specs.Meanings.{FieldEvaluates}
 use Rattle.tla_eval.specs.Outcomes.{Each}
-use Rattle.evaluator.proofs.Listed.{fields_listed}
-use Rattle.evaluator.proofs.Loops.{Cut}
+use Rattle.eval_parts.proofs.Listed.{fields_listed}
+use Rattle.eval_parts.proofs.Loops.{Cut}
 use Rattle.eval_reads.specs.Reads.{Reading, ReadsEach}
 
 value_or : {A : Type 0} → A → Result A Fault → A

@@ -20,28 +20,22 @@ ghost use Rattle.tla_terms.specs.TermViews.{field_item, node_view, bound_item, s
 ghost use Rattle.tla_values.specs.Data.{string};
 ghost use Rattle.tla_values.specs.SetOperations.{AreDifferent};
 ghost use Rattle.eval_reads.specs.Reads.{ArmsRead, OtherReads, BodyReads, InfixReads, MeaningReads, PrefixReads, Reads, ReadsEach, ReadsUnder, UseReads, has_value, is_chained, BoundsRead, ChangesRead, PathReads, StepsRead, MeansUnchangedReads, SameReads, UnchangedReads};
-ghost use Rattle.evaluator.specs.Scenes.{HasMore, OtherEvaluates, Stops, context, denied_answer, table, operand_item, truth_answer, makes_set};
-ghost use Rattle.evaluator.specs.BoundSets.{BoundEvaluates, bound_members, bound_value};
-ghost use Rattle.evaluator.specs.Walks.{AreWithin, Decided, at_places};
+ghost use Rattle.eval_parts.specs.Scenes.{HasMore, OtherEvaluates, Stops, context, denied_answer, table, operand_item, truth_answer, makes_set};
+ghost use Rattle.eval_parts.specs.BoundSets.{BoundEvaluates, bound_members, bound_value};
+ghost use Rattle.eval_parts.specs.Walks.{AreWithin, Decided, at_places};
 ghost use Rattle.std.specs.List.{All};
 ghost use Rattle.tla_eval.specs.Functions.{AllChanged, Changed, KeyOf, StepKey, StepsEvaluate, steps_place};
 ghost use Rattle.tla_values.specs.FunctionOperations.{AppliesAt};
-ghost use Rattle.evaluator.specs.ChangePaths.{HasKey, StepMakes, StepReads, StepsMake, StepsMakeReads, part_item, primes_in};
-ghost use Rattle.evaluator.specs.ReadyParts.{AreReady};
+ghost use Rattle.eval_parts.specs.ChangePaths.{HasKey, StepMakes, StepReads, StepsMake, StepsMakeReads, part_item, primes_in};
+ghost use Rattle.eval_parts.specs.ReadyParts.{AreReady};
 
-use crate::bound_values::{
-    BoundSet, advance, bound_set, expect_sets, has_combination, key_with, member_lists, slots_with,
-    start,
+use eval_parts::{
+    BoundSet, Layer, Part, Scene, advance, applied, before_primes, behind, beside_place, bound_set,
+    boxed, definition, expect_sets, has_combination, inside_at, key_with, member_lists, one_more,
+    operand_terms, part_of, place_behind, prime_count, primed, primes_among, product_of, push,
+    rebuilt, rebuilt_same, records_of, slot, slots_and, slots_with, start, text_key, variable,
+    variable_stays, with_slots, within,
 };
-use crate::changing::{
-    Layer, applied, before_primes, inside_at, place_behind, prime_count, primes_among, rebuilt,
-    rebuilt_same, text_key,
-};
-use crate::field_sets::{Part, part_of, records_of};
-use crate::lists::{boxed, push};
-use crate::products::{beside_place, operand_terms, product_of};
-use crate::scene::{Scene, definition, one_more, primed, slot, slots_and, variable, with_slots};
-use crate::unchanged::{behind, variable_stays, within};
 use eval_sets::{Described, DescribedNode, member};
 use std::alloc::{AllocError, Global};
 use tla_ast::{InfixOperator, PrefixOperator, Quantifier};
@@ -176,7 +170,12 @@ fn truth_value(answer: Result<bool, EvalFault>) -> Result<Value, EvalFault>
 
 /// The truth value of a term.
 #[cycle(evaluate)]
-fn eval_truth(alloc: Global, scene: Scene<'_>, depth: u32, term: &Term) -> Result<bool, EvalFault>
+pub fn eval_truth(
+    alloc: Global,
+    scene: Scene<'_>,
+    depth: u32,
+    term: &Term,
+) -> Result<bool, EvalFault>
     requires { Reads (table scene) depth (context scene) term.now }
     ensures { Tells result (TruthOf (Evaluates (table scene.entry) depth) (context scene.entry) term.now) }
 {
@@ -188,7 +187,7 @@ fn eval_truth(alloc: Global, scene: Scene<'_>, depth: u32, term: &Term) -> Resul
 
 /// The values of terms, from left to right.
 #[cycle(evaluate)]
-fn eval_each(
+pub fn eval_each(
     alloc: Global,
     scene: Scene<'_>,
     depth: u32,
@@ -527,7 +526,7 @@ fn denied(answer: Result<bool, EvalFault>) -> Result<Value, EvalFault>
 
 /// The set that a term means as an operand.
 #[cycle(evaluate)]
-fn describe_set(
+pub fn describe_set(
     alloc: Global,
     scene: Scene<'_>,
     depth: u32,
@@ -1577,7 +1576,7 @@ fn is_changed(
 
 /// `v' # v`, as a term of its own.
 #[cycle(evaluate)]
-fn eval_changed(
+pub fn eval_changed(
     alloc: Global,
     scene: Scene<'_>,
     depth: u32,
@@ -2133,7 +2132,7 @@ fn eval_with(
 
 /// The sets that names are bound over: all are evaluated first, and then each must be a set.
 #[cycle(evaluate)]
-fn eval_bounds(
+pub fn eval_bounds(
     alloc: Global,
     scene: Scene<'_>,
     depth: u32,
@@ -2907,7 +2906,7 @@ fn unchanged_below(
 
 /// `e' = e`: first `e'`, then `e`.
 #[cycle(evaluate)]
-fn stays_same(
+pub fn stays_same(
     alloc: Global,
     scene: Scene<'_>,
     depth: u32,

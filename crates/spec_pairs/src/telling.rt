@@ -12,7 +12,7 @@ ghost use Rattle.ready_specs.specs.Ready.{IsReadySpec};
 ghost use Rattle.spec_pairs.specs.Telling.{CanAct, CanBoth, CanDecide, IsActTold, IsBothTold, IsDecided, IsNextTold, IsReadyBetween, act_at, standing, told_of};
 
 use action_truth::{Pair, Told as Decided, decide};
-use evaluator::{Scene, definition};
+use eval_parts::{Scene, definition};
 use form_growth::staying_laws;
 use path_updates::Event;
 use state_verdicts::Told;

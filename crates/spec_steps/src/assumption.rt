@@ -6,12 +6,13 @@ ghost use Rattle.tla_eval.specs.Answers.{Tells};
 ghost use Rattle.tla_eval.specs.Evaluates.{Evaluates};
 ghost use Rattle.tla_eval.specs.Unchanged.{TruthOf};
 ghost use Rattle.eval_reads.specs.Reads.{Reads};
-ghost use Rattle.evaluator.specs.Scenes.{context, table};
+ghost use Rattle.eval_parts.specs.Scenes.{context, table};
 ghost use Rattle.spec_laws.specs.IsSpec.{IsSpec};
 ghost use Rattle.spec_steps.specs.Told.{Judged, TruthAlone, told_of};
 
 use action_laws::evaluation_law;
-use evaluator::{Scene, eval};
+use eval_parts::Scene;
+use evaluator::eval;
 use state_layers::StepFault;
 use std::alloc::Global;
 use tla_core::{Fault, Partial};

@@ -9,7 +9,7 @@ use Rattle.eval_sets.specs.Membership.{Belongs}
 use Rattle.tla_eval.specs.declared.fault.EvalFault.{EvalFault}
 use Rattle.tla_eval.specs.Contexts.{Places}
 use Rattle.tla_eval.specs.Sets.{list_at}
-use Rattle.evaluator.specs.Scenes.{Stops}
+use Rattle.eval_parts.specs.Scenes.{Stops}
 use Rattle.path_updates.specs.Changes.{LeadsTo}
 use Rattle.path_updates.specs.declared.update.See.{See}
 

@@ -3,7 +3,7 @@
 ghost use Rattle.std.specs.Prelude.{◌<◌, IfErr, IfOk, length};
 ghost use Rattle.eval_sets.specs.Soundness.{IsSound};
 ghost use Rattle.tla_eval.specs.Sets.{list_at};
-ghost use Rattle.evaluator.specs.Scenes.{Stops};
+ghost use Rattle.eval_parts.specs.Scenes.{Stops};
 ghost use Rattle.step_filling.specs.Fillings.{AreFilled, Chooses, FailsToChoose, FillsMembers};
 
 use crate::filling::{add_filled, one_if};

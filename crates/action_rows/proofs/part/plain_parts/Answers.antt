@@ -1,6 +1,6 @@
 use Rattle.std.proofs.Common.{◌≡◌, ◌<◌, ◌≤◌, List, length, map, refl, arith}
 use Rattle.tla_terms.specs.Terms.{Term}
-use Rattle.evaluator.proofs.Loops.{cut_at, of_items}
+use Rattle.eval_parts.proofs.Loops.{cut_at, of_items}
 use Rattle.action_rows.specs.Rows.{part_term}
 use Rattle.action_rows.proofs.PartLists.{parts_end, parts_on}
 use Rattle.action_rows.proofs.part.plain_parts.Goals as goal

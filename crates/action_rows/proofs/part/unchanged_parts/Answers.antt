@@ -1,7 +1,7 @@
 use Rattle.std.proofs.Common.{◌≡◌, ◌<◌, ◌≤◌, List, length, map, refl, arith}
 use Rattle.tla_terms.specs.Terms.{Term}
 use Rattle.tla_eval.specs.Unchanged.{unchanged_of}
-use Rattle.evaluator.proofs.Loops.{cut_at, of_items}
+use Rattle.eval_parts.proofs.Loops.{cut_at, of_items}
 use Rattle.action_rows.specs.Rows.{part_term}
 use Rattle.action_rows.proofs.PartLists.{parts_end, parts_on}
 use Rattle.action_rows.proofs.part.unchanged_parts.Goals as goal

@@ -1,6 +1,6 @@
 use Rattle.std.proofs.Common.{◌≡◌, ◌<◌, ◌-◌, ◌+◌, ℕ, min, length, ap, sym, ◌∙◌, arith}
 use Rattle.tla_eval.specs.Unchanged.{behind}
-use Rattle.evaluator.proofs.FollowingLemmas.{behind_more, behind_stops}
+use Rattle.eval_parts.proofs.FollowingLemmas.{behind_more, behind_stops}
 use Rattle.action_rows.proofs.row.behind.Goals as goal
 
 pub returns-in-None-clause-found : goal.returns-in-None-clause-found

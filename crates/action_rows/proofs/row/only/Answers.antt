@@ -1,5 +1,5 @@
 use Rattle.std.proofs.Common.{◌<◌, length, arith}
-use Rattle.evaluator.proofs.Loops.{has_more}
+use Rattle.eval_parts.proofs.Loops.{has_more}
 use Rattle.action_rows.proofs.row.only.Goals as goal
 
 pub returns : goal.returns

@@ -14,17 +14,17 @@ use Rattle.tla_eval.specs.Unchanged.{TruthOf, changed_of, unchanged_of}
 use Rattle.tla_actions.specs.Forms.{Setting, form}
 use Rattle.tla_actions.specs.Holds.{Chosen}
 use Rattle.eval_reads.specs.Reads.{Reads}
-use Rattle.evaluator.specs.Scenes.{Stops, with_slots}
+use Rattle.eval_parts.specs.Scenes.{Stops, with_slots}
 use Rattle.found_states.specs.Parts.{Parts}
 use Rattle.action_rows.specs.declared.part.Part.TheVariants as part
-use Rattle.evaluator.proofs.Loops.{Cut, cut_at, cut_mapped}
+use Rattle.eval_parts.proofs.Loops.{Cut, cut_at, cut_mapped}
 use Rattle.action_rows.specs.Rows.{form_of, part_term}
 use Rattle.action_rows.specs.declared.part.Part.{Part}
 use Rattle.action_rows.specs.declared.row.Row.{Row}
 use Rattle.action_truth.specs.Pairs.{at, setting}
-use Rattle.action_values.specs.BoundSets.{bound_members}
+use Rattle.eval_parts.specs.BoundSets.{bound_members}
 use Rattle.action_truth.specs.Deciding.{AllDecided, AllReady, AnyDecided, AnyReady, EachGrounded, IsDecided, IsForm, Ready, parts_at, under}
-use Rattle.action_values.specs.declared.bound_values.BoundSet.{BoundSet}
+use Rattle.eval_parts.specs.declared.bound_values.BoundSet.{BoundSet}
 use Rattle.action_truth.proofs.Choices.{any_ends, any_ground, any_more, any_start, any_stops, chosen_of, first_and_rest, first_ground, members_end, members_more, members_start, members_stop, no_lists_decided, no_lists_ground, rest_length, under_one}
 use Rattle.action_truth.proofs.Conjunctions.{all_ends, all_fails, all_ground, all_start, all_step, all_stops}
 use Rattle.action_truth.proofs.Opening.{decided_at, grounded_at, nested_decided}

@@ -2,7 +2,7 @@ use Rattle.std.proofs.Common.{◌≡◌, ℕ, min, List, length, map, take, ap, 
 use Rattle.std.proofs.lemmas.List.{take_min}
 use Rattle.std.specs.List.{take-map}
 use Rattle.tla_values.specs.Data.{Val}
-use Rattle.evaluator.specs.Scenes.{with_slots}
+use Rattle.eval_parts.specs.Scenes.{with_slots}
 use Rattle.action_truth.specs.Pairs.{at}
 use Rattle.action_truth.proofs.pair.narrowed.Goals as goal
 use denote.Ref.{Bor}

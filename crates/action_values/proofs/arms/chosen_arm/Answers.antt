@@ -9,8 +9,8 @@ use Rattle.tla_actions.specs.Holds.{Chosen}
 use Rattle.tla_terms.specs.Terms.{Term}
 use Rattle.tla_terms.specs.TermViews.{arm_item}
 use Rattle.eval_reads.specs.Reads.{Reads, ReadsEach}
-use Rattle.evaluator.specs.Scenes.{Stops, context, table}
-use Rattle.evaluator.proofs.Loops.{arms_are, cut_at, cut_mapped}
+use Rattle.eval_parts.specs.Scenes.{Stops, context, table}
+use Rattle.eval_parts.proofs.Loops.{arms_are, cut_at, cut_mapped}
 use Rattle.action_values.proofs.ArmLemmas.{chosen_end, chosen_passed, chosen_stops, chosen_taken, tests_read}
 use Rattle.action_values.proofs.arms.chosen_arm.Goals as goal
 use denote.Ref.{Bor}

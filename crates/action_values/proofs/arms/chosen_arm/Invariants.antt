@@ -4,7 +4,7 @@ use Rattle.tla_terms.specs.TermViews.{arm_item}
 use Rattle.tla_eval.specs.Evaluates.{Evaluates}
 use Rattle.tla_eval.specs.Unchanged.{TruthOf}
 use Rattle.eval_reads.specs.Reads.{Reads, ReadsEach}
-use Rattle.evaluator.specs.Scenes.{context, table}
+use Rattle.eval_parts.specs.Scenes.{context, table}
 use Rattle.action_values.proofs.ArmLemmas.{ChosenSoFar}
 use Rattle.action_values.proofs.arms.chosen_arm.Given as goal
 

@@ -5,8 +5,8 @@ use Rattle.tla_terms.specs.Terms as term
 use Rattle.tla_eval.specs.Evaluates.{Evaluates}
 use Rattle.tla_eval.specs.Unchanged.{unchanged_of}
 use Rattle.eval_reads.specs.Reads.{Reads}
-use Rattle.evaluator.specs.Scenes.{context, table}
-use Rattle.evaluator.proofs.FollowingLemmas.{unchanged_above}
+use Rattle.eval_parts.specs.Scenes.{context, table}
+use Rattle.eval_parts.proofs.FollowingLemmas.{unchanged_above}
 use Rattle.evaluator.proofs.Levels.{reads_node}
 use Rattle.action_values.proofs.TestLemmas.{tested_reads, tested_same}
 use Rattle.action_values.proofs.differing.unchanged_truth.Goals as goal

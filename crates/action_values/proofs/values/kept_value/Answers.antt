@@ -1,8 +1,8 @@
 use Rattle.std.proofs.Common.{◌<◌, refl, arith}
 use Rattle.tla_terms.specs.declared.level.Level.TheVariants as levels
 use Rattle.tla_terms.specs.Terms as term
-use Rattle.evaluator.specs.Following.{variable_at}
-use Rattle.evaluator.specs.Scenes.{context, table}
+use Rattle.eval_parts.specs.Following.{variable_at}
+use Rattle.eval_parts.specs.Scenes.{context, table}
 use Rattle.evaluator.proofs.Levels.{evaluates_node, reads_node}
 use Rattle.action_values.proofs.values.kept_value.Goals as goal
 

@@ -13,18 +13,18 @@ use Rattle.tla_eval.specs.Outcomes.{Each}
 use Rattle.tla_eval.specs.Unchanged.{TruthOf, changed_of, unchanged_of}
 use Rattle.tla_actions.specs.Holds.{Chosen}
 use Rattle.eval_reads.specs.Reads.{BoundsRead, Reads, ReadsEach}
-use Rattle.evaluator.specs.Scenes.{Stops}
-use Rattle.evaluator.specs.Walks.{AreWithin, at_places, left_from}
-use Rattle.evaluator.proofs.Loops.{cut_at, cut_mapped}
+use Rattle.eval_parts.specs.Scenes.{Stops}
+use Rattle.eval_parts.specs.Walks.{AreWithin, at_places, left_from}
+use Rattle.eval_parts.proofs.Loops.{cut_at, cut_mapped}
 use Rattle.action_reads.specs.Filled.{at_next}
 use Rattle.tla_actions.specs.Forms.{form}
 use Rattle.trace_base.specs.declared.place.Place.{Place}
-use Rattle.evaluator.proofs.Walking.{fewer, left_begins, left_is, none_more, some_left, within_begins}
+use Rattle.eval_parts.proofs.Walking.{fewer, left_begins, left_is, none_more, some_left, within_begins}
 use Rattle.action_rows.specs.Rows.{before, form_of, part_term, setting}
 use Rattle.action_rows.specs.declared.part.Part.{Part}
 use Rattle.action_rows.specs.declared.row.Row.{Row}
-use Rattle.action_values.specs.BoundSets.{bound_members}
-use Rattle.action_values.specs.declared.bound_values.BoundSet.{BoundSet}
+use Rattle.eval_parts.specs.BoundSets.{bound_members}
+use Rattle.eval_parts.specs.declared.bound_values.BoundSet.{BoundSet}
 use Rattle.action_walk.specs.Walking.{AnyGrounded, AnyWalked, EachGrounded, EachReads, EachTested, EachWalked, Grounded, IsForm, IsWalked, parts_at, under}
 use Rattle.action_walk.proofs.Answering.{err_then, ok_then}
 use Rattle.action_walk.proofs.Loops.{ahead_at, ahead_first, ahead_next, ahead_over, all_done, all_ground, all_start, all_step, all_stop, any_done, any_ground, any_start, any_step, any_stop, apart, each_done, each_ground, each_start, each_step, each_stop, under_done, under_ground, under_start, under_step, under_stop}

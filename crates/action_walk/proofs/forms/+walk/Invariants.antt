@@ -2,7 +2,7 @@ use Rattle.std.proofs.Common.{◌≡◌, map, ◌+◌, ◌*◌, length}
 use Rattle.std.specs.Prelude.{IsTrue}
 use Rattle.std.specs.Vec.Iter.{into_iter_items, into_iter_len}
 use Rattle.tla_eval.specs.Binders.{combinations}
-use Rattle.evaluator.specs.Walks.{AreWithin, left_from}
+use Rattle.eval_parts.specs.Walks.{AreWithin, left_from}
 use Rattle.action_rows.specs.Rows.{before, part_term, setting}
 use Rattle.action_walk.specs.Walking.{parts_at}
 use Rattle.action_walk.proofs.Loops.{Ahead, AllSoFar, AnySoFar, EachSoFar, UnderSoFar}

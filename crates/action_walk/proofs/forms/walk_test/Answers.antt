@@ -5,7 +5,7 @@ use Rattle.tla_eval.specs.Evaluates.{Evaluates}
 use Rattle.tla_eval.specs.Unchanged.{TruthOf}
 use Rattle.tla_actions.specs.Forms.{test}
 use Rattle.eval_reads.specs.Reads.{Reads}
-use Rattle.evaluator.specs.Scenes.{context, table}
+use Rattle.eval_parts.specs.Scenes.{context, table}
 use Rattle.action_rows.specs.Rows.{before, part_term, setting}
 use Rattle.action_walk.proofs.Rows.{form_walks}
 use Rattle.action_walk.proofs.Taken.{in_scene, on_stage, tested_there}

@@ -26,36 +26,36 @@ use Rattle.tla_terms.specs.TermViews.{arm_item, field_item, node_view, bound_ite
 use Rattle.evaluator.proofs.RecordLemmas.{fields_are, fields_once, fields_read}
 use Rattle.tla_terms.specs.Lists.{fields_list, changes_list, steps_list, terms_list}
 use Rattle.eval_reads.specs.Reads.{ArmsRead, Reads, ReadsEach, ReadsUnder, ChangesRead, PathReads, StepsRead, MeansUnchangedReads}
-use Rattle.evaluator.specs.Scenes.{OtherEvaluates, Stops, context, operand_item, table}
+use Rattle.eval_parts.specs.Scenes.{OtherEvaluates, Stops, context, operand_item, table}
 use Rattle.evaluator.proofs.Levels.{reads_node, evaluates_node, describes_node}
 use Rattle.evaluator.proofs.JoinedLoops.{joined_ends, joined_goes_on, joined_stops, joined_whole, joins_described, joins_told}
-use Rattle.evaluator.proofs.Loops.{arm_passed, arm_stops, arm_taken, arms_are, arms_end, arms_read, chain_ends, chain_goes_on, chain_reads, chain_stops, chain_whole, cut_mapped, PassingSoFar, first_found, first_none, first_passed, first_stops, passing_ends, passing_goes_on, passing_stops, EachSoFar, cut_at, reads_at, to_items, of_items, each_begins, each_goes_on, each_stops, each_ends, each_length, none_is, all_denied, all_stops, all_ends, some_granted, some_stops, some_ends, all_goes_on}
-use Rattle.evaluator.proofs.Rows.{joined_told, chain_told, gives_it, joined_described, made_described, next_told, one_true, plain_described, truth_told, is_plain, pair_told, stops_then}
+use Rattle.eval_parts.proofs.Loops.{arm_passed, arm_stops, arm_taken, arms_are, arms_end, arms_read, chain_ends, chain_goes_on, chain_reads, chain_stops, chain_whole, cut_mapped, PassingSoFar, first_found, first_none, first_passed, first_stops, passing_ends, passing_goes_on, passing_stops, EachSoFar, cut_at, reads_at, to_items, of_items, each_begins, each_goes_on, each_stops, each_ends, each_length, none_is, all_denied, all_stops, all_ends, some_granted, some_stops, some_ends, all_goes_on}
+use Rattle.eval_parts.proofs.Rows.{joined_told, chain_told, gives_it, joined_described, made_described, next_told, one_true, plain_described, truth_told, is_plain, pair_told, stops_then}
 use Rattle.evaluator.proofs.evaluate.+evaluate.Goals as goal
 use Rattle.trace_base.specs.declared.place.Place.{Place}
-use Rattle.evaluator.specs.BoundSets.{BoundEvaluates, HasMembers, bound_members, bound_value}
-use Rattle.evaluator.specs.Walks.{AllDiffer, AreWithin, Decided, at_places, left_from}
-use Rattle.evaluator.specs.declared.bound_values.BoundSet.{BoundSet}
-use Rattle.evaluator.proofs.BoundLemmas.{as_many_lists, bound_stops, bound_values, bounds_are, bounds_read, first_stage_stops, quantified_told, second_stage_stops}
+use Rattle.eval_parts.specs.BoundSets.{BoundEvaluates, HasMembers, bound_members, bound_value}
+use Rattle.eval_parts.specs.Walks.{AllDiffer, AreWithin, Decided, at_places, left_from}
+use Rattle.eval_parts.specs.declared.bound_values.BoundSet.{BoundSet}
+use Rattle.eval_parts.proofs.BoundLemmas.{as_many_lists, bound_stops, bound_values, bounds_are, bounds_read, first_stage_stops, quantified_told, second_stage_stops}
 use Rattle.evaluator.proofs.BoundLoops.{EachFrom, all_decided, any_begins, any_ends, any_found, any_goes_on, any_stops, each_from_begins, each_from_ends, each_from_goes_on, each_from_stops, every_begins, every_denied, every_ends, every_goes_on, every_stops, some_decided}
 use Rattle.evaluator.proofs.KeysDiffer.{keys_once}
-use Rattle.evaluator.proofs.Walking.{chosen_length, fewer, left_begins, left_is, none_more, some_left, within_begins}
+use Rattle.eval_parts.proofs.Walking.{chosen_length, fewer, left_begins, left_is, none_more, some_left, within_begins}
 use Rattle.std.proofs.lemmas.List.Elements.{All-nil, All-push}
 use Rattle.std.specs.List.{All}
 use Rattle.tla_eval.specs.Functions.{AllChanged, Changed, KeyOf, StepKey, StepsEvaluate, steps_place}
 use Rattle.tla_values.specs.FunctionOperations.{AppliesAt}
 use Rattle.tla_terms.specs.declared.term.Step.{Step as StepGiven}
 use Rattle.evaluator.proofs.PrefixRows.{makes_subsets, value_described}
-use Rattle.evaluator.specs.ChangePaths.{HasKey, InsideAt, StepReads, StepsMakeReads, SetOfField, StepMakes, StepsMake, part_item, primes_in, under}
-use Rattle.evaluator.specs.declared.changing.Layer.{Layer}
-use Rattle.evaluator.specs.declared.field_sets.Part.{Part}
-use Rattle.evaluator.proofs.ChangeWalk.{ChangeSoFar, bare, change_goes_on, change_made, change_refused, change_stays, change_stops, change_unmade, changes_are, changes_end, changes_go_on, changes_read, changes_stop, path_is, path_reads}
-use Rattle.evaluator.proofs.RecordSets.{parts_differ, stops_tells}
-use Rattle.evaluator.proofs.StepWalk.{last_reads, last_told, step_told, primes_from, steps_are, steps_end, steps_go_on, steps_read, steps_reads, steps_stop, steps_told}
+use Rattle.eval_parts.specs.ChangePaths.{HasKey, InsideAt, StepReads, StepsMakeReads, SetOfField, StepMakes, StepsMake, part_item, primes_in, under}
+use Rattle.eval_parts.specs.declared.changing.Layer.{Layer}
+use Rattle.eval_parts.specs.declared.field_sets.Part.{Part}
+use Rattle.eval_parts.proofs.ChangeWalk.{ChangeSoFar, bare, change_goes_on, change_made, change_refused, change_stays, change_stops, change_unmade, changes_are, changes_end, changes_go_on, changes_read, changes_stop, path_is, path_reads}
+use Rattle.eval_parts.proofs.RecordSets.{parts_differ, stops_tells}
+use Rattle.eval_parts.proofs.StepWalk.{last_reads, last_told, step_told, primes_from, steps_are, steps_end, steps_go_on, steps_read, steps_reads, steps_stop, steps_told}
 use Rattle.tla_ast.specs.declared.operators.InfixOperator.{InfixOperator}
 use Rattle.tla_ast.specs.declared.operators.PrefixOperator.TheVariants as prefix
-use Rattle.evaluator.proofs.FollowingLemmas.{else_true, reads_behind, same_value, unchanged_above, unchanged_behind, unchanged_parts}
-use Rattle.evaluator.proofs.ProductLemmas.{chain_terms, ready_pushed}
+use Rattle.eval_parts.proofs.FollowingLemmas.{else_true, reads_behind, same_value, unchanged_above, unchanged_behind, unchanged_parts}
+use Rattle.eval_parts.proofs.ProductLemmas.{chain_terms, ready_pushed}
 
 abbrev members : Bor (List Val) → List Val
 members x = x.now

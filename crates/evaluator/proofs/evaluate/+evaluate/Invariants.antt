@@ -6,22 +6,22 @@ use Rattle.tla_eval.specs.Contexts.{bind}
 use Rattle.tla_eval.specs.Evaluates.{Evaluates, Describes}
 use Rattle.tla_eval.specs.Unchanged.{TruthOf, unchanged_of}
 use Rattle.eval_reads.specs.Reads.{ArmsRead, Reads, ReadsEach, ChangesRead, PathReads}
-use Rattle.evaluator.specs.Scenes.{OtherEvaluates, context, operand_item, table}
+use Rattle.eval_parts.specs.Scenes.{OtherEvaluates, context, operand_item, table}
 use Rattle.tla_eval.specs.Answers.{IsReady}
 use Rattle.evaluator.proofs.JoinedLoops.{JoinedSoFar}
-use Rattle.evaluator.proofs.Loops.{ArmsSoFar, ChainSoFar, PassingSoFar, FirstSoFar, EachSoFar, AllSoFar, SomeSoFar}
+use Rattle.eval_parts.proofs.Loops.{ArmsSoFar, ChainSoFar, PassingSoFar, FirstSoFar, EachSoFar, AllSoFar, SomeSoFar}
 use Rattle.evaluator.proofs.evaluate.+evaluate.Given as goal
 use Rattle.tla_eval.specs.Binders.{combinations}
-use Rattle.evaluator.specs.BoundSets.{BoundEvaluates, bound_value}
-use Rattle.evaluator.specs.Walks.{AreWithin, left_from}
+use Rattle.eval_parts.specs.BoundSets.{BoundEvaluates, bound_value}
+use Rattle.eval_parts.specs.Walks.{AreWithin, left_from}
 use Rattle.evaluator.proofs.BoundLoops.{AnyFrom, EachFrom, EveryFrom}
 use Rattle.std.specs.List.{All}
 use Rattle.tla_eval.specs.Sets.{FieldDescribed, PartDescribed}
 use Rattle.tla_terms.specs.Terms.{place_of}
-use Rattle.evaluator.specs.ChangePaths.{StepsMakeReads, part_item, primes_in}
-use Rattle.evaluator.proofs.ChangeWalk.{ChangeSoFar, ChangesSoFar, bare}
-use Rattle.evaluator.proofs.StepWalk.{StepsSoFar}
-use Rattle.evaluator.specs.ReadyParts.{AreReady}
+use Rattle.eval_parts.specs.ChangePaths.{StepsMakeReads, part_item, primes_in}
+use Rattle.eval_parts.proofs.ChangeWalk.{ChangeSoFar, ChangesSoFar, bare}
+use Rattle.eval_parts.proofs.StepWalk.{StepsSoFar}
+use Rattle.eval_parts.specs.ReadyParts.{AreReady}
 
 abbrev pub decreases-eval : goal.decreases-eval
 decreases-eval l = 20 * l.depth

@@ -1,4 +1,4 @@
-use Rattle.evaluator.proofs.Loops.{first_is}
+use Rattle.eval_parts.proofs.Loops.{first_is}
 use Rattle.evaluator.proofs.evaluate.first_of.Goals as goal
 
 pub returns : goal.returns

@@ -1,5 +1,5 @@
 use Rattle.std.proofs.Common.{ap, sym, ◌∙◌, length}
-use Rattle.evaluator.proofs.Loops.{items_are, one_item}
+use Rattle.eval_parts.proofs.Loops.{items_are, one_item}
 use Rattle.evaluator.proofs.evaluate.only_term.Goals as goal
 
 pub returns : goal.returns

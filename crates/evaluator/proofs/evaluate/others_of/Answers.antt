@@ -1,4 +1,4 @@
-use Rattle.evaluator.proofs.Loops.{others_are}
+use Rattle.eval_parts.proofs.Loops.{others_are}
 use Rattle.evaluator.proofs.evaluate.others_of.Goals as goal
 
 pub returns : goal.returns

@@ -1,0 +1,10 @@
+pub mod Loops
+pub mod Listed
+pub mod Rows
+pub mod Walking
+pub mod BoundLemmas
+pub mod StepWalk
+pub mod ChangeWalk
+pub mod RecordSets
+pub mod ProductLemmas
+pub mod FollowingLemmas

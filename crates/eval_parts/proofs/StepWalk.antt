@@ -1,0 +1,164 @@
+-- Steps behind a primary, taken from left to right, make what the definition says, which takes them from the right.
+use Rattle.std.proofs.Common.{◌≡◌, inl, inr, refl, ap, sym, ◌∙◌, subst, List, [], ◌∷◌, ◌++◌, length, drop, get_or, ◌≤◌, ◌+◌, ℕ, zero, suc, map, arith, length-append}
+use Rattle.std.proofs.lemmas.List.{get_or_push, length-map}
+use Rattle.std.proofs.Math.ListN.{get_or-map}
+use Rattle.std.specs.Prelude.{Result, Ok, Err}
+use Rattle.trace_base.specs.declared.place.Place.{Place}
+use Rattle.tla_core.specs.declared.fault.Fault.{Fault}
+use Rattle.tla_values.specs.Data.{Val}
+use Rattle.tla_values.specs.FunctionOperations.{AppliesAt}
+use Rattle.tla_terms.specs.Lists.{steps_list}
+use Rattle.tla_terms.specs.Terms as term
+use Rattle.tla_terms.specs.Terms.{Term, Step, Steps, place_of}
+use Rattle.tla_terms.specs.TermViews.{step_item, steps_of}
+use Rattle.tla_terms.specs.declared.term.StepAt.{StepAt}
+use Rattle.tla_eval.specs.declared.fault.EvalFault.{EvalFault}
+use Rattle.tla_eval.specs.declared.fault.EvalFault.TheVariants.{Refused, NoMemory}
+use Rattle.tla_eval.specs.Answers.{Tells}
+use Rattle.tla_eval.specs.Contexts.{Context, Evaluate, primed}
+use Rattle.tla_eval.specs.Functions.{StepKey, StepsEvaluate, steps_place}
+use Rattle.tla_eval.specs.Outcomes.{Then, Operated, fault, place_in}
+use Rattle.eval_parts.proofs.Listed.{steps_listed}
+use Rattle.eval_parts.proofs.Loops.{Cut, cut_end}
+use Rattle.eval_reads.specs.Reads.{Reading, StepsRead}
+use Rattle.eval_parts.specs.ChangePaths.{HasKey, StepMakes, StepReads, StepsMake, StepsMakeReads, primes_in, under, with_prime}
+
+-- steps, and more of them behind
+abbrev grow : Steps → List (Place × Step) → Steps
+grow ss [] = ss
+grow ss (x ∷ xs) = grow (term.MoreSteps ss x.0 x.1) xs
+
+grow_last : (ss : Steps) (xs : List (Place × Step)) (p : Place) (s : Step) → grow ss (xs ++ (p, s) ∷ []) ≡ term.MoreSteps (grow ss xs) p s
+grow_last ss [] p s = refl
+grow_last ss (x ∷ xs) p s = grow_last (term.MoreSteps ss x.0 x.1) xs p s
+
+grown : (ss : Steps) → grow term.NoSteps (steps_list ss) ≡ ss
+grown term.NoSteps = refl
+grown (term.MoreSteps ss p s) = grow_last term.NoSteps (steps_list ss) p s ∙ ap (λ (ts : Steps). term.MoreSteps ts p s) (grown ss)
+
+-- a prime around primes
+under_prime : (n : ℕ) (c : Context) → primed (under n c) ≡ primed c
+under_prime zero c = refl
+under_prime (suc n) c = refl
+
+module _ (ev : Evaluate) (c : Context) (e : Term) where
+  -- the steps before, and then those behind
+  abbrev Goes : Steps → List (Place × Step) → Result Val Fault → Type 0
+  Goes ss xs r = Then (StepsEvaluate ev (under (primes_in xs) c) e ss) (StepsMake ev c (steps_place (place_of e) ss) xs) r
+
+  one : (ss : Steps) (p : Place) (s : Step) (xs : List (Place × Step)) (r : Result Val Fault) → Goes ss ((p, s) ∷ xs) r → Goes (term.MoreSteps ss p s) xs r
+  one ss p term.Prime xs r (inl (v, h, inl (w, g, k))) =
+      let same : w ≡ v = cc in
+      inl (v, subst (λ (d : Context). StepsEvaluate ev d e ss (Ok v)) (sym (under_prime (primes_in xs) c)) h, subst (λ (u : Val). StepsMake ev c p xs u r) same k)
+  one ss p term.Prime xs r (inl (v, h, inr (f, g, k))) = cc
+  one ss p term.Prime xs r (inr (f, h, k)) = inr (f, subst (λ (d : Context). StepsEvaluate ev d e ss (Err f)) (sym (under_prime (primes_in xs) c)) h, k)
+  one ss p (term.Index ts) xs r (inl (v, h, inl (w, g, k))) = inl (w, inl (v, h, g), k)
+  one ss p (term.Index ts) xs r (inl (v, h, inr (f, g, k))) = inr (f, inl (v, h, g), k)
+  one ss p (term.Index ts) xs r (inr (f, h, k)) = inr (f, inr (f, h, refl), k)
+  one ss p (term.Field s) xs r (inl (v, h, inl (w, g, k))) = inl (w, inl (v, h, g), k)
+  one ss p (term.Field s) xs r (inl (v, h, inr (f, g, k))) = inr (f, inl (v, h, g), k)
+  one ss p (term.Field s) xs r (inr (f, h, k)) = inr (f, inr (f, h, refl), k)
+
+  goes : (ss : Steps) (xs : List (Place × Step)) (r : Result Val Fault) → Goes ss xs r → StepsEvaluate ev c e (grow ss xs) r
+  goes ss [] r (inl (v, h, q)) = subst (λ (x : Result Val Fault). StepsEvaluate ev c e ss x) (sym q) h
+  goes ss [] r (inr (f, h, q)) = subst (λ (x : Result Val Fault). StepsEvaluate ev c e ss x) (sym q) h
+  goes ss ((p, s) ∷ xs) r h = goes (term.MoreSteps ss p s) xs r (one ss p s xs r h)
+
+  walked : (ss : Steps) (r : Result Val Fault) → Then (ev (under (primes_in (steps_list ss)) c) e) (StepsMake ev c (place_of e) (steps_list ss)) r → StepsEvaluate ev c e ss r
+  walked ss r h = subst (λ (ts : Steps). StepsEvaluate ev c e ts r) (grown ss) (goes term.NoSteps (steps_list ss) r h)
+
+  pub steps_told : (ss : Steps) (r : Result Val EvalFault) → Tells r (Then (ev (under (primes_in (steps_list ss)) c) e) (StepsMake ev c (place_of e) (steps_list ss))) → Tells r (StepsEvaluate ev c e ss)
+  steps_told ss (Ok v) h = walked ss (Ok v) h
+  steps_told ss (Err (Refused kind at)) h = walked ss (Err (fault kind at)) h
+  steps_told ss (Err NoMemory) h = tt
+
+-- what steps read
+module _ (part : Reading) (c : Context) (e : Term) where
+  one_reads : (ss : Steps) (p : Place) (s : Step) (xs : List (Place × Step)) → StepsRead part (under (primes_in xs) c) e (term.MoreSteps ss p s) → StepsRead part (under (with_prime s (primes_in xs)) c) e ss × StepReads part (under (primes_in xs) c) s
+  one_reads ss p term.Prime xs h = (subst (λ (d : Context). StepsRead part d e ss) (under_prime (primes_in xs) c) h, tt)
+  one_reads ss p (term.Index ts) xs h = (h.0, h.1)
+  one_reads ss p (term.Field s) xs h = (h, tt)
+
+  reads : (ss : Steps) (xs : List (Place × Step)) → StepsRead part c e (grow ss xs) → StepsRead part (under (primes_in xs) c) e ss × StepsMakeReads part c xs
+  reads ss [] h = (h, tt)
+  reads ss ((p, s) ∷ xs) h =
+      let behind = reads (term.MoreSteps ss p s) xs h in
+      let here = one_reads ss p s xs behind.0 in
+      (here.0, (here.1, behind.1))
+
+  pub steps_read : (ss : Steps) → StepsRead part c e ss → part (under (primes_in (steps_list ss)) c) e × StepsMakeReads part c (steps_list ss)
+  steps_read ss h = reads term.NoSteps (steps_list ss) (subst (λ (ts : Steps). StepsRead part c e ts) (sym (grown ss)) h)
+
+-- the last step, which has a key
+pub last_reads : (part : Reading) (c : Context) (e : Term) (ss : Steps) (at : Place) (s : Step) → HasKey s → StepsRead part c e (term.MoreSteps ss at s) → StepsRead part c e ss × StepReads part c s
+last_reads part c e ss at term.Prime k h = absurd k
+last_reads part c e ss at (term.Index ts) k h = (h.0, h.1)
+last_reads part c e ss at (term.Field s) k h = (h, tt)
+
+pub last_told : (ev : Evaluate) (c : Context) (e : Term) (ss : Steps) (at : Place) (s : Step) (r : Result Val EvalFault) → HasKey s → Tells r (Then (StepsEvaluate ev c e ss) (λ f. Then (StepKey ev c at s) (λ key. Operated (AppliesAt f key) (place_in at (steps_place (place_of e) ss ∷ []))))) → Tells r (StepsEvaluate ev c e (term.MoreSteps ss at s))
+last_told ev c e ss at term.Prime r k h = absurd k
+last_told ev c e ss at (term.Index ts) r k h = h
+last_told ev c e ss at (term.Field s) r k h = h
+
+pub step_told : (ev : Evaluate) (c : Context) (p at : Place) (s : Step) (v : Val) (r : Result Val EvalFault) → HasKey s → Tells r (Then (StepKey ev c at s) (λ key. Operated (AppliesAt v key) (place_in at (p ∷ [])))) → Tells r (StepMakes ev c p at s v)
+step_told ev c p at term.Prime v r k h = absurd k
+step_told ev c p at (term.Index ts) v r k h = h
+step_told ev c p at (term.Field s) v r k h = h
+
+-- the steps of a term by its items
+pub steps_are : (xs : List StepAt) (ss : Steps) → steps_of xs ≡ ss → map step_item xs ≡ steps_list ss
+steps_are xs ss e = sym (steps_listed xs) ∙ ap steps_list e
+
+-- primes that are left
+more_prime : (s : Step) (n : ℕ) → with_prime s n ≡ n + with_prime s 0
+more_prime term.Prime n = omega arith
+more_prime (term.Index ts) n = omega arith
+more_prime (term.Field s) n = omega arith
+
+pub one_prime : (s : Step) → with_prime s 0 ≤ 1
+one_prime term.Prime = omega arith
+one_prime (term.Index ts) = omega arith
+one_prime (term.Field s) = omega arith
+
+pub primes_from : (xs : List (Place × Step)) (i : ℕ) (x : Place × Step) → Cut xs i x → primes_in (drop i xs) ≡ primes_in (drop (i + 1) xs) + with_prime x.1 0
+primes_from xs i x k = ap primes_in k ∙ more_prime x.1 (primes_in (drop (i + 1) xs))
+
+pub no_primes : (xs : List (Place × Step)) (i : ℕ) → length xs ≤ i → primes_in (drop i xs) ≡ 0
+no_primes xs i l = ap primes_in (cut_end xs i l)
+
+-- steps before the index have been taken
+module _ (ev : Evaluate) (c : Context) where
+  abbrev pub StepsSoFar : List (Place × Step) → Place → Val → ℕ → Place → Val → Type 0
+  StepsSoFar xs p v i q w = (r : Result Val Fault) → StepsMake ev c q (drop i xs) w r → StepsMake ev c p xs v r
+
+  pub steps_go_on : (xs : List (Place × Step)) (p : Place) (v : Val) (i : ℕ) (q : Place) (w : Val) (x : Place × Step) (u : Val) → Cut xs i x → StepMakes ev (under (primes_in (drop (i + 1) xs)) c) q x.0 x.1 w (Ok u) → StepsSoFar xs p v i q w → StepsSoFar xs p v (i + 1) x.0 u
+  steps_go_on xs p v i q w x u k m s r h = s r (subst (λ (ys : List (Place × Step)). StepsMake ev c q ys w r) (sym k) (inl (u, m, h)))
+
+  pub steps_stop : (xs : List (Place × Step)) (p : Place) (v : Val) (i : ℕ) (q : Place) (w : Val) (x : Place × Step) (f : EvalFault) → Cut xs i x → Tells {A = Val} (Err f) (StepMakes ev (under (primes_in (drop (i + 1) xs)) c) q x.0 x.1 w) → StepsSoFar xs p v i q w → Tells {A = Val} (Err f) (StepsMake ev c p xs v)
+  steps_stop xs p v i q w x (Refused kind at) k m s = s (Err (fault kind at)) (subst (λ (ys : List (Place × Step)). StepsMake ev c q ys w (Err (fault kind at))) (sym k) (inr (fault kind at, m, refl)))
+  steps_stop xs p v i q w x NoMemory k m s = tt
+
+  pub steps_end : (xs : List (Place × Step)) (p : Place) (v : Val) (i : ℕ) (q : Place) (w : Val) → length xs ≤ i → StepsSoFar xs p v i q w → StepsMake ev c p xs v (Ok w)
+  steps_end xs p v i q w l s = s (Ok w) (subst (λ (ys : List (Place × Step)). StepsMake ev c q ys w (Ok w)) (sym (cut_end xs i l)) refl)
+
+pub steps_reads : (part : Reading) (c : Context) (xs : List (Place × Step)) (i : ℕ) (x : Place × Step) → Cut xs i x → StepsMakeReads part c (drop i xs) → StepReads part (under (primes_in (drop (i + 1) xs)) c) x.1 × StepsMakeReads part c (drop (i + 1) xs)
+steps_reads part c xs i x k h = subst (λ (ys : List (Place × Step)). StepsMakeReads part c ys) k h
+
+-- the place behind steps
+last_of : (at : Place) (ss : Steps) (x : Place × Step) (i : ℕ) → length (steps_list ss) ≡ suc i → x ≡ get_or (steps_list ss) i x → x.0 ≡ steps_place at ss
+last_of at term.NoSteps x i n e = absurd (omega (arith, n))
+last_of at (term.MoreSteps ss p s) x i n e =
+    let few : i ≡ length (steps_list ss) = omega (arith, n, length-append (steps_list ss) ((p, s) ∷ [])) in
+    ap (λ (y : Place × Step). y.0) (e ∙ get_or_push (steps_list ss) (p, s) x i (sym few))
+
+pub last_place : (at : Place) (xs : List StepAt) (ss : Steps) (x : StepAt) (i : ℕ) → steps_of xs ≡ ss → length xs ≡ suc i → x ≡ get_or xs i x → x.at ≡ steps_place at ss
+last_place at xs ss x i e n k =
+    let are = steps_are xs ss e in
+    last_of at ss (step_item x) i (ap length (sym are) ∙ length-map xs step_item ∙ n) (subst (λ (ys : List (Place × Step)). step_item x ≡ get_or ys i (step_item x)) are (ap step_item k ∙ sym (get_or-map step_item xs i x)))
+
+none_of : (at : Place) (ss : Steps) → length (steps_list ss) ≡ 0 → at ≡ steps_place at ss
+none_of at term.NoSteps n = refl
+none_of at (term.MoreSteps ss p s) n = absurd (omega (arith, n, length-append (steps_list ss) ((p, s) ∷ [])))
+
+pub no_place : (at : Place) (xs : List StepAt) (ss : Steps) → steps_of xs ≡ ss → length xs ≡ 0 → at ≡ steps_place at ss
+no_place at xs ss e n = none_of at ss (ap length (sym (steps_are xs ss e)) ∙ length-map xs step_item ∙ n)

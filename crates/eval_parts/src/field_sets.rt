@@ -1,0 +1,98 @@
+//! Sets of records of fields that are described.
+
+ghost use Rattle.std.specs.Prelude.{◌≡◌, IfErr, IfOk, Ok, map};
+ghost use Rattle.std.specs.List.{All};
+ghost use Rattle.eval_sets.specs.DescribedSets.{Records, fields_list};
+ghost use Rattle.eval_sets.specs.DescribedViews.{field_item};
+ghost use Rattle.eval_sets.specs.Soundness.{FieldsAreSound, IsSound, IsString};
+ghost use Rattle.tla_terms.specs.Terms.{place_of};
+ghost use Rattle.tla_eval.specs.Answers.{IsReady, Tells};
+ghost use Rattle.tla_eval.specs.Outcomes.{Each, Gives, Then};
+ghost use Rattle.tla_eval.specs.Sets.{fields_of};
+ghost use Rattle.tla_values.specs.Data.{string};
+ghost use Rattle.tla_values.specs.SetOperations.{AreDifferent};
+ghost use Rattle.eval_parts.specs.Scenes.{Stops};
+ghost use Rattle.eval_parts.specs.ChangePaths.{SetOfField, part_item};
+
+use eval_sets::{Described, DescribedNode, Field as DescribedField, Fields as DescribedFields};
+use std::alloc::{AllocError, Global};
+use tla_eval::{EvalFault, set_at};
+use tla_terms::Field;
+use tla_values::Value;
+use trace_base::{Place, Text};
+
+/// What a field means: its name, the place of its set, and the set, which may be none.
+#[derive(Drop)]
+pub struct Part {
+    pub name: Text,
+    pub at: Place,
+    pub set: Described,
+}
+
+/// A field whose set is described.
+pub fn part_of(field: &Field, set: Described) -> Result<Part, AllocError>
+    ensures item { IfOk result (λ part. part_item part ≡ (field.now.name, place_of field.now.value, set)) }
+    ensures set { IfOk result (λ part. part.set ≡ set) }
+{
+    let name = field.name.copy()?;
+    Ok(Part {
+        name,
+        at: field.value.at,
+        set,
+    })
+}
+
+/// The set of records with these fields: each part must be a set, from left to right.
+pub fn records_of(alloc: Global, parts: Vec<Part>) -> Result<Described, EvalFault>
+    requires different { AreDifferent (map (λ p. p.name) parts.items) }
+    requires ready { All (λ p. IsReady p.set) parts.items }
+    ensures fine { Tells result (Then (Each SetOfField (map part_item parts.items)) (λ es. Gives (Records (fields_of es)))) }
+    ensures ready { IfOk result IsReady }
+{
+    match sound_fields(alloc, parts) {
+        Ok(fields) => Ok(Described {
+            node: DescribedNode::Records(fields),
+        }),
+        Err(fault) => Err(fault),
+    }
+}
+
+/// Fields whose parts are sets.
+fn sound_fields(alloc: Global, parts: Vec<Part>) -> Result<DescribedFields, EvalFault>
+    requires { All (λ p. IsReady p.set) parts.items }
+    ensures fields { IfOk result (λ fs. Each SetOfField (map part_item parts.items) (Ok (fields_list fs))) }
+    ensures sound { IfOk result FieldsAreSound }
+    ensures fault { IfErr result (Stops (Each SetOfField (map part_item parts.items))) }
+{
+    let mut fields = DescribedFields::new(alloc);
+    for part in parts {
+        match sound_field(alloc, part) {
+            Ok(field) => fields.push(field)?,
+            Err(fault) => return Err(fault),
+        }
+    }
+    Ok(fields)
+}
+
+/// A field whose part is a set.
+fn sound_field(alloc: Global, part: Part) -> Result<DescribedField, EvalFault>
+    requires { IsReady part.set }
+    ensures field { IfOk result (λ f. SetOfField (part_item part) (Ok (field_item f))) }
+    ensures sound { IfOk result (λ f. IsString f.name × IsSound f.part) }
+    ensures fault { IfErr result (Stops (SetOfField (part_item part))) }
+{
+    let Part { name, at, set } = part;
+    match set_at(set, at) {
+        Ok(set) => Ok(named_field(alloc, name, set)?),
+        Err(fault) => Err(fault),
+    }
+}
+
+fn named_field(alloc: Global, name: Text, set: Described) -> Result<DescribedField, AllocError>
+    ensures item { IfOk result (λ f. field_item f ≡ (string name, set)) }
+    ensures name { IfOk result (λ f. f.name ≡ string name) }
+    ensures part { IfOk result (λ f. f.part ≡ set) }
+{
+    let name = Value::string(alloc, name)?;
+    Ok(DescribedField { name, part: set })
+}

@@ -1,0 +1,25 @@
+//! What an evaluator does where nothing is evaluated: the scene of a term, the values of bound names, changes within values, sets of fields and of
+//! products, and what UNCHANGED follows.
+#![tactic(auto)]
+
+mod bound_values;
+mod changing;
+mod field_sets;
+mod lists;
+mod products;
+mod scene;
+mod unchanged;
+
+pub use bound_values::{
+    BoundSet, advance, bound_set, expect_sets, has_combination, key_with, member_lists, slots_with,
+    start,
+};
+pub use changing::{
+    Layer, applied, before_primes, inside_at, place_behind, prime_count, primes_among, rebuilt,
+    rebuilt_same, text_key,
+};
+pub use field_sets::{Part, part_of, records_of};
+pub use lists::{boxed, push};
+pub use products::{beside_place, operand_terms, product_of};
+pub use scene::{Scene, definition, one_more, primed, slot, slots_and, variable, with_slots};
+pub use unchanged::{behind, variable_stays, within};

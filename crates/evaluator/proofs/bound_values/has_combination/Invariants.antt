@@ -1,7 +1,0 @@
-use Rattle.std.proofs.Common.{◌↔◌, map, drop}
-use Rattle.evaluator.specs.Walks.{AreWithin, first_places}
-use Rattle.evaluator.proofs.bound_values.has_combination.Given as goal
-
-abbrev pub invariant-loop-list : goal.invariant-loop-list
-invariant-loop-list l =
-    AreWithin (map (λ x. x.now) (drop l.list-index l.lists)) (first_places (map (λ x. x.now) (drop l.list-index l.lists))) ↔ AreWithin (map (λ x. x.now) l.lists) (first_places (map (λ x. x.now) l.lists))

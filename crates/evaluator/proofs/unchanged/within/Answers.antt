@@ -1,9 +1,0 @@
-use Rattle.std.proofs.Common.{List, ap, sym, ◌∙◌}
-use Rattle.std.specs.List.{take-map}
-use Rattle.tla_values.specs.Data.{Val}
-use Rattle.evaluator.specs.Scenes.{context, with_slots}
-use Rattle.evaluator.proofs.unchanged.within.Goals as goal
-
-pub returns-clause-context : goal.returns-clause-context
-returns-clause-context c =
-    c.with_slots.ensures.context ∙ ap (λ (vs : List Val). with_slots (context c.args.scene) vs) (sym (take-map (λ v. v.now) c.args.kept c.args.scene.slots.now))
