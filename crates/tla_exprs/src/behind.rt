@@ -1,18 +1,18 @@
 //! Tokens behind a primary.
 
+ghost use Rattle.reader_model.specs.Machine.{body_of, call_step, infix_of_symbol, infix_or, is_case_mark, item_closes, list_closes, name_closes, parameters_of, same_bullet, symbol_follows, word_closes};
 ghost use Rattle.std.specs.Prelude.{◌≡◌, ◌∷◌, IfOk, List, Ok};
 ghost use Rattle.tla_exprs.specs.Does.{Does, frames_in};
 ghost use Rattle.tla_exprs.specs.Kept.{kept_behind, kept_closes, kept_follows, kept_kind_closes, kept_laid_closes};
-ghost use Rattle.tla_exprs.specs.Machine.{body_of, call_step, infix_of_symbol, infix_or, is_case_mark, item_closes, list_closes, name_closes, parameters_of, same_bullet, symbol_follows, word_closes};
 
 use crate::brackets::{Member, join_member};
 use crate::closers::{symbol_closes, with_step};
 use crate::folding::settle;
-use crate::frame::{Form, Frame, Mode, Scope};
 use crate::infix::{infix_of_symbol, infix_step};
 use crate::named::symbol_at;
 use crate::stack::{Stack, pop, want};
 use crate::stepped::{Joined, Stepped};
+use reader_model::{Form, Frame, Mode, Scope};
 use std::alloc::Global;
 use tla_ast::{
     Bullet, Changes, Definition, Definitions, Expr, Exprs, Kind, Laid, Node, Step, Symbol, Word,

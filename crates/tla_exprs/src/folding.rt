@@ -1,11 +1,11 @@
 //! Rows that end where their last expression does.
 
+ghost use Rattle.reader_model.specs.Machine.{folded, folds, settle};
 ghost use Rattle.std.specs.Prelude.{◌≡◌, IfOk};
 ghost use Rattle.tla_exprs.specs.Does.{frames_in};
-ghost use Rattle.tla_exprs.specs.Machine.{folded, folds, settle};
 
-use crate::frame::Frame;
 use crate::stack::{Stack, pop, push};
+use reader_model::Frame;
 use std::alloc::Global;
 use tla_ast::{Arm, Expr, Node};
 use trace_base::NoMemory;
