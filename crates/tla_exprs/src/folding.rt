@@ -27,6 +27,9 @@ fn folds(case: bool, frame: &Frame) -> bool
     }
 }
 
+/// Lets go of a frame.
+fn let_go(_frame: Frame) {}
+
 /// Such a row with its last expression.
 pub fn folded(alloc: Global, frame: Frame, last: Expr) -> Result<Expr, NoMemory>
     ensures { IfOk result (λ e. e ≡ folded frame last) }
@@ -71,7 +74,10 @@ pub fn folded(alloc: Global, frame: Frame, last: Expr) -> Result<Expr, NoMemory>
             let node = Node::Let(definitions, Box::new(alloc, last)?);
             Ok(Expr { at, node })
         }
-        _ => Ok(last),
+        other => {
+            let_go(other);
+            Ok(last)
+        }
     }
 }
 
