@@ -17,7 +17,7 @@ use Rattle.tla_ast.specs.Grammar.{Span, ◌⨟◌, either, token, some_token, wo
 use Rattle.tla_ast.specs.Laid.{tokens_of}
 use Rattle.tla_ast.specs.Modules.{DeclaredNamesText, MaybeTitle, ExtendsText, SomeExpression, UnitText, UnitsText, SpellsModule, variable_word, constant_word, assume_word, theorem_word}
 use Rattle.tla_ast.specs.Trees.{Tree}
-use Rattle.tla_exprs.specs.LawsOfExtents.{LocalText, LocalDefinition}
+use Rattle.reader_model.specs.LawsOfExtents.{LocalText, LocalDefinition}
 use Rattle.tla_program.specs.InUnits.{definitions_in}
 use Rattle.tla_program.specs.Names.{names_defined}
 use Rattle.tla_config.proofs.TokensHeld.{Holds, AllHold}

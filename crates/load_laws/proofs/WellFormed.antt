@@ -7,7 +7,7 @@ use Rattle.tla_ast.specs.declared.module.Program.{Program}
 use Rattle.tla_ast.specs.declared.module.Unit.{Unit as ModuleUnit}
 use Rattle.tla_modules.specs.Loads.{IsProgram}
 use Rattle.tla_modules.specs.Refusals.{IsModule}
-use Rattle.tla_exprs.specs.LawsOfExtents.{LocalText, LocalDefinition}
+use Rattle.reader_model.specs.LawsOfExtents.{LocalText, LocalDefinition}
 use Rattle.spec_laws.specs.Formed.{UnitsAreFormed}
 use Rattle.spec_laws.specs.FormLaws.{ModulesAreFormed}
 use Rattle.resolved_laws.specs.InOrder.{IsWellFormed}

@@ -1,8 +1,8 @@
 ghost use Rattle.load_laws.specs.Loaded.{ConfigurationsAreSpelled, ConfigurationsHaveOneForm, LoadedAreWellFormed, LoadedHaveFewFiles, PlainHasOneForm, PlainIsSpelled};
 
+use reader_model::laws_of_extents;
 use spec_laws::form_laws;
 use tla_config::givens_are_within_limits;
-use tla_exprs::laws_of_extents;
 
 /// A program that `load` accepts is well formed: its trees are those of the grammar, no two variables have one name and no two definitions, and each
 /// definition has a name. It has at most 32 files.

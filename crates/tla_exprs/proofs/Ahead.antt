@@ -11,11 +11,11 @@ use Rattle.tla_ast.specs.declared.token.Word.TheVariants as words
 use Rattle.tla_ast.specs.declared.token.Symbol.{Symbol}
 use Rattle.tla_ast.specs.declared.token.Symbol.TheVariants as symbols
 use Rattle.tla_ast.specs.Trees.{Tree}
-use Rattle.tla_exprs.specs.Machine.{Stepped, Reads, Stops, Clashes, Ends, EndsDefinition, Outcome, StopsAt, ClashesAt, EndsAt, EndsDefinitionAt, after, run, step, token_begins, word_begins, symbol_begins}
-use Rattle.tla_exprs.specs.declared.frame.Frame.{Frame}
-use Rattle.tla_exprs.specs.declared.frame.Mode.{Mode}
-use Rattle.tla_exprs.specs.declared.frame.Mode.TheVariants as mode
-use Rattle.tla_exprs.specs.declared.frame.Scope.{Scope}
+use Rattle.reader_model.specs.Machine.{Stepped, Reads, Stops, Clashes, Ends, EndsDefinition, Outcome, StopsAt, ClashesAt, EndsAt, EndsDefinitionAt, after, run, step, token_begins, word_begins, symbol_begins}
+use Rattle.reader_model.specs.declared.frame.Frame.{Frame}
+use Rattle.reader_model.specs.declared.frame.Mode.{Mode}
+use Rattle.reader_model.specs.declared.frame.Mode.TheVariants as mode
+use Rattle.reader_model.specs.declared.frame.Scope.{Scope}
 
 abbrev NeverEnds : Stepped → Type 0
 NeverEnds (Ends e) = ⊥

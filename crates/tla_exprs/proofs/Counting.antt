@@ -1,14 +1,14 @@
 -- No reading of the beginning of a text as open rows has fewer unfinished constructs than the reader counts.
 use Rattle.std.proofs.Common.{◌≡◌, ℕ, ◌+◌, ◌≤◌, Bool, List, [], ap, ◌∙◌, arith}
 use Rattle.tla_ast.specs.declared.laid.Laid.{Laid}
-use Rattle.tla_exprs.specs.declared.frame.Frame.{Frame}
-use Rattle.tla_exprs.specs.declared.frame.Mode.{Mode}
+use Rattle.reader_model.specs.declared.frame.Frame.{Frame}
+use Rattle.reader_model.specs.declared.frame.Mode.{Mode}
 use Rattle.tla_exprs.specs.Nesting.{AreOpen, of_frames, of_mode, unfinished}
-use Rattle.tla_exprs.specs.OpenFits.{in_mode}
-use Rattle.tla_exprs.proofs.FittingEnds.{first_mode}
+use Rattle.reader_model.specs.OpenFits.{in_mode}
+use Rattle.reader_model.proofs.FittingEnds.{first_mode}
 use Rattle.tla_exprs.proofs.ReadingModes.{mode_ended}
 use Rattle.tla_exprs.proofs.ReadingOperators.{rows_go}
-use Rattle.tla_exprs.proofs.Runner.{Runner, run}
+use Rattle.reader_model.proofs.Runner.{Runner, run}
 
 -- what the counter tells: how many constructs are unfinished behind the last token, or that it did not come there
 pub data Told : Type 0 where

@@ -13,7 +13,7 @@ use Rattle.tla_ast.specs.TreeViews.{operands_from, operands_of}
 use Rattle.tla_ast.specs.TreeSizes.{tree_size}
 use Rattle.tla_ast.specs.TreeFalls.{operands_falls}
 use Rattle.tla_exprs.specs.Does.{with_others}
-use Rattle.tla_exprs.specs.Machine.{above, first_place, Joined, Joins, Meets, joins_in, joins_first, joins_next, join, join_first}
+use Rattle.reader_model.specs.Machine.{above, first_place, Joined, Joins, Meets, joins_in, joins_first, joins_next, join, join_first}
 
 first_place_from : (es : Operands) (u : Operand) (us : List Operand) (at : Place) → first_place (operands_from es (u ∷ us)) at ≡ first_place es u.at
 first_place_from es u [] at = refl

@@ -9,13 +9,13 @@ use Rattle.tla_ast.specs.declared.token.Token.{Token}
 use Rattle.tla_ast.specs.declared.token.Word.{Word}
 use Rattle.tla_ast.specs.declared.token.Word.TheVariants as words
 use Rattle.tla_ast.specs.Trees.{Tree, Definitions}
-use Rattle.tla_exprs.specs.Machine.{Stops, Ends, EndsDefinition, word_closes, item_closes, list_closes, parameters_of, body_of}
+use Rattle.reader_model.specs.Machine.{Stops, Ends, EndsDefinition, word_closes, item_closes, list_closes, parameters_of, body_of}
 use Rattle.tla_exprs.specs.Kept.{kept_closes, kept_laid_closes, kept_kind_closes}
-use Rattle.tla_exprs.specs.declared.frame.Form.{Form}
-use Rattle.tla_exprs.specs.declared.frame.Frame.{Frame}
-use Rattle.tla_exprs.specs.declared.frame.Frame.TheVariants as frame
-use Rattle.tla_exprs.specs.declared.frame.Scope.{Scope}
-use Rattle.tla_exprs.specs.declared.frame.Scope.TheVariants as scopes
+use Rattle.reader_model.specs.declared.frame.Form.{Form}
+use Rattle.reader_model.specs.declared.frame.Frame.{Frame}
+use Rattle.reader_model.specs.declared.frame.Frame.TheVariants as frame
+use Rattle.reader_model.specs.declared.frame.Scope.{Scope}
+use Rattle.reader_model.specs.declared.frame.Scope.TheVariants as scopes
 
 none_waits : (x : Laid) (e : Tree) → kept_closes x [] e ≡ Ends e
 unfolding kept_closes

@@ -9,9 +9,9 @@ use Rattle.tla_ast.specs.declared.token.Kind.TheVariants as kinds
 use Rattle.tla_ast.specs.declared.token.Symbol.{Symbol}
 use Rattle.tla_ast.specs.declared.token.Symbol.TheVariants as symbols
 use Rattle.tla_ast.specs.Trees.{Tree}
-use Rattle.tla_exprs.specs.Machine.{Stepped, settle, settled_closes, is_case_mark, behind, kind_follows, symbol_follows, symbol_or, on_symbol, infix_or, infix_of_symbol, infix_step}
+use Rattle.reader_model.specs.Machine.{Stepped, settle, settled_closes, is_case_mark, behind, kind_follows, symbol_follows, symbol_or, on_symbol, infix_or, infix_of_symbol, infix_step}
 use Rattle.tla_exprs.specs.Kept.{kept_follows, kept_behind, kept_closes}
-use Rattle.tla_exprs.specs.declared.frame.Frame.{Frame}
+use Rattle.reader_model.specs.declared.frame.Frame.{Frame}
 
 pub behind_settled : (x : Laid) (fs gs : List Frame) (e w : Tree) (k : Bool) → k ≡ is_case_mark x → settle k fs e ≡ record { frames = gs; tree = w } → kept_behind x fs e ≡ kept_closes x gs w
 unfolding kept_behind kept_closes

@@ -14,14 +14,14 @@ use Rattle.tla_exprs.specs.Does.{Does}
 use Rattle.tla_exprs.specs.Ended.{IsRead}
 use Rattle.tla_exprs.specs.Nesting.{deepest, unfinished}
 use Rattle.tla_exprs.specs.Refused.{ShallowIn, Refuses, ShallowUpTo, place_of, refusal_of, refusal_of_kind}
-use Rattle.tla_exprs.proofs.Paths.{Path}
+use Rattle.reader_model.proofs.Paths.{Path}
 use Rattle.tla_exprs.proofs.ShallowRuns.{shallow_on, shallow_there}
-use Rattle.tla_exprs.specs.Machine.{Stepped, Reads, Stops, Clashes, Ends, EndsDefinition, StopsAt, after, run, step}
+use Rattle.reader_model.specs.Machine.{Stepped, Reads, Stops, Clashes, Ends, EndsDefinition, StopsAt, after, run, step}
 use Rattle.tla_exprs.specs.declared.fault.ParseFault.{ParseFault}
 use Rattle.tla_exprs.specs.declared.fault.ParseFault.TheVariants as faults
 use Rattle.tla_exprs.specs.Kept.{kept_step, kept_run}
-use Rattle.tla_exprs.specs.declared.frame.Frame.{Frame}
-use Rattle.tla_exprs.specs.declared.frame.Mode.{Mode}
+use Rattle.reader_model.specs.declared.frame.Frame.{Frame}
+use Rattle.reader_model.specs.declared.frame.Mode.{Mode}
 use Rattle.tla_exprs.specs.declared.reader.Ended.TheVariants as ended
 use Rattle.tla_exprs.specs.declared.stepped.Stepped as code
 use Rattle.tla_exprs.specs.declared.stepped.Stepped.TheVariants as codes

@@ -7,7 +7,7 @@ use Rattle.std.specs.Cmp.Lexicographic.{pointwise}
 use Rattle.tla_ast.specs.declared.expr.Field.{Field}
 use Rattle.tla_ast.specs.Trees.{Fields, NoFields, MoreFields}
 use Rattle.tla_ast.specs.TreeViews.{fields_from, fields_of}
-use Rattle.tla_exprs.specs.Machine.{has_field}
+use Rattle.reader_model.specs.Machine.{has_field}
 use Rattle.tla_exprs.specs.FieldNames.{names_one}
 
 or_none : (a : Bool) → a ≡ (a || false)

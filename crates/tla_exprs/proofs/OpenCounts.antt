@@ -2,15 +2,15 @@
 use Rattle.std.proofs.Common.{◌≡◌, ℕ, ◌≤◌, Bool, List, [], ◌∷◌, ◌++◌, refl, sym, ap, subst, ◌∙◌, arith}
 use Rattle.std.proofs.lemmas.List.{append-nil}
 use Rattle.tla_ast.specs.declared.laid.Laid.{Laid}
-use Rattle.tla_exprs.specs.Machine.{StopsAt, run}
+use Rattle.reader_model.specs.Machine.{StopsAt, run}
 use Rattle.tla_exprs.specs.Nesting.{AreOpen, IsShallow, AreShallow, deepest, unfinished}
 use Rattle.tla_exprs.specs.Refused.{ShallowIn}
-use Rattle.tla_exprs.specs.declared.frame.Frame.{Frame}
-use Rattle.tla_exprs.specs.declared.frame.Mode.{Mode}
+use Rattle.reader_model.specs.declared.frame.Frame.{Frame}
+use Rattle.reader_model.specs.declared.frame.Mode.{Mode}
 use Rattle.tla_exprs.proofs.Counting.{Within, counter, count_least}
-use Rattle.tla_exprs.proofs.FittingEnds.{first_mode, first_state, path_state, State}
-use Rattle.tla_exprs.proofs.Paths.{Path, All, all_read}
-use Rattle.tla_exprs.proofs.Runner as runner
+use Rattle.reader_model.proofs.FittingEnds.{first_mode, first_state, path_state, State}
+use Rattle.reader_model.proofs.Paths.{Path, All, all_read}
+use Rattle.reader_model.proofs.Runner as runner
 use Rattle.tla_exprs.proofs.ShallowRuns.{shallow_on, shallow_there}
 
 -- a path through a state behind some of its tokens

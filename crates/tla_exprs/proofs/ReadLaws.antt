@@ -8,14 +8,14 @@ use Rattle.tla_ast.specs.Grammar.{◌⨟◌, token, DefinitionRest}
 use Rattle.tla_ast.specs.Trees.{Tree}
 use Rattle.tla_exprs.specs.Kept.{kept_run}
 use Rattle.tla_exprs.specs.Ended.{IsRead}
-use Rattle.tla_exprs.specs.declared.frame.Mode.{Mode}
-use Rattle.tla_exprs.specs.declared.frame.Mode.TheVariants as mode
-use Rattle.tla_exprs.specs.declared.frame.Scope.TheVariants as scopes
+use Rattle.reader_model.specs.declared.frame.Mode.{Mode}
+use Rattle.reader_model.specs.declared.frame.Mode.TheVariants as mode
+use Rattle.reader_model.specs.declared.frame.Scope.TheVariants as scopes
 use Rattle.tla_exprs.specs.declared.reader.Ended.{Ended}
 use Rattle.tla_exprs.specs.declared.reader.Ended.TheVariants as ended
-use Rattle.tla_exprs.proofs.Reading.{read_spells, definition_spells}
+use Rattle.reader_model.proofs.Reading.{read_spells, definition_spells}
 use Rattle.tla_exprs.proofs.Ahead.{expression_ahead, definition_ahead}
-use Rattle.tla_exprs.proofs.NoUnits.{no_definition, no_expression}
+use Rattle.reader_model.proofs.NoUnits.{no_definition, no_expression}
 
 spelled : (laid : List Laid) (from i : ℕ) (e : Tree) → IsRead laid from mode.Want (ended.Expression e i) → Spells e (drop from laid) (drop i laid)
 unfolding kept_run

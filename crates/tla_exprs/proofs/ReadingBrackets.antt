@@ -9,21 +9,21 @@ use Rattle.tla_ast.specs.declared.token.Symbol.TheVariants as symbols
 use Rattle.tla_ast.specs.Fits.{Fits, AllFit, StepsFit, BoundsFit, FieldsFit, ChangesFit}
 use Rattle.tla_ast.specs.Grammar.{IsPath, IsNew, AreOnce}
 use Rattle.tla_ast.specs.Trees.{Tree, Trees, NoTrees, Steps, NoSteps, MoreSteps, Bounds, Fields, Changes, NoChanges}
-use Rattle.tla_exprs.specs.declared.frame.Action.TheVariants as actions
-use Rattle.tla_exprs.specs.declared.frame.RecordKind.{RecordKind}
-use Rattle.tla_exprs.specs.declared.frame.Frame.{Frame}
-use Rattle.tla_exprs.specs.declared.frame.Frame.TheVariants as frame
-use Rattle.tla_exprs.specs.declared.frame.Mode.TheVariants as mode
-use Rattle.tla_exprs.specs.Machine.{Reads, Stops, is_subscript, want}
-use Rattle.tla_exprs.specs.OpenFits.{AreKeys}
-use Rattle.tla_exprs.specs.OpenRows.{FrameText, ModeText}
-use Rattle.tla_exprs.proofs.Runner.{Runner, after, run}
-use Rattle.tla_exprs.proofs.RunsStarts.{opened}
-use Rattle.tla_exprs.proofs.RunsParts.{plain, part, commas}
-use Rattle.tla_exprs.proofs.RunsSteps as steps
-use Rattle.tla_exprs.proofs.RunsBrackets.{first_in_brackets, function_bounds, fields_state, field_begins, fields_before}
-use Rattle.tla_exprs.proofs.RunsTrees.{good, all_good, bounds_good, fields_good, changes_good, steps_good}
-use Rattle.tla_exprs.proofs.RunsTuples.{starts}
+use Rattle.reader_model.specs.declared.frame.Action.TheVariants as actions
+use Rattle.reader_model.specs.declared.frame.RecordKind.{RecordKind}
+use Rattle.reader_model.specs.declared.frame.Frame.{Frame}
+use Rattle.reader_model.specs.declared.frame.Frame.TheVariants as frame
+use Rattle.reader_model.specs.declared.frame.Mode.TheVariants as mode
+use Rattle.reader_model.specs.Machine.{Reads, Stops, is_subscript, want}
+use Rattle.reader_model.specs.OpenFits.{AreKeys}
+use Rattle.reader_model.specs.OpenRows.{FrameText, ModeText}
+use Rattle.reader_model.proofs.Runner.{Runner, after, run}
+use Rattle.reader_model.proofs.RunsStarts.{opened}
+use Rattle.reader_model.proofs.RunsParts.{plain, part, commas}
+use Rattle.reader_model.proofs.RunsSteps as steps
+use Rattle.reader_model.proofs.RunsBrackets.{first_in_brackets, function_bounds, fields_state, field_begins, fields_before}
+use Rattle.reader_model.proofs.RunsTrees.{good, all_good, bounds_good, fields_good, changes_good, steps_good}
+use Rattle.reader_model.proofs.RunsTuples.{starts}
 
 keys : (ss : Steps) → AreKeys ss → steps.AreKeys ss
 keys NoSteps h = tt

@@ -13,27 +13,27 @@ use Rattle.tla_ast.specs.Fits.{LeftAbove}
 use Rattle.tla_ast.specs.Grammar.{Text, begins_member}
 use Rattle.tla_ast.specs.Trees as tree
 use Rattle.tla_ast.specs.Trees.{Tree, Trees, NoTrees, MoreTrees, Arms, NoArms, MoreArms}
-use Rattle.tla_exprs.specs.declared.frame.Action.TheVariants as actions
-use Rattle.tla_exprs.specs.declared.frame.Binding.{Binding}
-use Rattle.tla_exprs.specs.declared.frame.Frame.{Frame}
-use Rattle.tla_exprs.specs.declared.frame.Frame.TheVariants as frame
-use Rattle.tla_exprs.specs.declared.frame.Mode.TheVariants as mode
-use Rattle.tla_exprs.specs.Machine.{is_subscript}
+use Rattle.reader_model.specs.declared.frame.Action.TheVariants as actions
+use Rattle.reader_model.specs.declared.frame.Binding.{Binding}
+use Rattle.reader_model.specs.declared.frame.Frame.{Frame}
+use Rattle.reader_model.specs.declared.frame.Frame.TheVariants as frame
+use Rattle.reader_model.specs.declared.frame.Mode.TheVariants as mode
+use Rattle.reader_model.specs.Machine.{is_subscript}
 use Rattle.tla_exprs.specs.Nesting.{of_binder, of_frames}
-use Rattle.tla_exprs.specs.OpenFits.{FrameStands, in_frame, IsOperand, FrameFits, Outermost}
-use Rattle.tla_exprs.specs.OpenRows.{FrameText}
-use Rattle.tla_exprs.proofs.Edges.{operand_left}
+use Rattle.reader_model.specs.OpenFits.{FrameStands, in_frame, IsOperand, FrameFits, Outermost}
+use Rattle.reader_model.specs.OpenRows.{FrameText}
+use Rattle.reader_model.proofs.Edges.{operand_left}
 use Rattle.tla_exprs.proofs.ReadingBrackets.{maybe_function_goes, function_body_goes, function_range_goes, record_goes, except_index_goes, except_value_goes, box_goes, angle_goes}
 use Rattle.tla_exprs.proofs.ReadingLike.{Like, is_row, one_row, ready, scope_stands, binder_stands, Stands}
 use Rattle.tla_exprs.proofs.ReadingRows.{call_goes, junction_goes, prefix_goes, index_goes, elements_go, brace_goes, maybe_filter_goes, filter_test_goes, tuple_goes, fair_body_goes}
 use Rattle.tla_exprs.proofs.ReadingScopes.{quantifier_open, form_goes, let_body_goes, bounds_state, SetRead, set_read, named_goes, binder_goes}
 use Rattle.tla_exprs.proofs.ReadingStarts.{Inner, Ready, top_all, Fresh, enter, enters_fresh, enters_by, enters_parenthesis, enters_tuple}
 use Rattle.tla_exprs.proofs.ReadingWords.{quantifier_goes, choose_set_goes, choose_body_goes, then_goes, else_goes, arms_go, case_value_goes, case_other_goes}
-use Rattle.tla_exprs.proofs.Runner.{Runner, run}
-use Rattle.tla_exprs.proofs.RunsBrackets.{is_special, special}
-use Rattle.tla_exprs.proofs.RunsCases.{arms_state}
-use Rattle.tla_exprs.proofs.RunsParts.{plain}
-use Rattle.tla_exprs.proofs.RunsStarts.{OpenKind, Clear, NamedKind, opened, named, prefix_open, prefix_named}
+use Rattle.reader_model.proofs.Runner.{Runner, run}
+use Rattle.reader_model.proofs.RunsBrackets.{is_special, special}
+use Rattle.reader_model.proofs.RunsCases.{arms_state}
+use Rattle.reader_model.proofs.RunsParts.{plain}
+use Rattle.reader_model.proofs.RunsStarts.{OpenKind, Clear, NamedKind, opened, named, prefix_open, prefix_named}
 
 pub ready_subscript : (unit : Bool) (fs : List Frame) → Ready unit fs → is_subscript fs ≡ false
 ready_subscript unit [] r = refl

@@ -5,18 +5,18 @@ use Rattle.tla_ast.specs.declared.operators.InfixOperator.{InfixOperator}
 use Rattle.tla_ast.specs.Precedence.{Range, Above, infix_range}
 use Rattle.tla_ast.specs.Fits.{FirstAbove}
 use Rattle.tla_ast.specs.Trees.{Operands}
-use Rattle.tla_exprs.specs.declared.frame.Scope.{Scope}
-use Rattle.tla_exprs.specs.declared.frame.Scope.TheVariants as scopes
-use Rattle.tla_exprs.specs.declared.frame.Binder.{Binder}
-use Rattle.tla_exprs.specs.declared.frame.Binder.TheVariants as binders
-use Rattle.tla_exprs.specs.declared.frame.Frame.{Frame}
-use Rattle.tla_exprs.specs.declared.frame.Frame.TheVariants as frame
-use Rattle.tla_exprs.specs.declared.frame.Mode.TheVariants as mode
+use Rattle.reader_model.specs.declared.frame.Scope.{Scope}
+use Rattle.reader_model.specs.declared.frame.Scope.TheVariants as scopes
+use Rattle.reader_model.specs.declared.frame.Binder.{Binder}
+use Rattle.reader_model.specs.declared.frame.Binder.TheVariants as binders
+use Rattle.reader_model.specs.declared.frame.Frame.{Frame}
+use Rattle.reader_model.specs.declared.frame.Frame.TheVariants as frame
+use Rattle.reader_model.specs.declared.frame.Mode.TheVariants as mode
 use Rattle.tla_exprs.specs.Nesting.{of_frames}
-use Rattle.tla_exprs.specs.OpenFits.{Open, in_binder, in_mode, Top, ScopeFits, BinderFits, Outermost}
+use Rattle.reader_model.specs.OpenFits.{Open, in_binder, in_mode, Top, ScopeFits, BinderFits, Outermost}
 use Rattle.tla_exprs.proofs.ReadingScopes.{ScopeStands, BinderStands}
 use Rattle.tla_exprs.proofs.ReadingStarts.{Inner, Ready, is_ready, enter}
-use Rattle.tla_exprs.proofs.Runner.{Runner}
+use Rattle.reader_model.proofs.Runner.{Runner}
 
 -- a chain may stand in the innermost row
 abbrev pub Chains : List Frame → InfixOperator → Operands → Type 0

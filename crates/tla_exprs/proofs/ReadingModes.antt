@@ -11,24 +11,24 @@ use Rattle.tla_ast.specs.declared.token.Symbol.TheVariants as symbols
 use Rattle.tla_ast.specs.Fits.{LeftAbove}
 use Rattle.tla_ast.specs.Grammar.{NamesBefore, NamesText, IsNew}
 use Rattle.tla_ast.specs.Trees.{NoTrees, MoreTrees, Bounds, NoBounds, MoreBounds, Fields, NoFields, MoreFields, NoArms, MoreArms, Definitions, NoDefinitions, MoreDefinitions}
-use Rattle.tla_exprs.specs.declared.frame.Action.TheVariants as actions
-use Rattle.tla_exprs.specs.declared.frame.Binder.{Binder}
-use Rattle.tla_exprs.specs.declared.frame.Binder.TheVariants as binders
-use Rattle.tla_exprs.specs.declared.frame.Form.{Form}
-use Rattle.tla_exprs.specs.declared.frame.Form.TheVariants as forms
-use Rattle.tla_exprs.specs.declared.frame.Scope.{Scope}
-use Rattle.tla_exprs.specs.declared.frame.Scope.TheVariants as scopes
-use Rattle.tla_exprs.specs.declared.frame.RecordKind.{RecordKind}
-use Rattle.tla_exprs.specs.declared.frame.Frame.{Frame}
-use Rattle.tla_exprs.specs.declared.frame.Frame.TheVariants as frame
-use Rattle.tla_exprs.specs.declared.frame.Mode.{Mode}
-use Rattle.tla_exprs.specs.declared.frame.Mode.TheVariants as mode
-use Rattle.tla_exprs.specs.Machine.{Reads, Stops}
+use Rattle.reader_model.specs.declared.frame.Action.TheVariants as actions
+use Rattle.reader_model.specs.declared.frame.Binder.{Binder}
+use Rattle.reader_model.specs.declared.frame.Binder.TheVariants as binders
+use Rattle.reader_model.specs.declared.frame.Form.{Form}
+use Rattle.reader_model.specs.declared.frame.Form.TheVariants as forms
+use Rattle.reader_model.specs.declared.frame.Scope.{Scope}
+use Rattle.reader_model.specs.declared.frame.Scope.TheVariants as scopes
+use Rattle.reader_model.specs.declared.frame.RecordKind.{RecordKind}
+use Rattle.reader_model.specs.declared.frame.Frame.{Frame}
+use Rattle.reader_model.specs.declared.frame.Frame.TheVariants as frame
+use Rattle.reader_model.specs.declared.frame.Mode.{Mode}
+use Rattle.reader_model.specs.declared.frame.Mode.TheVariants as mode
+use Rattle.reader_model.specs.Machine.{Reads, Stops}
 use Rattle.tla_exprs.specs.Nesting.{of_mode, unfinished}
-use Rattle.tla_exprs.specs.OpenFits.{ModeStands, in_mode, ModeFits, Outermost}
-use Rattle.tla_exprs.specs.OpenRows.{ModeText}
-use Rattle.tla_exprs.proofs.Edges.{operand_left}
-use Rattle.tla_exprs.proofs.FittingEnds.{first_mode}
+use Rattle.reader_model.specs.OpenFits.{ModeStands, in_mode, ModeFits, Outermost}
+use Rattle.reader_model.specs.OpenRows.{ModeText}
+use Rattle.reader_model.proofs.Edges.{operand_left}
+use Rattle.reader_model.proofs.FittingEnds.{first_mode}
 use Rattle.tla_exprs.proofs.ReadingBrackets.{fields_go, except_mark_goes, path_goes, box_goes, angle_goes}
 use Rattle.tla_exprs.proofs.ReadingFrames.{ready_subscript, operand_fresh}
 use Rattle.tla_exprs.proofs.ReadingLike.{Like, ready, scope_stands, binder_stands}
@@ -36,11 +36,11 @@ use Rattle.tla_exprs.proofs.ReadingRows.{operand_goes, fair_open_goes}
 use Rattle.tla_exprs.proofs.ReadingScopes.{ScopeStands, form_mode, form_read, bound_names_before, bound_names, parameters_before, parameters, bounds_state, named_goes, binder_goes}
 use Rattle.tla_exprs.proofs.ReadingStarts.{Ready, top_all, Fresh, enter, enters_fresh, enters_by, enters_tuple}
 use Rattle.tla_exprs.proofs.ReadingWords.{choose_named_goes, case_next_goes, other_goes}
-use Rattle.tla_exprs.proofs.Runner.{Runner, after, run}
-use Rattle.tla_exprs.proofs.RunsBounds.{binding}
-use Rattle.tla_exprs.proofs.RunsBrackets.{is_special, fields_state, new_field}
-use Rattle.tla_exprs.proofs.RunsParts.{plain}
-use Rattle.tla_exprs.proofs.RunsStarts.{OpenKind, Clear}
+use Rattle.reader_model.proofs.Runner.{Runner, after, run}
+use Rattle.reader_model.proofs.RunsBounds.{binding}
+use Rattle.reader_model.proofs.RunsBrackets.{is_special, fields_state, new_field}
+use Rattle.reader_model.proofs.RunsParts.{plain}
+use Rattle.reader_model.proofs.RunsStarts.{OpenKind, Clear}
 
 module _ (reader : Runner) where
   -- what was told is told at the end, where no more is unfinished than where this is expected in these rows

@@ -10,24 +10,24 @@ use Rattle.tla_ast.specs.Fits.{FirstAbove, ChainFits}
 use Rattle.tla_ast.specs.Grammar.{first_begins}
 use Rattle.tla_ast.specs.Trees as tree
 use Rattle.tla_ast.specs.Trees.{NoTrees, MoreTrees, Operands, First, Next}
-use Rattle.tla_exprs.specs.declared.frame.Frame.{Frame}
-use Rattle.tla_exprs.specs.declared.frame.Frame.TheVariants as frame
-use Rattle.tla_exprs.specs.declared.frame.Mode.TheVariants as mode
+use Rattle.reader_model.specs.declared.frame.Frame.{Frame}
+use Rattle.reader_model.specs.declared.frame.Frame.TheVariants as frame
+use Rattle.reader_model.specs.declared.frame.Mode.TheVariants as mode
 use Rattle.tla_exprs.specs.Nesting.{of_frame, of_frames}
-use Rattle.tla_exprs.specs.OpenFits.{FrameStands, FramesStand, Open, in_frame, FrameFits, FramesFit, Outermost}
-use Rattle.tla_exprs.specs.OpenRows.{FrameText, FramesText}
-use Rattle.tla_exprs.proofs.FittingEnds.{first_mode}
+use Rattle.reader_model.specs.OpenFits.{FrameStands, FramesStand, Open, in_frame, FrameFits, FramesFit, Outermost}
+use Rattle.reader_model.specs.OpenRows.{FrameText, FramesText}
+use Rattle.reader_model.proofs.FittingEnds.{first_mode}
 use Rattle.tla_exprs.proofs.ReadingFrames.{kept, frame_goes}
 use Rattle.tla_exprs.proofs.ReadingLike.{Chains, Like, no_rows, is_row, ready, Stands}
 use Rattle.tla_exprs.proofs.ReadingRows.{infix_goes}
 use Rattle.tla_exprs.proofs.ReadingStarts.{Ready, ready_top, is_naming, enter, enters}
-use Rattle.tla_exprs.proofs.Runner.{Runner, run}
-use Rattle.tla_exprs.proofs.RunsBrackets.{is_special, special}
-use Rattle.tla_exprs.proofs.RunsJoin.{direct, chain_begun, ChainBegun, meets_without, chain_without}
-use Rattle.tla_exprs.proofs.RunsParts.{without_first}
-use Rattle.tla_exprs.proofs.RunsPlain.{chain_meets, chain_runs}
-use Rattle.tla_exprs.proofs.RunsStarts.{chain_opened, chain_named}
-use Rattle.tla_exprs.proofs.RunsTrees.{chain_good}
+use Rattle.reader_model.proofs.Runner.{Runner, run}
+use Rattle.reader_model.proofs.RunsBrackets.{is_special, special}
+use Rattle.reader_model.proofs.RunsJoin.{direct, chain_begun, ChainBegun, meets_without, chain_without}
+use Rattle.reader_model.proofs.RunsParts.{without_first}
+use Rattle.reader_model.proofs.RunsPlain.{chain_meets, chain_runs}
+use Rattle.reader_model.proofs.RunsStarts.{chain_opened, chain_named}
+use Rattle.reader_model.proofs.RunsTrees.{chain_good}
 
 not_naming : false ≡ true → ⊥
 not_naming q = cc

@@ -11,19 +11,19 @@ use Rattle.tla_ast.specs.Fits.{FirstAbove, LeftAbove, Fits, AllFit, ChainFits}
 use Rattle.tla_ast.specs.Grammar.{◌⨟◌, Text, CommasBefore, IsSubscript, token}
 use Rattle.tla_ast.specs.Trees as tree
 use Rattle.tla_ast.specs.Trees.{Tree, Trees, NoTrees, MoreTrees, Operands, Bounds, Arms, NoArms, MoreArms}
-use Rattle.tla_exprs.specs.declared.frame.Frame.{Frame}
-use Rattle.tla_exprs.specs.declared.frame.Frame.TheVariants as frame
-use Rattle.tla_exprs.specs.declared.frame.Mode.TheVariants as mode
-use Rattle.tla_exprs.specs.OpenFits.{IsOperand}
-use Rattle.tla_exprs.specs.OpenRows.{FrameText}
-use Rattle.tla_exprs.proofs.Runner.{Runner, after, run}
-use Rattle.tla_exprs.proofs.RunsEdges.{spine, last, Top}
-use Rattle.tla_exprs.proofs.RunsStarts.{opened}
-use Rattle.tla_exprs.proofs.RunsParts.{plain, part, commas}
-use Rattle.tla_exprs.proofs.RunsPlain.{prefix_begins, chain_meets, chain_runs, items}
-use Rattle.tla_exprs.proofs.RunsBraces.{elements}
-use Rattle.tla_exprs.proofs.RunsTrees.{good, all_good, all_run, chain_good}
-use Rattle.tla_exprs.proofs.RunsTuples.{starts, list_opened, fair_subscript}
+use Rattle.reader_model.specs.declared.frame.Frame.{Frame}
+use Rattle.reader_model.specs.declared.frame.Frame.TheVariants as frame
+use Rattle.reader_model.specs.declared.frame.Mode.TheVariants as mode
+use Rattle.reader_model.specs.OpenFits.{IsOperand}
+use Rattle.reader_model.specs.OpenRows.{FrameText}
+use Rattle.reader_model.proofs.Runner.{Runner, after, run}
+use Rattle.reader_model.proofs.RunsEdges.{spine, last, Top}
+use Rattle.reader_model.proofs.RunsStarts.{opened}
+use Rattle.reader_model.proofs.RunsParts.{plain, part, commas}
+use Rattle.reader_model.proofs.RunsPlain.{prefix_begins, chain_meets, chain_runs, items}
+use Rattle.reader_model.proofs.RunsBraces.{elements}
+use Rattle.reader_model.proofs.RunsTrees.{good, all_good, all_run, chain_good}
+use Rattle.reader_model.proofs.RunsTuples.{starts, list_opened, fair_subscript}
 
 -- ---- an operand ends with itself
 

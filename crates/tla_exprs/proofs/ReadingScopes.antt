@@ -12,29 +12,29 @@ use Rattle.tla_ast.specs.Precedence.{quantifier_symbol}
 use Rattle.tla_ast.specs.Fits.{Fits, BoundsFit, DefinitionsFit}
 use Rattle.tla_ast.specs.Grammar.{◌⨟◌, token, sign, NamesBefore, NamesText, BoundsBefore, begins_member}
 use Rattle.tla_ast.specs.Trees.{NoTrees, Bounds, NoBounds, MoreBounds, Definitions, NoDefinitions, MoreDefinitions}
-use Rattle.tla_exprs.specs.declared.frame.Scope.{Scope}
-use Rattle.tla_exprs.specs.declared.frame.Scope.TheVariants as scopes
-use Rattle.tla_exprs.specs.declared.frame.Form.{Form}
-use Rattle.tla_exprs.specs.declared.frame.Form.TheVariants as forms
-use Rattle.tla_exprs.specs.declared.frame.Binder.{Binder}
-use Rattle.tla_exprs.specs.declared.frame.Binder.TheVariants as binders
-use Rattle.tla_exprs.specs.declared.frame.Frame.{Frame}
-use Rattle.tla_exprs.specs.declared.frame.Frame.TheVariants as frame
-use Rattle.tla_exprs.specs.declared.frame.Mode.{Mode}
-use Rattle.tla_exprs.specs.declared.frame.Mode.TheVariants as mode
-use Rattle.tla_exprs.specs.Machine.{Reads, Stops, begin_binding, step}
-use Rattle.tla_exprs.specs.OpenFits.{FormFits}
-use Rattle.tla_exprs.specs.OpenRows.{ScopeText, FormText, BinderText, FrameText}
-use Rattle.tla_exprs.proofs.FittingEnds.{first_mode}
+use Rattle.reader_model.specs.declared.frame.Scope.{Scope}
+use Rattle.reader_model.specs.declared.frame.Scope.TheVariants as scopes
+use Rattle.reader_model.specs.declared.frame.Form.{Form}
+use Rattle.reader_model.specs.declared.frame.Form.TheVariants as forms
+use Rattle.reader_model.specs.declared.frame.Binder.{Binder}
+use Rattle.reader_model.specs.declared.frame.Binder.TheVariants as binders
+use Rattle.reader_model.specs.declared.frame.Frame.{Frame}
+use Rattle.reader_model.specs.declared.frame.Frame.TheVariants as frame
+use Rattle.reader_model.specs.declared.frame.Mode.{Mode}
+use Rattle.reader_model.specs.declared.frame.Mode.TheVariants as mode
+use Rattle.reader_model.specs.Machine.{Reads, Stops, begin_binding, step}
+use Rattle.reader_model.specs.OpenFits.{FormFits}
+use Rattle.reader_model.specs.OpenRows.{ScopeText, FormText, BinderText, FrameText}
+use Rattle.reader_model.proofs.FittingEnds.{first_mode}
 use Rattle.tla_exprs.proofs.ReadingStarts.{Ready, enter, enters_by}
-use Rattle.tla_exprs.proofs.Runner.{Runner, after, run}
-use Rattle.tla_exprs.proofs.RunsStarts.{is_closer, Clear}
-use Rattle.tla_exprs.proofs.RunsParts.{plain, part}
-use Rattle.tla_exprs.proofs.RunsBounds.{binding, quantifier_begins, names_run, bounds_before, bounds_run}
-use Rattle.tla_exprs.proofs.RunsBraces.{is_in, braces_start}
-use Rattle.tla_exprs.proofs.RunsBrackets as brackets
-use Rattle.tla_exprs.proofs.RunsDefinitions.{operator_begins, parameter_names, in_ends, definition_reads, definitions_run}
-use Rattle.tla_exprs.proofs.RunsTrees.{good, bounds_good, definitions_good}
+use Rattle.reader_model.proofs.Runner.{Runner, after, run}
+use Rattle.reader_model.proofs.RunsStarts.{is_closer, Clear}
+use Rattle.reader_model.proofs.RunsParts.{plain, part}
+use Rattle.reader_model.proofs.RunsBounds.{binding, quantifier_begins, names_run, bounds_before, bounds_run}
+use Rattle.reader_model.proofs.RunsBraces.{is_in, braces_start}
+use Rattle.reader_model.proofs.RunsBrackets as brackets
+use Rattle.reader_model.proofs.RunsDefinitions.{operator_begins, parameter_names, in_ends, definition_reads, definitions_run}
+use Rattle.reader_model.proofs.RunsTrees.{good, bounds_good, definitions_good}
 
 append_nil : (xs : List (List ℕ)) → xs ++ [] ≡ xs
 append_nil [] = refl

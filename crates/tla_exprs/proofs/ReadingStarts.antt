@@ -9,22 +9,22 @@ use Rattle.tla_ast.specs.declared.token.Symbol.{Symbol}
 use Rattle.tla_ast.specs.declared.token.Symbol.TheVariants as symbols
 use Rattle.tla_ast.specs.Precedence.{Range}
 use Rattle.tla_ast.specs.Trees.{NoTrees, MoreTrees, NoArms, MoreArms}
-use Rattle.tla_exprs.specs.declared.frame.Frame.{Frame}
-use Rattle.tla_exprs.specs.declared.frame.Frame.TheVariants as frame
-use Rattle.tla_exprs.specs.declared.frame.Mode.TheVariants as mode
-use Rattle.tla_exprs.proofs.FittingEnds.{first_mode}
-use Rattle.tla_exprs.specs.OpenFits as opened
-use Rattle.tla_exprs.specs.OpenFits.{Open}
-use Rattle.tla_exprs.proofs.Runner.{Runner, run}
-use Rattle.tla_exprs.proofs.RunsBraces as braces
-use Rattle.tla_exprs.proofs.RunsBraces.{is_in}
-use Rattle.tla_exprs.proofs.RunsBrackets as brackets
-use Rattle.tla_exprs.proofs.RunsBrackets.{is_special}
-use Rattle.tla_exprs.proofs.RunsCases as cases
-use Rattle.tla_exprs.proofs.RunsEdges.{Top}
-use Rattle.tla_exprs.proofs.RunsParts.{plain}
-use Rattle.tla_exprs.proofs.RunsStarts.{OpenKind, Opened, SecondKind, Clear, NamedKind, Named}
-use Rattle.tla_exprs.proofs.RunsTuples as tuples
+use Rattle.reader_model.specs.declared.frame.Frame.{Frame}
+use Rattle.reader_model.specs.declared.frame.Frame.TheVariants as frame
+use Rattle.reader_model.specs.declared.frame.Mode.TheVariants as mode
+use Rattle.reader_model.proofs.FittingEnds.{first_mode}
+use Rattle.reader_model.specs.OpenFits as opened
+use Rattle.reader_model.specs.OpenFits.{Open}
+use Rattle.reader_model.proofs.Runner.{Runner, run}
+use Rattle.reader_model.proofs.RunsBraces as braces
+use Rattle.reader_model.proofs.RunsBraces.{is_in}
+use Rattle.reader_model.proofs.RunsBrackets as brackets
+use Rattle.reader_model.proofs.RunsBrackets.{is_special}
+use Rattle.reader_model.proofs.RunsCases as cases
+use Rattle.reader_model.proofs.RunsEdges.{Top}
+use Rattle.reader_model.proofs.RunsParts.{plain}
+use Rattle.reader_model.proofs.RunsStarts.{OpenKind, Opened, SecondKind, Clear, NamedKind, Named}
+use Rattle.reader_model.proofs.RunsTuples as tuples
 
 -- ---- what may stand in the innermost row
 

@@ -8,17 +8,17 @@ use Rattle.tla_ast.specs.declared.operators.Quantifier.{Quantifier}
 use Rattle.tla_ast.specs.Precedence.{quantifier_symbol}
 use Rattle.tla_ast.specs.Fits.{Fits, BoundsFit, ArmsBeforeFit}
 use Rattle.tla_ast.specs.Trees.{Tree, Bounds, Arms, NoArms, MoreArms}
-use Rattle.tla_exprs.specs.declared.frame.Binder.TheVariants as binders
-use Rattle.tla_exprs.specs.declared.frame.Frame.{Frame}
-use Rattle.tla_exprs.specs.declared.frame.Frame.TheVariants as frame
-use Rattle.tla_exprs.specs.declared.frame.Mode.TheVariants as mode
-use Rattle.tla_exprs.specs.OpenRows.{FrameText, ModeText}
-use Rattle.tla_exprs.proofs.Runner.{Runner, after, run}
-use Rattle.tla_exprs.proofs.RunsStarts.{opened}
-use Rattle.tla_exprs.proofs.RunsParts.{plain, part}
-use Rattle.tla_exprs.proofs.RunsBounds.{quantifier_begins, bounds_run}
-use Rattle.tla_exprs.proofs.RunsCases.{arms_state, test_starts, arms_before}
-use Rattle.tla_exprs.proofs.RunsTrees.{good, bounds_good, arms_before_good}
+use Rattle.reader_model.specs.declared.frame.Binder.TheVariants as binders
+use Rattle.reader_model.specs.declared.frame.Frame.{Frame}
+use Rattle.reader_model.specs.declared.frame.Frame.TheVariants as frame
+use Rattle.reader_model.specs.declared.frame.Mode.TheVariants as mode
+use Rattle.reader_model.specs.OpenRows.{FrameText, ModeText}
+use Rattle.reader_model.proofs.Runner.{Runner, after, run}
+use Rattle.reader_model.proofs.RunsStarts.{opened}
+use Rattle.reader_model.proofs.RunsParts.{plain, part}
+use Rattle.reader_model.proofs.RunsBounds.{quantifier_begins, bounds_run}
+use Rattle.reader_model.proofs.RunsCases.{arms_state, test_starts, arms_before}
+use Rattle.reader_model.proofs.RunsTrees.{good, bounds_good, arms_before_good}
 
 module _ (reader : Runner) where
   -- ---- quantifiers and CHOOSE

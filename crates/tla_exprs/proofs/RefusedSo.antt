@@ -7,32 +7,32 @@ use Rattle.tla_ast.specs.declared.laid.Laid.{Laid}
 use Rattle.tla_ast.specs.declared.expr.Definition.{Definition}
 use Rattle.tla_ast.specs.Begun.{Begun}
 use Rattle.tla_ast.specs.Trees.{Tree}
-use Rattle.tla_exprs.specs.Beginnings.{FittingBegun, BegunDefinition, FittingBegunDefinition}
+use Rattle.reader_model.specs.Beginnings.{FittingBegun, BegunDefinition, FittingBegunDefinition}
 use Rattle.tla_exprs.specs.declared.fault.ParseFault.{ParseFault}
 use Rattle.tla_exprs.specs.declared.fault.ParseFault.TheVariants.{Expected, Conflict, TooNested, OutOfProfile, NoMemory}
-use Rattle.tla_exprs.specs.declared.frame.Frame.{Frame}
-use Rattle.tla_exprs.specs.declared.frame.Mode.{Mode}
-use Rattle.tla_exprs.specs.declared.frame.Mode.TheVariants as mode
-use Rattle.tla_exprs.specs.declared.frame.Scope.TheVariants as scopes
+use Rattle.reader_model.specs.declared.frame.Frame.{Frame}
+use Rattle.reader_model.specs.declared.frame.Mode.{Mode}
+use Rattle.reader_model.specs.declared.frame.Mode.TheVariants as mode
+use Rattle.reader_model.specs.declared.frame.Scope.TheVariants as scopes
 use Rattle.tla_exprs.specs.declared.reader.Ended.{Ended}
 use Rattle.tla_exprs.specs.declared.reader.Ended.TheVariants as ended
 use Rattle.tla_exprs.specs.Ended.{IsRead, index_of}
 use Rattle.tla_exprs.specs.Kept.{kept_run}
-use Rattle.tla_exprs.specs.LawsOfRefusals.{RanFits, ClashedMeets}
-use Rattle.tla_exprs.specs.Machine.{Outcome, Stepped, Reads, Stops, Clashes, Ends, EndsDefinition, step, StopsAt, ClashesAt, EndsAt, EndsDefinitionAt, after, run}
-use Rattle.tla_exprs.specs.Meeting.{Meets}
+use Rattle.reader_model.specs.LawsOfRefusals.{RanFits, ClashedMeets}
+use Rattle.reader_model.specs.Machine.{Outcome, Stepped, Reads, Stops, Clashes, Ends, EndsDefinition, step, StopsAt, ClashesAt, EndsAt, EndsDefinitionAt, after, run}
+use Rattle.reader_model.specs.Meeting.{Meets}
 use Rattle.tla_exprs.specs.Nesting.{Shallow, ShallowDefinition}
 use Rattle.tla_exprs.specs.Refused.{ShallowIn, StopsBefore, EndsEarly, ClashesHere, NestsTooDeep, Refuses, ShallowUpTo}
 use Rattle.tla_exprs.specs.Refusals.{UpTo, CanNotFollow, EndsTooEarly, Conflicts, IsTooNested, IsRefused, GoesAsFar}
-use Rattle.tla_exprs.proofs.NoUnits.{no_definition, no_expression}
-use Rattle.tla_exprs.proofs.Paths.{All, all_read, read_before, rest_of}
-use Rattle.tla_exprs.proofs.RefusalsThere.{stopped_there, ends_there}
-use Rattle.tla_exprs.proofs.RefusalsBegun.{clashed_begun}
-use Rattle.tla_exprs.proofs.FittingEnds.{path_runs}
+use Rattle.reader_model.proofs.NoUnits.{no_definition, no_expression}
+use Rattle.reader_model.proofs.Paths.{All, all_read, read_before, rest_of}
+use Rattle.reader_model.proofs.RefusalsThere.{stopped_there, ends_there}
+use Rattle.reader_model.proofs.RefusalsBegun.{clashed_begun}
+use Rattle.reader_model.proofs.FittingEnds.{path_runs}
 use Rattle.tla_exprs.proofs.OpenCounts.{shallow_so, deep_so}
-use Rattle.tla_exprs.proofs.RefusalsClash.{clashed_there, ran_begun}
-use Rattle.tla_exprs.proofs.DefinitionBegins.{definition_ran, definition_clashed}
-use Rattle.tla_exprs.proofs.DefinitionGoes.{definition_stopped_there, definition_ends_there, definition_clashed_there}
+use Rattle.reader_model.proofs.RefusalsClash.{clashed_there, ran_begun}
+use Rattle.reader_model.proofs.DefinitionBegins.{definition_ran, definition_clashed}
+use Rattle.reader_model.proofs.DefinitionGoes.{definition_stopped_there, definition_ends_there, definition_clashed_there}
 
 -- ---- texts of one kind
 

@@ -1,8 +1,8 @@
 -- What one answer is, at another description of the same.
 use Rattle.std.proofs.Common.{◌≡◌, List, IfOk, Result, Ok, Err, sym, subst}
-use Rattle.tla_exprs.specs.Machine as machine
+use Rattle.reader_model.specs.Machine as machine
 use Rattle.tla_exprs.specs.Does.{Does}
-use Rattle.tla_exprs.specs.declared.frame.Frame.{Frame}
+use Rattle.reader_model.specs.declared.frame.Frame.{Frame}
 use Rattle.tla_exprs.specs.declared.stepped.Stepped.{Stepped}
 
 pub does_same : {E : Type 0} (r : Result Stepped E) (fs : List Frame) (a b : machine.Stepped) → a ≡ b → IfOk r (λ s. Does s fs b) → IfOk r (λ s. Does s fs a)

@@ -1,12 +1,12 @@
 -- The counts of the states that the reader goes through.
 use Rattle.std.proofs.Common.{◌≤◌, List, [], ◌∷◌, ◌++◌, sym, subst}
 use Rattle.tla_ast.specs.declared.laid.Laid.{Laid}
-use Rattle.tla_exprs.specs.Machine.{Stepped, Reads, Stops, Clashes, Ends, EndsDefinition, step}
+use Rattle.reader_model.specs.Machine.{Stepped, Reads, Stops, Clashes, Ends, EndsDefinition, step}
 use Rattle.tla_exprs.specs.Nesting.{deepest, unfinished}
 use Rattle.tla_exprs.specs.Refused.{ShallowBehind, ShallowIn}
-use Rattle.tla_exprs.specs.declared.frame.Frame.{Frame}
-use Rattle.tla_exprs.specs.declared.frame.Mode.{Mode}
-use Rattle.tla_exprs.proofs.Paths.{Path}
+use Rattle.reader_model.specs.declared.frame.Frame.{Frame}
+use Rattle.reader_model.specs.declared.frame.Mode.{Mode}
+use Rattle.reader_model.proofs.Paths.{Path}
 
 nothing_behind : (s : Stepped) → ShallowBehind s (λ gs n. ShallowIn gs n [])
 nothing_behind (Reads fs m) = tt

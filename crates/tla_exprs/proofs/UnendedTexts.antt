@@ -12,28 +12,28 @@ use Rattle.tla_ast.specs.Trees as tree
 use Rattle.tla_ast.specs.Trees.{Tree, Bounds, NoBounds, MoreBounds}
 use Rattle.tla_exprs.specs.declared.fault.ParseFault.{ParseFault}
 use Rattle.tla_exprs.specs.declared.fault.ParseFault.TheVariants.{Expected, Conflict, TooNested, OutOfProfile, NoMemory}
-use Rattle.tla_exprs.specs.declared.frame.Scope.TheVariants as scopes
-use Rattle.tla_exprs.specs.declared.frame.Binder.TheVariants as binders
-use Rattle.tla_exprs.specs.declared.frame.Binding.{Binding}
-use Rattle.tla_exprs.specs.declared.frame.Form.{Form}
-use Rattle.tla_exprs.specs.declared.frame.Form.TheVariants as forms
-use Rattle.tla_exprs.specs.declared.frame.Frame.{Frame}
-use Rattle.tla_exprs.specs.declared.frame.Frame.TheVariants as frame
-use Rattle.tla_exprs.specs.declared.frame.Mode.TheVariants as mode
-use Rattle.tla_exprs.specs.Beginnings.{DefinitionText}
+use Rattle.reader_model.specs.declared.frame.Scope.TheVariants as scopes
+use Rattle.reader_model.specs.declared.frame.Binder.TheVariants as binders
+use Rattle.reader_model.specs.declared.frame.Binding.{Binding}
+use Rattle.reader_model.specs.declared.frame.Form.{Form}
+use Rattle.reader_model.specs.declared.frame.Form.TheVariants as forms
+use Rattle.reader_model.specs.declared.frame.Frame.{Frame}
+use Rattle.reader_model.specs.declared.frame.Frame.TheVariants as frame
+use Rattle.reader_model.specs.declared.frame.Mode.TheVariants as mode
+use Rattle.reader_model.specs.Beginnings.{DefinitionText}
 use Rattle.tla_exprs.specs.Kept.{kept_run}
-use Rattle.tla_exprs.specs.LawsOfTrees.{EndsText}
-use Rattle.tla_exprs.specs.Machine.{Outcome, StopsAt, ClashesAt, EndsAt, EndsDefinitionAt, closes, after, run}
+use Rattle.reader_model.specs.LawsOfTrees.{EndsText}
+use Rattle.reader_model.specs.Machine.{Outcome, StopsAt, ClashesAt, EndsAt, EndsDefinitionAt, closes, after, run}
 use Rattle.tla_exprs.specs.Refused.{Refuses}
 use Rattle.tla_exprs.specs.Unended.{EndedText, EndedDefinition, NoneEnds, IsUnended}
-use Rattle.tla_exprs.proofs.DefinitionRuns.{Alike, alike, continued, run_over, operator_begins}
-use Rattle.tla_exprs.proofs.DefinitionSteps.{Waits}
-use Rattle.tla_exprs.proofs.ExtentEnds.{Closes, ends_close, local_text, local_definition}
-use Rattle.tla_exprs.proofs.Flat as flat
-use Rattle.tla_exprs.proofs.FlatGoes.{part}
-use Rattle.tla_exprs.proofs.FlatTrees.{good}
-use Rattle.tla_exprs.proofs.Modelled.{names_run}
-use Rattle.tla_exprs.proofs.RunsParts.{plain}
+use Rattle.reader_model.proofs.DefinitionRuns.{Alike, alike, continued, run_over, operator_begins}
+use Rattle.reader_model.proofs.DefinitionSteps.{Waits}
+use Rattle.reader_model.proofs.ExtentEnds.{Closes, ends_close, local_text, local_definition}
+use Rattle.reader_model.proofs.Flat as flat
+use Rattle.reader_model.proofs.FlatGoes.{part}
+use Rattle.reader_model.proofs.FlatTrees.{good}
+use Rattle.reader_model.proofs.Modelled.{names_run}
+use Rattle.reader_model.proofs.RunsParts.{plain}
 
 -- ---- what is proved
 

@@ -3,8 +3,8 @@ use Rattle.std.specs.Prelude.{◌≡◌, List, reverse}
 use Rattle.tla_ast.specs.Trees.{Tree, Operands}
 use Rattle.tla_ast.specs.TreeViews.{operands_of}
 use Rattle.tla_ast.specs.declared.expr.Operand.{Operand}
-use Rattle.tla_exprs.specs.Machine as machine
-use Rattle.tla_exprs.specs.declared.frame.Frame.{Frame}
+use Rattle.reader_model.specs.Machine as machine
+use Rattle.reader_model.specs.declared.frame.Frame.{Frame}
 use Rattle.tla_exprs.specs.declared.counted.Stack.{Stack}
 use Rattle.tla_exprs.specs.declared.stepped.Stepped.{Stepped}
 use Rattle.tla_exprs.specs.declared.stepped.Stepped.TheVariants.{Reads, Stops, Clashes, Ends, EndsDefinition}

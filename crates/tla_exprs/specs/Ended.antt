@@ -1,10 +1,10 @@
 -- What was read of laid tokens from an index on, by the reader from a start.
 use Rattle.std.specs.Prelude.{◌≡◌, ℕ, ◌<◌, List, [], length, drop}
 use Rattle.tla_ast.specs.declared.laid.Laid.{Laid}
-use Rattle.tla_exprs.specs.Machine.{EndsAt, EndsDefinitionAt}
+use Rattle.reader_model.specs.Machine.{EndsAt, EndsDefinitionAt}
 use Rattle.tla_exprs.specs.Kept.{kept_run}
 use Rattle.tla_exprs.specs.Refused.{ShallowUpTo}
-use Rattle.tla_exprs.specs.declared.frame.Mode.{Mode}
+use Rattle.reader_model.specs.declared.frame.Mode.{Mode}
 use Rattle.tla_exprs.specs.declared.reader.Ended.{Ended}
 use Rattle.tla_exprs.specs.declared.reader.Ended.TheVariants.{Expression, Definition}
 

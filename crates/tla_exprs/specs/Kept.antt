@@ -4,9 +4,9 @@ use Rattle.tla_ast.specs.declared.laid.Laid.{Laid}
 use Rattle.tla_ast.specs.Trees.{Tree}
 use Rattle.trace_base.specs.declared.place.Place.{Place}
 use Rattle.tla_ast.specs.declared.token.Kind.{Kind}
-use Rattle.tla_exprs.specs.Machine.{Stepped, Outcome, behind, closes, laid_closes, kind_closes, follows, step, run}
-use Rattle.tla_exprs.specs.declared.frame.Frame.{Frame}
-use Rattle.tla_exprs.specs.declared.frame.Mode.{Mode}
+use Rattle.reader_model.specs.Machine.{Stepped, Outcome, behind, closes, laid_closes, kind_closes, follows, step, run}
+use Rattle.reader_model.specs.declared.frame.Frame.{Frame}
+use Rattle.reader_model.specs.declared.frame.Mode.{Mode}
 
 -- what a token of that kind does to this frame, which waits
 unfoldable pub kept_kind_closes : Kind → Place → Frame → List Frame → Tree → Stepped

@@ -9,16 +9,16 @@
 use Rattle.std.specs.Prelude.{◌≡◌, ℕ, Bool, true, false, ◌+◌, ◌≤◌, List, [], ◌∷◌, ◌++◌}
 use Rattle.tla_ast.specs.declared.laid.Laid.{Laid}
 use Rattle.tla_ast.specs.Grammar.{◌⨟◌}
-use Rattle.tla_exprs.specs.declared.frame.Binder.{Binder}
-use Rattle.tla_exprs.specs.declared.frame.Binder.TheVariants as binders
-use Rattle.tla_exprs.specs.declared.frame.Frame.{Frame}
-use Rattle.tla_exprs.specs.declared.frame.Frame.TheVariants as frame
-use Rattle.tla_exprs.specs.declared.frame.Mode.{Mode}
-use Rattle.tla_exprs.specs.declared.frame.Mode.TheVariants as mode
-use Rattle.tla_exprs.specs.declared.frame.Scope.{Scope}
-use Rattle.tla_exprs.specs.declared.frame.Scope.TheVariants as scopes
-use Rattle.tla_exprs.specs.OpenFits.{FramesFit, FramesStand, ModeFits, ModeStands, Outermost, in_mode}
-use Rattle.tla_exprs.specs.OpenRows.{FramesText, ModeText}
+use Rattle.reader_model.specs.declared.frame.Binder.{Binder}
+use Rattle.reader_model.specs.declared.frame.Binder.TheVariants as binders
+use Rattle.reader_model.specs.declared.frame.Frame.{Frame}
+use Rattle.reader_model.specs.declared.frame.Frame.TheVariants as frame
+use Rattle.reader_model.specs.declared.frame.Mode.{Mode}
+use Rattle.reader_model.specs.declared.frame.Mode.TheVariants as mode
+use Rattle.reader_model.specs.declared.frame.Scope.{Scope}
+use Rattle.reader_model.specs.declared.frame.Scope.TheVariants as scopes
+use Rattle.reader_model.specs.OpenFits.{FramesFit, FramesStand, ModeFits, ModeStands, Outermost, in_mode}
+use Rattle.reader_model.specs.OpenRows.{FramesText, ModeText}
 
 -- the LET around a definition
 abbrev pub of_scope : Scope → ℕ

@@ -2,9 +2,9 @@
 use Rattle.std.specs.Prelude.{Bool, false}
 use Rattle.tla_ast.specs.declared.operators.InfixOperator.{InfixOperator}
 use Rattle.tla_ast.specs.Precedence.{prefix_range, infix_range}
-use Rattle.tla_exprs.specs.Machine.{above}
-use Rattle.tla_exprs.specs.declared.frame.Frame.{Frame}
-use Rattle.tla_exprs.specs.declared.frame.Frame.TheVariants as frame
+use Rattle.reader_model.specs.Machine.{above}
+use Rattle.reader_model.specs.declared.frame.Frame.{Frame}
+use Rattle.reader_model.specs.declared.frame.Frame.TheVariants as frame
 
 abbrev pub passes : InfixOperator → Frame → Bool
 passes q (frame.Prefix o p) = above (prefix_range o) (infix_range q)

@@ -5,13 +5,13 @@ use Rattle.tla_ast.specs.declared.laid.Laid.{Laid}
 use Rattle.tla_ast.specs.declared.laid.Laid.TheVariants.{Plain, ListOpen, ListItem, ListClose}
 use Rattle.tla_ast.specs.declared.token.Kind.{Kind}
 use Rattle.tla_ast.specs.declared.token.Kind.TheVariants as kinds
-use Rattle.tla_exprs.specs.Machine.{Stepped, Reads, Stops, Clashes, Ends, EndsDefinition, StopsAt, ClashesAt, run, step}
+use Rattle.reader_model.specs.Machine.{Stepped, Reads, Stops, Clashes, Ends, EndsDefinition, StopsAt, ClashesAt, run, step}
 use Rattle.tla_exprs.specs.Nesting.{deepest, unfinished}
 use Rattle.tla_exprs.specs.Kept.{kept_run}
 use Rattle.tla_exprs.specs.declared.fault.ParseFault.{ParseFault}
 use Rattle.tla_exprs.specs.declared.fault.ParseFault.TheVariants.{Expected, Conflict, TooNested, OutOfProfile, NoMemory}
-use Rattle.tla_exprs.specs.declared.frame.Frame.{Frame}
-use Rattle.tla_exprs.specs.declared.frame.Mode.{Mode}
+use Rattle.reader_model.specs.declared.frame.Frame.{Frame}
+use Rattle.reader_model.specs.declared.frame.Mode.{Mode}
 
 -- the place of a laid token
 abbrev pub place_of : Laid → Place

@@ -4,8 +4,8 @@ use Rattle.trace_base.specs.declared.place.Place.{Place}
 use Rattle.tla_ast.specs.declared.laid.Laid.{Laid}
 use Rattle.tla_ast.specs.Trees.{Tree}
 use Rattle.tla_ast.specs.Grammar.{Text}
-use Rattle.tla_exprs.specs.Beginnings.{DefinitionText}
-use Rattle.tla_exprs.specs.LawsOfTrees.{EndsText}
+use Rattle.reader_model.specs.Beginnings.{DefinitionText}
+use Rattle.reader_model.specs.LawsOfTrees.{EndsText}
 use Rattle.tla_exprs.specs.declared.fault.ParseFault.{ParseFault}
 use Rattle.tla_exprs.specs.declared.fault.ParseFault.TheVariants.{Expected, OutOfProfile}
 

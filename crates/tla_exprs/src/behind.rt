@@ -1,18 +1,18 @@
 //! Tokens behind a primary.
 
+ghost use Rattle.reader_model.specs.Machine.{body_of, call_step, infix_of_symbol, infix_or, is_case_mark, item_closes, list_closes, name_closes, parameters_of, same_bullet, symbol_follows, word_closes};
 ghost use Rattle.std.specs.Prelude.{◌≡◌, ◌∷◌, IfOk, List, Ok};
 ghost use Rattle.tla_exprs.specs.Does.{Does, frames_in};
 ghost use Rattle.tla_exprs.specs.Kept.{kept_behind, kept_closes, kept_follows, kept_kind_closes, kept_laid_closes};
-ghost use Rattle.tla_exprs.specs.Machine.{body_of, call_step, infix_of_symbol, infix_or, is_case_mark, item_closes, list_closes, name_closes, parameters_of, same_bullet, symbol_follows, word_closes};
 
 use crate::brackets::{Member, join_member};
 use crate::closers::{symbol_closes, with_step};
 use crate::folding::settle;
-use crate::frame::{Form, Frame, Mode, Scope};
 use crate::infix::{infix_of_symbol, infix_step};
 use crate::named::symbol_at;
 use crate::stack::{Stack, pop, want};
 use crate::stepped::{Joined, Stepped};
+use reader_model::{Form, Frame, Mode, Scope};
 use std::alloc::Global;
 use tla_ast::{
     Bullet, Changes, Definition, Definitions, Expr, Exprs, Kind, Laid, Node, Step, Symbol, Word,
@@ -89,13 +89,19 @@ fn let_body(
     want(stack, Frame::LetBody(at, definitions))
 }
 
+/// Lets go of what waits and of the expression behind it. Each function that does so itself has a goal for each kind of frame.
+fn let_go(_frame: Frame, _e: Expr) {}
+
 /// THEN behind the test of an IF.
 fn then_closes(frame: Frame, stack: &mut Stack, e: Expr) -> Result<Stepped, NoMemory>
     ensures { IfOk result (λ r. Does r (frames_in stack.new) (word_closes Word.Then frame (frames_in stack.old) e)) }
 {
     match frame {
         Frame::IfTest(at) => want(stack, Frame::IfThen(at, e)),
-        _ => Ok(Stepped::Stops),
+        other => {
+            let_go(other, e);
+            Ok(Stepped::Stops)
+        }
     }
 }
 
@@ -105,7 +111,10 @@ fn else_closes(frame: Frame, stack: &mut Stack, e: Expr) -> Result<Stepped, NoMe
 {
     match frame {
         Frame::IfThen(at, test) => want(stack, Frame::IfElse(at, test, e)),
-        _ => Ok(Stepped::Stops),
+        other => {
+            let_go(other, e);
+            Ok(Stepped::Stops)
+        }
     }
 }
 
@@ -131,7 +140,10 @@ fn except_closes(
             stack,
             e,
         ),
-        _ => Ok(Stepped::Stops),
+        other => {
+            let_go(other, e);
+            Ok(Stepped::Stops)
+        }
     }
 }
 
@@ -146,7 +158,10 @@ fn in_closes(alloc: Global, frame: Frame, stack: &mut Stack, e: Expr) -> Result<
             }
             Scope::Unit => Ok(Stepped::Stops),
         },
-        _ => Ok(Stepped::Stops),
+        other => {
+            let_go(other, e);
+            Ok(Stepped::Stops)
+        }
     }
 }
 
@@ -165,7 +180,10 @@ fn word_closes(
         Word::Else => else_closes(frame, stack, e),
         Word::Except => except_closes(alloc, frame, stack, e),
         Word::In => in_closes(alloc, frame, stack, e),
-        _ => Ok(Stepped::Stops),
+        _ => {
+            let_go(frame, e);
+            Ok(Stepped::Stops)
+        }
     }
 }
 
@@ -188,7 +206,10 @@ fn name_closes(
             }
             Scope::Unit => Ok(Stepped::Stops),
         },
-        _ => Ok(Stepped::Stops),
+        other => {
+            let_go(other, e);
+            Ok(Stepped::Stops)
+        }
     }
 }
 
@@ -219,7 +240,10 @@ fn item_closes(
             items.push(e)?;
             want(stack, Frame::Junction(own, at, items))
         }
-        _ => Ok(Stepped::Stops),
+        other => {
+            let_go(other, e);
+            Ok(Stepped::Stops)
+        }
     }
 }
 
@@ -233,7 +257,10 @@ fn list_closes(frame: Frame, e: Expr) -> Result<Stepped, NoMemory>
             let node = Node::Junction(bullet, items);
             Ok(Stepped::Reads(Mode::Have(Expr { at, node })))
         }
-        _ => Ok(Stepped::Stops),
+        other => {
+            let_go(other, e);
+            Ok(Stepped::Stops)
+        }
     }
 }
 
@@ -280,7 +307,10 @@ fn laid_closes(
 {
     match laid {
         Laid::Plain(token) => kind_closes(alloc, &token.kind, token.place, frame, stack, e),
-        Laid::ListOpen(_, _) => Ok(Stepped::Stops),
+        Laid::ListOpen(_, _) => {
+            let_go(frame, e);
+            Ok(Stepped::Stops)
+        }
         Laid::ListItem(bullet, _) => item_closes(*bullet, frame, stack, e),
         Laid::ListClose(_) => list_closes(frame, e),
     }

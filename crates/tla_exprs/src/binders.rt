@@ -1,12 +1,12 @@
 //! Bounds of a binder.
 
+ghost use Rattle.reader_model.specs.Machine.{binder_close, bound_close};
 ghost use Rattle.std.specs.Prelude.{◌≡◌, IfOk};
 ghost use Rattle.tla_exprs.specs.Does.{Does, frames_in};
-ghost use Rattle.tla_exprs.specs.Machine.{binder_close, bound_close};
 
-use crate::frame::{Binder, Binding, Form, Frame, Mode};
 use crate::stack::{Stack, want};
 use crate::stepped::Stepped;
+use reader_model::{Binder, Binding, Form, Frame, Mode};
 use std::alloc::Global;
 use tla_ast::{Bound, Bounds, Expr, Node, Symbol};
 use trace_base::{Names, NoMemory};

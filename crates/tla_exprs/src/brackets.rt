@@ -1,15 +1,15 @@
 //! Braces, brackets and tuples, of which a later token says what row they are.
 
+ghost use Rattle.reader_model.specs.Machine.{braces_close, bracket_close, filter_close, function_close, is_subscript, join, on_joined, tuple_close};
 ghost use Rattle.std.specs.Prelude.{◌≡◌, ◌∷◌, [], IfOk, List};
 ghost use Rattle.tla_ast.specs.Trees.{MoreBounds, Name, NoBounds, NoTrees};
 ghost use Rattle.tla_exprs.specs.Does.{Does, frames_in, joined_view};
-ghost use Rattle.tla_exprs.specs.Machine.{braces_close, bracket_close, filter_close, function_close, is_subscript, join, on_joined, tuple_close};
 
-use crate::frame::{Action, Binder, Binding, Frame, Mode};
 use crate::joining::{begins_member, join};
 use crate::openers::begin_binding;
 use crate::stack::{Stack, deliver, want};
 use crate::stepped::{Joined, Stepped};
+use reader_model::{Action, Binder, Binding, Frame, Mode};
 use std::alloc::Global;
 use tla_ast::{Bound, Bounds, Expr, Exprs, Node, Symbol};
 use trace_base::{Names, NoMemory, Place, Text};

@@ -1,17 +1,17 @@
 //! Tokens at the innermost row that waits for one, behind a whole expression in it.
 
+ghost use Rattle.reader_model.specs.Machine.{of_records, symbol_closes, with_step};
 ghost use Rattle.std.specs.Prelude.{◌≡◌, IfOk};
 ghost use Rattle.tla_ast.specs.TreeViews.{node_view, step_view};
 ghost use Rattle.tla_exprs.specs.Does.{Does, frames_in};
-ghost use Rattle.tla_exprs.specs.Machine.{of_records, symbol_closes, with_step};
 
 use crate::binders::bound_close;
 use crate::brackets::{
     Member, braces_close, bracket_close, filter_close, function_close, tuple_close,
 };
-use crate::frame::{Frame, Mode, RecordKind};
 use crate::stack::{Stack, deliver, want};
 use crate::stepped::Stepped;
+use reader_model::{Frame, Mode, RecordKind};
 use std::alloc::Global;
 use tla_ast::{
     Arm, Arms, Bounds, Change, Changes, Expr, Exprs, Field, Fields, Node, Step, StepAt, Steps,

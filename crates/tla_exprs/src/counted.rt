@@ -3,7 +3,7 @@
 ghost use Rattle.std.specs.Prelude.{◌≡◌, reverse};
 ghost use Rattle.tla_exprs.specs.Nesting.{of_frames};
 
-use crate::frame::Frame;
+use reader_model::Frame;
 
 /// What is open, the innermost last, and how many unfinished constructs that is.
 #[derive(Drop)]

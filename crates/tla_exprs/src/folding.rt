@@ -1,11 +1,11 @@
 //! Rows that end where their last expression does.
 
+ghost use Rattle.reader_model.specs.Machine.{folded, folds, settle};
 ghost use Rattle.std.specs.Prelude.{◌≡◌, IfOk};
 ghost use Rattle.tla_exprs.specs.Does.{frames_in};
-ghost use Rattle.tla_exprs.specs.Machine.{folded, folds, settle};
 
-use crate::frame::Frame;
 use crate::stack::{Stack, pop, push};
+use reader_model::Frame;
 use std::alloc::Global;
 use tla_ast::{Arm, Expr, Node};
 use trace_base::NoMemory;
@@ -26,6 +26,9 @@ fn folds(case: bool, frame: &Frame) -> bool
         _ => false,
     }
 }
+
+/// Lets go of a frame.
+fn let_go(_frame: Frame) {}
 
 /// Such a row with its last expression.
 pub fn folded(alloc: Global, frame: Frame, last: Expr) -> Result<Expr, NoMemory>
@@ -71,7 +74,10 @@ pub fn folded(alloc: Global, frame: Frame, last: Expr) -> Result<Expr, NoMemory>
             let node = Node::Let(definitions, Box::new(alloc, last)?);
             Ok(Expr { at, node })
         }
-        _ => Ok(last),
+        other => {
+            let_go(other);
+            Ok(last)
+        }
     }
 }
 

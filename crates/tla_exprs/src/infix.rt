@@ -1,17 +1,17 @@
 //! Operators and their operands.
 
+ghost use Rattle.reader_model.specs.Machine.{above, folded, goes_on, infix_of_symbol, infix_step, operator_number, want};
 ghost use Rattle.std.specs.Prelude.{◌≡◌, ◌∷◌, IfOk, false, true};
 ghost use Rattle.tla_ast.specs.Grammar.{is_member};
 ghost use Rattle.tla_ast.specs.Precedence.{chains, infix_range, prefix_range};
 ghost use Rattle.tla_ast.specs.Trees.{First};
 ghost use Rattle.tla_exprs.specs.Does.{Does, frames_in};
-ghost use Rattle.tla_exprs.specs.Machine.{above, folded, goes_on, infix_of_symbol, infix_step, operator_number, want};
 ghost use Rattle.tla_exprs.specs.Passes.{passes};
 
 use crate::folding::folded;
-use crate::frame::Frame;
 use crate::stack::{Stack, pop, push, want};
 use crate::stepped::Stepped;
+use reader_model::Frame;
 use std::alloc::Global;
 use tla_ast::{Expr, InfixOperator, Operand, Operands, PrefixOperator, Symbol};
 use trace_base::{NoMemory, Place};

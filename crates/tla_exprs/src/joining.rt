@@ -1,10 +1,10 @@
 //! A name and `\in` at the beginning of braces or brackets, once they are known to be operand and operator.
 
+ghost use Rattle.reader_model.specs.Machine.{Joins, first_place, join, joins_in};
 ghost use Rattle.std.specs.Prelude.{◌≡◌, IfOk};
 ghost use Rattle.tla_ast.specs.Grammar.{begins_member, first_begins, is_member, is_name};
 ghost use Rattle.tla_ast.specs.Trees.{First, Infix};
 ghost use Rattle.tla_exprs.specs.Does.{joined_view, with_others};
-ghost use Rattle.tla_exprs.specs.Machine.{Joins, first_place, join, joins_in};
 
 use crate::infix::infix_above;
 use crate::stepped::Joined;

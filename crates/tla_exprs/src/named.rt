@@ -1,17 +1,17 @@
 //! Tokens in the parts of a row that are no expressions.
 #![tactic(auto, unfolding(crate::specs::Kept::kept_step))]
 
+ghost use Rattle.reader_model.specs.Machine as machine;
+ghost use Rattle.reader_model.specs.Machine.{has_field, on_name, on_symbol, path_ends};
 ghost use Rattle.std.specs.Prelude.{◌≡◌, IfOk, List, MatchOption, ℕ};
 ghost use Rattle.tla_exprs.specs.Does.{Does, frames_in};
 ghost use Rattle.tla_exprs.specs.Kept.{kept_step};
-ghost use Rattle.tla_exprs.specs.Machine as machine;
-ghost use Rattle.tla_exprs.specs.Machine.{has_field, on_name, on_symbol, path_ends};
 
 use crate::closers::with_step;
-use crate::frame::{Binder, Binding, Form, Frame, Mode, RecordKind, Scope};
 use crate::openers::begin_binding;
 use crate::stack::{Stack, want};
 use crate::stepped::Stepped;
+use reader_model::{Binder, Binding, Form, Frame, Mode, RecordKind, Scope};
 use std::alloc::Global;
 use tla_ast::{Arms, Changes, Expr, Exprs, Fields, Kind, Laid, Step, StepAt, Steps, Symbol};
 use trace_base::{Names, NoMemory, Place, Text};

@@ -4,7 +4,7 @@
 ghost use Rattle.std.specs.Prelude.{◌≡◌};
 ghost use Rattle.tla_exprs.specs.Nesting.{of_binder, of_frame, of_mode, of_scope};
 
-use crate::frame::{Binder, Frame, Mode, Scope};
+use reader_model::{Binder, Frame, Mode, Scope};
 
 fn of_scope(scope: &Scope) -> u64
     ensures { result ≡ of_scope scope.now }

@@ -1,13 +1,13 @@
 //! Tokens where an expression is expected.
 
+ghost use Rattle.reader_model.specs.Machine.{begin_binding, begins, symbol_begins, token_begins, word_begins};
 ghost use Rattle.std.specs.Prelude.{◌≡◌, IfOk};
 ghost use Rattle.tla_ast.specs.TreeViews.{node_view};
 ghost use Rattle.tla_exprs.specs.Does.{Does, frames_in};
-ghost use Rattle.tla_exprs.specs.Machine.{begin_binding, begins, symbol_begins, token_begins, word_begins};
 
-use crate::frame::{Binder, Binding, Frame, Mode, Scope};
 use crate::stack::{Stack, want};
 use crate::stepped::Stepped;
+use reader_model::{Binder, Binding, Frame, Mode, Scope};
 use std::alloc::Global;
 use tla_ast::{
     Arms, Bounds, BuiltinSet, Definitions, Expr, Kind, Laid, Node, PrefixOperator, Quantifier,

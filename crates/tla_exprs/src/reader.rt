@@ -1,11 +1,11 @@
 //! The reader of expressions and of definitions.
 
+ghost use Rattle.reader_model.specs.Beginnings.{BegunDefinition, FittingBegun, FittingBegunDefinition};
 ghost use Rattle.std.specs.Prelude.{◌≡◌, ◌<◌, IfOk, IfErr, drop, length, nat_lt};
 ghost use Rattle.tla_ast.specs.Begun.{Begun};
 ghost use Rattle.tla_ast.specs.Fits.{Fits, Spells};
 ghost use Rattle.tla_ast.specs.Grammar.{◌⨟◌, DefinitionRest, token};
 ghost use Rattle.tla_ast.specs.declared.token.Kind.TheVariants as kinds;
-ghost use Rattle.tla_exprs.specs.Beginnings.{BegunDefinition, FittingBegun, FittingBegunDefinition};
 ghost use Rattle.tla_exprs.specs.Does.{frames_in};
 ghost use Rattle.tla_exprs.specs.Ended.{IsRead};
 ghost use Rattle.tla_exprs.specs.Nesting.{Shallow, ShallowDefinition, deepest, unfinished};
@@ -14,11 +14,11 @@ ghost use Rattle.tla_exprs.specs.Refused.{Refuses, place_of, refusal_of};
 ghost use Rattle.tla_exprs.specs.Unended.{EndedDefinition, EndedText, IsUnended};
 
 use crate::fault::ParseFault;
-use crate::frame::{Mode, Scope};
 use crate::nesting::unfinished_at;
 use crate::stack::Stack;
 use crate::stepped::Stepped;
 use crate::steps::step;
+use reader_model::{Mode, Scope};
 use std::alloc::Global;
 use tla_ast::{Definition, Expr, Foreign, Kind, Laid};
 use trace_base::Place;

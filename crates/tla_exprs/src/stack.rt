@@ -1,13 +1,13 @@
 //! The rows that are open, the innermost on top.
 
+ghost use Rattle.reader_model.specs.Machine.{deliver, subscripted, want};
 ghost use Rattle.std.specs.Prelude.{◌≡◌, [], ◌∷◌, IfOk, MatchOption, OnOk};
 ghost use Rattle.tla_exprs.specs.Does.{Does, frames_in};
-ghost use Rattle.tla_exprs.specs.Machine.{deliver, subscripted, want};
 
 pub use crate::counted::Stack;
-use crate::frame::{Action, Frame, Mode};
 use crate::nesting::unfinished_in;
 use crate::stepped::Stepped;
+use reader_model::{Action, Frame, Mode};
 use std::alloc::{AllocError, Global};
 use tla_ast::{Expr, Node};
 use trace_base::{NoMemory, Place};

@@ -1,18 +1,18 @@
 //! Tokens at the beginning of a row of which the next tokens say what it is.
 #![tactic(auto, unfolding(crate::specs::Kept::kept_step))]
 
+ghost use Rattle.reader_model.specs.Machine.{begins, subscript_started};
 ghost use Rattle.std.specs.Prelude.{◌≡◌, [], ◌∷◌, IfOk};
 ghost use Rattle.tla_ast.specs.Trees.{Name, NoBounds};
 ghost use Rattle.tla_exprs.specs.Does.{Does, frames_in};
 ghost use Rattle.tla_exprs.specs.Kept.{kept_follows, kept_step};
-ghost use Rattle.tla_exprs.specs.Machine.{begins, subscript_started};
 
 use crate::behind::{follows, same_bullet};
-use crate::frame::{Action, Binder, Binding, Frame, Mode, RecordKind};
 use crate::named::{name_at, symbol_at};
 use crate::openers::begins;
 use crate::stack::{Stack, deliver, push, want};
 use crate::stepped::Stepped;
+use reader_model::{Action, Binder, Binding, Frame, Mode, RecordKind};
 use std::alloc::Global;
 use tla_ast::{Arms, Bounds, Bullet, Expr, Exprs, Fields, Kind, Laid, Node, Symbol, Word};
 use trace_base::{Names, NoMemory, Place, Text};

@@ -1,6 +1,6 @@
 //! What comes of one laid token.
 
-use crate::frame::Mode;
+use reader_model::Mode;
 use tla_ast::{Definition, Expr};
 use trace_base::Place;
 

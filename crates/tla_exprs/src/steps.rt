@@ -5,11 +5,11 @@ ghost use Rattle.tla_exprs.specs.Does.{Does, frames_in};
 ghost use Rattle.tla_exprs.specs.Kept.{kept_step};
 
 use crate::behind::follows;
-use crate::frame::Mode;
 use crate::openers::begins;
 use crate::stack::Stack;
 use crate::stepped::Stepped;
 use crate::{named, starts};
+use reader_model::Mode;
 use std::alloc::Global;
 use tla_ast::{Expr, Laid};
 use trace_base::NoMemory;

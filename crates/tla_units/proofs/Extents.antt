@@ -7,7 +7,7 @@ use Rattle.tla_ast.specs.declared.laid.Laid.TheVariants.{Plain}
 use Rattle.tla_ast.specs.declared.token.Token.{Token as LaidToken}
 use Rattle.tla_ast.specs.declared.token.Kind.TheVariants as kinds
 use Rattle.tla_ast.specs.Grammar.{Span}
-use Rattle.tla_exprs.specs.LawsOfTrees.{EndsText}
+use Rattle.reader_model.specs.LawsOfTrees.{EndsText}
 use Rattle.tla_exprs.specs.Refusals.{UpTo, CanNotFollow, EndsTooEarly, Conflicts, IsTooNested, IsRefused}
 use Rattle.tla_exprs.specs.declared.fault.ParseFault.{ParseFault}
 use Rattle.tla_exprs.specs.declared.fault.ParseFault.TheVariants.{Expected, Conflict, TooNested, OutOfProfile, NoMemory}

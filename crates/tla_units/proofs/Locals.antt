@@ -14,7 +14,7 @@ use Rattle.tla_ast.specs.declared.token.Symbol.TheVariants as symbols
 use Rattle.tla_ast.specs.Trees.{Tree}
 use Rattle.tla_ast.specs.Grammar.{Span, ◌⨟◌, nothing, either, token, some_token, word, sign, name, NamesText, Text}
 use Rattle.tla_ast.specs.Modules.{DeclaredText, DeclaredNamesText, MaybeTitle, ExtendsText, SomeExpression, UnitText, variable_word, constant_word, assume_word, theorem_word}
-use Rattle.tla_exprs.specs.LawsOfExtents.{LocalText, LocalDefinition}
+use Rattle.reader_model.specs.LawsOfExtents.{LocalText, LocalDefinition}
 use Rattle.tla_units.specs.Parts.{MarkText}
 use Rattle.tla_units.specs.Refusals.{ShallowWholeUnit, SoManyUnits, ShallowWholeUnits, SomeExtends}
 use Rattle.tla_units.specs.Rests.{Marked, Others, Listed, Title}

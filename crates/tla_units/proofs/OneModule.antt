@@ -8,7 +8,7 @@ use Rattle.tla_ast.specs.declared.module.Unit.{Unit as ModuleUnit}
 use Rattle.tla_ast.specs.declared.module.Module.{Module}
 use Rattle.tla_ast.specs.Grammar.{Span, ◌⨟◌, some_token}
 use Rattle.tla_ast.specs.Modules.{ExtendsText, UnitsText, UnitsFit, ModuleText}
-use Rattle.tla_exprs.specs.LawsOfTrees.{SpelledRead, DefinitionRead}
+use Rattle.reader_model.specs.LawsOfTrees.{SpelledRead, DefinitionRead}
 use Rattle.tla_units.specs.LawsOfModules.{OneModule}
 use Rattle.tla_units.proofs.OneModuleTokens.{OfEquals, form_of, units_are, some_behind}
 use Rattle.tla_units.proofs.OneModuleParts.{token_same, extends_same}

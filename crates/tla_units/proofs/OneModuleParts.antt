@@ -14,9 +14,9 @@ use Rattle.tla_ast.specs.Trees.{Tree}
 use Rattle.tla_ast.specs.Grammar.{◌⨟◌, token, sign, name, NamesText, DefinitionRest}
 use Rattle.tla_ast.specs.Fits.{Fits, Spells}
 use Rattle.tla_ast.specs.Modules.{DeclaredText, DeclaredNamesText, MaybeTitle, ExtendsText}
-use Rattle.tla_exprs.specs.declared.frame.Mode.TheVariants as mode
-use Rattle.tla_exprs.specs.Machine.{EndsAt, EndsDefinitionAt, run}
-use Rattle.tla_exprs.specs.LawsOfTrees.{SpelledRead, DefinitionRead}
+use Rattle.reader_model.specs.declared.frame.Mode.TheVariants as mode
+use Rattle.reader_model.specs.Machine.{EndsAt, EndsDefinitionAt, run}
+use Rattle.reader_model.specs.LawsOfTrees.{SpelledRead, DefinitionRead}
 use Rattle.tla_units.proofs.OneModuleTokens.{IsOfUnits, TextEnds, form_of, form_ends, tail_of, some_behind}
 
 -- ---- names

@@ -10,7 +10,7 @@ use Rattle.tla_ast.specs.declared.module.Unit.{Unit as ModuleUnit}
 use Rattle.tla_ast.specs.declared.module.Unit.TheVariants as units
 use Rattle.tla_ast.specs.Grammar.{some_token}
 use Rattle.tla_ast.specs.Modules.{UnitText, UnitsText, variable_word, constant_word, assume_word, theorem_word}
-use Rattle.tla_exprs.specs.LawsOfTrees.{EndsKind, EndsText}
+use Rattle.reader_model.specs.LawsOfTrees.{EndsKind, EndsText}
 
 -- ---- what begins with a token
 

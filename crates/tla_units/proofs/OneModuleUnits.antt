@@ -8,7 +8,7 @@ use Rattle.tla_ast.specs.declared.module.Unit.TheVariants as units
 use Rattle.tla_ast.specs.Trees.{Tree}
 use Rattle.tla_ast.specs.Fits.{Fits}
 use Rattle.tla_ast.specs.Modules.{DeclaredNamesText, MaybeTitle, UnitText, UnitsText, UnitFits, UnitsFit}
-use Rattle.tla_exprs.specs.LawsOfTrees.{SpelledRead, DefinitionRead}
+use Rattle.reader_model.specs.LawsOfTrees.{SpelledRead, DefinitionRead}
 use Rattle.tla_units.proofs.OneModuleTokens.{OfEquals, form_of, TextEnds, form_ends, unit_form, unit_begins, units_are, some_behind, variable_behind, constant_behind, assume_behind, theorem_behind, dashes_no_theorem}
 use Rattle.tla_units.proofs.OneModuleParts.{declared_names_same, titled_same, definition_same}
 

@@ -5,7 +5,7 @@ use Rattle.tla_ast.specs.declared.laid.Laid.{Laid}
 use Rattle.tla_ast.specs.Begun.{BegunModule, FittingBegunModule}
 use Rattle.tla_ast.specs.Grammar.{either}
 use Rattle.tla_ast.specs.Modules.{assume_word, theorem_word}
-use Rattle.tla_exprs.specs.Beginnings.{FittingBegunDefinition}
+use Rattle.reader_model.specs.Beginnings.{FittingBegunDefinition}
 use Rattle.tla_exprs.specs.Nesting.{ShallowDefinition}
 use Rattle.tla_exprs.specs.Refusals.{IsTooNested}
 use Rattle.tla_units.specs.Marks.{mark_of}

@@ -12,8 +12,8 @@ use Rattle.tla_ast.specs.Fits.{Spells}
 use Rattle.tla_ast.specs.Trees.{Tree}
 use Rattle.tla_ast.specs.Grammar.{Span, ◌⨟◌, either, some_token}
 use Rattle.tla_ast.specs.Modules.{DeclaredNamesText, MaybeTitle, UnitText, variable_word, constant_word, assume_word, theorem_word}
-use Rattle.tla_exprs.specs.Beginnings.{BegunDefinition, FittingBegun, FittingBegunDefinition}
-use Rattle.tla_exprs.specs.LawsOfExtents.{LocalText, LocalDefinition}
+use Rattle.reader_model.specs.Beginnings.{BegunDefinition, FittingBegun, FittingBegunDefinition}
+use Rattle.reader_model.specs.LawsOfExtents.{LocalText, LocalDefinition}
 use Rattle.tla_exprs.specs.Nesting.{Shallow, ShallowDefinition}
 use Rattle.tla_exprs.specs.Refusals.{GoesAsFar}
 use Rattle.tla_units.specs.Reads.{ShallowTitled}

@@ -11,10 +11,10 @@ use Rattle.tla_ast.specs.Fits.{Fits}
 use Rattle.tla_ast.specs.Trees as tree
 use Rattle.tla_ast.specs.Trees.{Tree}
 use Rattle.tla_ast.specs.Grammar.{Text}
-use Rattle.tla_exprs.specs.Beginnings.{FittingBegun, BegunDefinition, FittingBegunDefinition}
-use Rattle.tla_exprs.specs.LawsOfExtents.{LocalText, NoneFollows, NoMarkInside, LocalDefinition, NoneFollowsDefinition, NoMarkInsideDefinition, IsMarkKind}
-use Rattle.tla_exprs.specs.LawsOfRefusals.{EndsThere}
-use Rattle.tla_exprs.specs.LawsOfTrees.{EndsText}
+use Rattle.reader_model.specs.Beginnings.{FittingBegun, BegunDefinition, FittingBegunDefinition}
+use Rattle.reader_model.specs.LawsOfExtents.{LocalText, NoneFollows, NoMarkInside, LocalDefinition, NoneFollowsDefinition, NoMarkInsideDefinition, IsMarkKind}
+use Rattle.reader_model.specs.LawsOfRefusals.{EndsThere}
+use Rattle.reader_model.specs.LawsOfTrees.{EndsText}
 use Rattle.tla_exprs.specs.Unended.{EndedText, EndedDefinition, IsUnended}
 use Rattle.tla_exprs.specs.declared.fault.ParseFault.{ParseFault}
 use Rattle.tla_exprs.specs.declared.fault.ParseFault.TheVariants.{Expected, Conflict, TooNested, OutOfProfile, NoMemory}

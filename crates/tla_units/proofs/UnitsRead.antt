@@ -10,9 +10,9 @@ use Rattle.tla_ast.specs.Begun.{Begun}
 use Rattle.tla_ast.specs.Fits.{Fits, Spells}
 use Rattle.tla_ast.specs.Modules.{LaidEndsOnce}
 use Rattle.tla_ast.specs.Trees.{Tree}
-use Rattle.tla_exprs.specs.Beginnings.{FittingBegun, DefinitionText, BegunDefinition, FittingBegunDefinition}
-use Rattle.tla_exprs.specs.LawsOfExtents.{LocalText, NoneFollows, NoMarkInside, LocalDefinition, NoneFollowsDefinition, NoMarkInsideDefinition}
-use Rattle.tla_exprs.specs.LawsOfRefusals.{EndsThere}
+use Rattle.reader_model.specs.Beginnings.{FittingBegun, DefinitionText, BegunDefinition, FittingBegunDefinition}
+use Rattle.reader_model.specs.LawsOfExtents.{LocalText, NoneFollows, NoMarkInside, LocalDefinition, NoneFollowsDefinition, NoMarkInsideDefinition}
+use Rattle.reader_model.specs.LawsOfRefusals.{EndsThere}
 use Rattle.tla_exprs.specs.Nesting.{Shallow, ShallowDefinition}
 use Rattle.tla_exprs.specs.Refusals.{GoesAsFar, IsRefused}
 use Rattle.tla_exprs.specs.Unended.{EndedText, EndedDefinition, IsUnended}

@@ -3,8 +3,8 @@ use Rattle.std.specs.Prelude.{◌≡◌, ◌⊎◌, Bool, true, false, List, [],
 use Rattle.trace_base.specs.declared.place.Place.{Place}
 use Rattle.tla_ast.specs.declared.laid.Laid.{Laid}
 use Rattle.tla_ast.specs.Grammar.{either, nothing}
-use Rattle.tla_exprs.specs.Beginnings.{FittingBegun, FittingBegunDefinition}
-use Rattle.tla_exprs.specs.Meeting.{Meets}
+use Rattle.reader_model.specs.Beginnings.{FittingBegun, FittingBegunDefinition}
+use Rattle.reader_model.specs.Meeting.{Meets}
 use Rattle.tla_exprs.specs.Nesting.{Shallow, ShallowDefinition}
 use Rattle.tla_exprs.specs.Refusals.{IsTooNested}
 use Rattle.tla_exprs.specs.Refused.{refusal_of}

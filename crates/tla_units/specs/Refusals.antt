@@ -10,8 +10,8 @@ use Rattle.tla_ast.specs.declared.token.Word.TheVariants as words
 use Rattle.tla_ast.specs.Begun.{BegunModule, FittingBegunModule}
 use Rattle.tla_ast.specs.Grammar.{Span, ◌⨟◌, nothing, either, some_token, word, name}
 use Rattle.tla_ast.specs.Modules.{DeclaredNamesText, ExtendsText, MaybeTitle, SpellsModule, UnitText, variable_word, constant_word, assume_word, theorem_word}
-use Rattle.tla_exprs.specs.Beginnings.{FittingBegun, FittingBegunDefinition}
-use Rattle.tla_exprs.specs.Meeting.{Meets, at_place}
+use Rattle.reader_model.specs.Beginnings.{FittingBegun, FittingBegunDefinition}
+use Rattle.reader_model.specs.Meeting.{Meets, at_place}
 use Rattle.tla_exprs.specs.Nesting.{Shallow, ShallowDefinition}
 use Rattle.tla_exprs.specs.Refusals.{IsTooNested}
 use Rattle.tla_exprs.specs.Refused.{refusal_of}

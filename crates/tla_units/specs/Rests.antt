@@ -8,7 +8,7 @@ use Rattle.tla_ast.specs.Trees.{Tree}
 use Rattle.tla_ast.specs.Fits.{Fits}
 use Rattle.tla_ast.specs.declared.token.Kind.TheVariants as kinds
 use Rattle.tla_ast.specs.Grammar.{Span, ◌⨟◌, nothing, never, either, some_token, Text}
-use Rattle.tla_exprs.specs.Beginnings.{DefinitionText}
+use Rattle.reader_model.specs.Beginnings.{DefinitionText}
 use Rattle.tla_units.specs.Marks.{mark_of}
 use Rattle.tla_units.specs.declared.marks.Mark.{Mark}
 use Rattle.tla_units.specs.declared.marks.Mark.TheVariants as marks

@@ -2,7 +2,7 @@
 
 ghost use Rattle.tla_units.specs.LawsOfModules.{OneModule};
 
-use tla_exprs::laws_of_trees;
+use reader_model::laws_of_trees;
 
 /// Laid tokens spell one module.
 pub fn one_module()

@@ -1,4 +1,4 @@
-use Rattle.tla_exprs.specs.Machine.{list_closes}
+use Rattle.reader_model.specs.Machine.{list_closes}
 use Rattle.tla_exprs.proofs.KeptCloses.{plain_laid, open_laid, item_laid, close_laid}
 use Rattle.tla_exprs.proofs.SameDoes.{does_same, does_with}
 use Rattle.tla_exprs.proofs.behind.laid_closes.Goals as goal

@@ -1,6 +1,6 @@
 use Rattle.std.proofs.Common.{◌≡◌, vec_len}
 use Rattle.tla_exprs.specs.Does.{frames_in}
-use Rattle.tla_exprs.specs.Machine.{infix_step}
+use Rattle.reader_model.specs.Machine.{infix_step}
 use Rattle.tla_exprs.proofs.infix.infix_step.Given as goal
 
 abbrev pub invariant-loop-frame : goal.invariant-loop-frame

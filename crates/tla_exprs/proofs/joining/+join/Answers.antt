@@ -3,7 +3,7 @@ use Rattle.tla_ast.specs.Trees.{Tree}
 use Rattle.tla_ast.specs.TreeSizes.{tree_size}
 use Rattle.tla_ast.specs.TreeViews.{node_view}
 use Rattle.tla_exprs.specs.Does.{joined_view}
-use Rattle.tla_exprs.specs.Machine.{Joined}
+use Rattle.reader_model.specs.Machine.{Joined}
 use Rattle.tla_exprs.proofs.JoinedChains.{first_falls, joined_below}
 use Rattle.tla_exprs.proofs.joining.+join.Goals as goal
 

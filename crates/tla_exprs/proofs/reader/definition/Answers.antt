@@ -1,12 +1,12 @@
 use Rattle.std.specs.Prelude.{IfErr}
 use Rattle.std.proofs.Common.{rules}
-use Rattle.tla_exprs.specs.Beginnings.{BegunDefinition, FittingBegunDefinition}
+use Rattle.reader_model.specs.Beginnings.{BegunDefinition, FittingBegunDefinition}
 use Rattle.tla_exprs.specs.Nesting.{ShallowDefinition}
 use Rattle.tla_exprs.specs.Refused.{Refuses}
-use Rattle.tla_exprs.specs.declared.frame.Mode.TheVariants as mode
-use Rattle.tla_exprs.specs.declared.frame.Scope.TheVariants as scopes
-use Rattle.tla_exprs.proofs.FittingEnds.{definition_ran_fits}
-use Rattle.tla_exprs.proofs.MeetsThere.{definition_clash_meets}
+use Rattle.reader_model.specs.declared.frame.Mode.TheVariants as mode
+use Rattle.reader_model.specs.declared.frame.Scope.TheVariants as scopes
+use Rattle.reader_model.proofs.FittingEnds.{definition_ran_fits}
+use Rattle.reader_model.proofs.MeetsThere.{definition_clash_meets}
 use Rattle.tla_exprs.proofs.ReadLaws.{definition_fits, definition_on, definition_only, definition_spelled}
 use Rattle.tla_exprs.proofs.RefusedSo.{TextsFrom, texts_of_definitions, definition_goes, refused_result}
 use Rattle.tla_exprs.proofs.UnendedTexts.{unended_definition}

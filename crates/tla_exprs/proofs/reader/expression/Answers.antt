@@ -1,12 +1,12 @@
 use Rattle.std.specs.Prelude.{IfErr}
 use Rattle.std.proofs.Common.{rules}
 use Rattle.tla_ast.specs.Begun.{Begun}
-use Rattle.tla_exprs.specs.Beginnings.{FittingBegun}
+use Rattle.reader_model.specs.Beginnings.{FittingBegun}
 use Rattle.tla_exprs.specs.Nesting.{Shallow}
 use Rattle.tla_exprs.specs.Refused.{Refuses}
-use Rattle.tla_exprs.specs.declared.frame.Mode.TheVariants as mode
-use Rattle.tla_exprs.proofs.FittingEnds.{ran_fits}
-use Rattle.tla_exprs.proofs.MeetsThere.{clashed_meets}
+use Rattle.reader_model.specs.declared.frame.Mode.TheVariants as mode
+use Rattle.reader_model.proofs.FittingEnds.{ran_fits}
+use Rattle.reader_model.proofs.MeetsThere.{clashed_meets}
 use Rattle.tla_exprs.proofs.ReadLaws.{expression_on, expression_only, expression_spelled}
 use Rattle.tla_exprs.proofs.RefusedSo.{TextsFrom, texts_of_expressions, expression_goes, refused_result}
 use Rattle.tla_exprs.proofs.UnendedTexts.{unended_result}

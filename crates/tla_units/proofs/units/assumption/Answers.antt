@@ -1,7 +1,7 @@
 use Rattle.std.proofs.Common.{◌+◌, drop, rules}
 use Rattle.std.specs.Result.{IfErr}
 use Rattle.tla_ast.specs.Begun.{Begun}
-use Rattle.tla_exprs.specs.Beginnings.{FittingBegun}
+use Rattle.reader_model.specs.Beginnings.{FittingBegun}
 use Rattle.tla_exprs.specs.Nesting.{Shallow}
 use Rattle.tla_exprs.specs.Refusals.{IsRefused}
 use Rattle.tla_exprs.specs.Unended.{EndedText, IsUnended}

@@ -1,6 +1,6 @@
 use Rattle.std.proofs.Common.{drop, rules}
 use Rattle.std.specs.Result.{IfErr}
-use Rattle.tla_exprs.specs.Beginnings.{BegunDefinition, FittingBegunDefinition}
+use Rattle.reader_model.specs.Beginnings.{BegunDefinition, FittingBegunDefinition}
 use Rattle.tla_exprs.specs.Nesting.{ShallowDefinition}
 use Rattle.tla_exprs.specs.Refusals.{IsRefused}
 use Rattle.tla_exprs.specs.Unended.{EndedDefinition, IsUnended}

@@ -1,0 +1,10 @@
+pub mod Beginnings
+pub mod Laws
+pub mod LawsOfDefinitions
+pub mod LawsOfExtents
+pub mod LawsOfRefusals
+pub mod LawsOfTrees
+pub mod Machine
+pub mod Meeting
+pub mod OpenFits
+pub mod OpenRows
