@@ -1,6 +1,6 @@
 ghost use Rattle.std.specs.Prelude.{◌≡◌, ◌++◌, IfOk, OnOk};
 
-use path_updates::{Event, Line, Op, Path, See, Sees, Update, Updates, Values};
+use path_updates::{Event, Keys, Line, Op, Path, PathKey, See, Sees, Update, Updates, Values};
 use std::alloc::Global;
 use tla_values::Value;
 use trace_base::NoMemory;
@@ -64,7 +64,7 @@ fn copy_updates(alloc: Global, updates: &[Update]) -> Result<Updates, NoMemory>
 fn copy_path(alloc: Global, path: &Path) -> Result<Path, NoMemory>
     ensures { IfOk result (λ copy. copy ≡ path.now) }
 {
-    let keys = copy_values(alloc, path.keys())?;
+    let keys = copy_keys(alloc, path.keys())?;
     Ok(Path::new(path.variable(), keys))
 }
 
@@ -106,6 +106,17 @@ fn copy_values(alloc: Global, values: &[Value]) -> Result<Values, NoMemory>
     let mut copy = Values::with_capacity(alloc, values.len())?;
     for value in values {
         let equal = value.copy()?;
+        copy.push(equal)?;
+    }
+    Ok(copy)
+}
+
+fn copy_keys(alloc: Global, keys: &[PathKey]) -> Result<Keys, NoMemory>
+    ensures { IfOk result (λ copy. copy ≡ keys.now) }
+{
+    let mut copy = Keys::with_capacity(alloc, keys.len())?;
+    for key in keys {
+        let equal = key.value().copy()?;
         copy.push(equal)?;
     }
     Ok(copy)

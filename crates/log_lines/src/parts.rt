@@ -7,7 +7,7 @@ ghost use Rattle.line_shapes.specs.Seen.{path_seen, see_seen, update_seen};
 ghost use Rattle.log_lines.specs.Values.{EachItem, ItemReads, PathReads, SeeReads, UpdateReads, is_known_see, is_known_update};
 
 use crate::names::SpecNames;
-use crate::values::{read_op, read_values};
+use crate::values::{read_keys, read_op};
 use json_values::from_json;
 use line_shapes::{RawPath, RawSee, RawUpdate, see_of, update_of};
 use path_updates::{Path, See, Sees, Update, Updates};
@@ -27,7 +27,7 @@ fn read_path<N: SpecNames>(
     ensures { IfOk result (Finds (PathReads (N.setting names.now) (path_seen raw.now))) }
 {
     let variable = names.variable(raw.name, guess).unwrap_or(VarId(0));
-    match read_values(alloc, raw.keys)? {
+    match read_keys(alloc, raw.keys)? {
         Some(keys) => Ok(Some(Path::new(variable, keys))),
         None => Ok(None),
     }

@@ -5,7 +5,7 @@ ghost use Rattle.log_lines.specs.Values.{OpReads, PutReads, ReadsSole};
 
 use json_values::from_json;
 use line_shapes::Word;
-use path_updates::{Op, Values};
+use path_updates::{Keys, Op, Values};
 use serde_json::Value as Json;
 use std::alloc::Global;
 use tla_values::Value;
@@ -24,6 +24,21 @@ pub(crate) fn read_values(alloc: Global, items: &[Json]) -> Result<Option<Values
         }
     }
     Ok(Some(values))
+}
+
+/// The keys that these stand for, or none where one of them stands for no value.
+pub(crate) fn read_keys(alloc: Global, items: &[Json]) -> Result<Option<Keys>, NoMemory>
+    ensures each { IfOk result (Finds (ReadsEach (items_view items.now))) }
+    ensures count { IfOk result (λ o. IfSome o (λ ks. length ks ≤ length items.now)) }
+{
+    let mut keys = Keys::with_capacity(alloc, items.len())?;
+    for item in items {
+        match from_json(alloc, item)? {
+            Some(value) => keys.push(value)?,
+            None => return Ok(None),
+        }
+    }
+    Ok(Some(keys))
 }
 
 /// The operation of the word with these contents, or none where one of them is no value.

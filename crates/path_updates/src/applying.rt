@@ -6,6 +6,7 @@ ghost use Rattle.tla_values.specs.Sets.{IsSet, IsSetOf, Member};
 ghost use Rattle.path_updates.specs.declared.update.Op.TheVariants.{Add, Append, Put, Remove, Drop};
 ghost use Rattle.path_updates.specs.Changes.{Changes, Does, Finds, IsMappingOf};
 
+use crate::keys::PathKey;
 use crate::update::{Op, Update};
 use std::alloc::{AllocError, Global};
 use tla_values::{OpFault, Value, ValueFault, ValueKind};
@@ -23,7 +24,7 @@ pub fn apply(alloc: Global, update: &Update, value: &Value) -> Result<Option<Val
 fn change(
     alloc: Global,
     op: &Op,
-    keys: &[Value],
+    keys: &[PathKey],
     value: &Value,
 ) -> Result<Option<Value>, AllocError>
     ensures { IfOk result (Finds (Changes (Does op.now) keys.now value.now)) }
@@ -32,7 +33,7 @@ fn change(
     let Some((key, rest)) = keys.split_first() else {
         return act(alloc, op, value);
     };
-    let Some(inner) = value.apply(key) else {
+    let Some(inner) = key.at(value) else {
         return Ok(None);
     };
     match change(alloc, op, rest, inner)? {
@@ -45,12 +46,13 @@ fn change(
 fn replace(
     alloc: Global,
     function: &Value,
-    key: &Value,
+    key: &PathKey,
     new: Value,
 ) -> Result<Option<Value>, AllocError>
     ensures { InDomain key.now function.now → IfOk result (Finds (IsFunctionWith (InExcept function.now key.now new))) }
 {
-    match except_one(alloc, function, key, new) {
+    let place = key.value();
+    match except_one(alloc, function, place, new) {
         Ok(value) => Ok(Some(value)),
         Err(OpFault::NoMemory) => Err(AllocError),
         Err(OpFault::Refused(_, _)) => Ok(None),

@@ -2,6 +2,7 @@
 #![tactic(auto)]
 
 mod applying;
+mod keys;
 mod line;
 mod lists;
 mod path;
@@ -10,6 +11,7 @@ mod update;
 mod values;
 
 pub use applying::apply;
+pub use keys::{Keys, PathKey};
 pub use line::{Event, Line, LineList, Log};
 pub use lists::{Sees, Updates};
 pub use path::Path;

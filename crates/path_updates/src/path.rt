@@ -1,15 +1,14 @@
 ghost use Rattle.std.specs.Prelude.{◌≡◌, ◌≤◌, length};
 
-use crate::values::Values;
+use crate::keys::{Keys, PathKey};
 use std::marker::Model;
 use tla_core::VarId;
-use tla_values::Value;
 
 /// A variable, and the keys that lead from its value to what stands at the path: at most 32.
 #[derive(Drop)]
 pub struct Path {
     variable: VarId,
-    keys: Values,
+    keys: Keys,
 }
 
 impl Model for Path {
@@ -28,7 +27,7 @@ impl Model for Path {
 
 impl Path {
     /// The path of a variable with these keys, the outermost first.
-    pub fn new(variable: VarId, keys: Values) -> Path
+    pub fn new(variable: VarId, keys: Keys) -> Path
         requires { length keys ≤ 32 }
         ensures variable { result.variable ≡ variable }
         ensures keys { result.keys ≡ keys }
@@ -43,7 +42,7 @@ impl Path {
     }
 
     /// The keys, the outermost first.
-    pub fn keys(&self) -> &[Value]
+    pub fn keys(&self) -> &[PathKey]
         ensures keys { result.now ≡ self.now.keys }
         ensures few { length result.now ≤ 32 }
     {

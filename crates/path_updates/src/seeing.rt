@@ -1,6 +1,7 @@
 ghost use Rattle.std.specs.Prelude.{◌↔◌, IsTrue, option_map};
 ghost use Rattle.path_updates.specs.Changes.{Finds, LeadsTo};
 
+use crate::keys::PathKey;
 use crate::update::See;
 use tla_values::Value;
 
@@ -16,14 +17,14 @@ pub fn seen(see: &See, value: &Value) -> bool
 }
 
 /// What the keys lead to from the value.
-fn leads_to<'a>(keys: &[Value], value: &'a Value) -> Option<&'a Value>
+fn leads_to<'a>(keys: &[PathKey], value: &'a Value) -> Option<&'a Value>
     ensures { Finds (LeadsTo keys.now value.now) (option_map (λ v. v.now) result) }
 {
     value.is_value();
     let Some((key, rest)) = keys.split_first() else {
         return Some(value);
     };
-    let Some(inner) = value.apply(key) else {
+    let Some(inner) = key.at(value) else {
         return None;
     };
     leads_to(rest, inner)
