@@ -1,0 +1,6 @@
+pub mod Lawful
+pub mod Levelled
+pub mod Meanings
+pub mod Placed
+pub mod ProgramNames
+pub mod Tabled

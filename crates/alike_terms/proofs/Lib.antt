@@ -1,0 +1,11 @@
+pub mod Zips
+pub mod FirstOne
+pub mod Turned
+pub mod Inverted
+pub mod Zipped
+pub mod Limited
+pub mod Told
+pub mod Fair
+pub mod Given
+pub mod Shapes
+pub mod Telling
