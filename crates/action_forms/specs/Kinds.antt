@@ -52,7 +52,11 @@ IsKind w m (kind.BoxAction e v) = m ≡ term.BoxAction e.now v.now
 IsKind w m (kind.AngleAction e v) = m ≡ term.AngleAction e.now v.now
 IsKind w m (kind.Unchanged e) = m ≡ term.Prefix prefix.Unchanged e.now
 
--- the term is an IF that is taken apart, with these parts
+abbrev pub IsNoIf : Meaning → Type 0
+IsNoIf (term.If p e f) = ⊥
+IsNoIf m = Unit {0}
+
+-- the term is an IF that is taken apart, with these parts; and none where it is no such IF
 abbrev pub IsSplit : Which → Term → Option Split → Type 0
-IsSplit w e None = Unit {0}
+IsSplit w (Placed at l m) None = is_taken w l ≡ true → IsNoIf m
 IsSplit w e (Some s) = (at : Place) × (l : Level) × (is_taken w l ≡ true) × (e ≡ Placed at l (term.If s.test.now s.then.now s.other.now))

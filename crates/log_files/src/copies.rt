@@ -65,7 +65,7 @@ fn copy_path(alloc: Global, path: &Path) -> Result<Path, NoMemory>
     ensures { IfOk result (λ copy. copy ≡ path.now) }
 {
     let keys = copy_keys(alloc, path.keys())?;
-    Ok(Path::new(path.variable(), keys))
+    Path::new(alloc, path.variable(), keys)
 }
 
 fn copy_op(op: &Op) -> Result<Op, NoMemory>

@@ -28,7 +28,10 @@ fn read_path<N: SpecNames>(
 {
     let variable = names.variable(raw.name, guess).unwrap_or(VarId(0));
     match read_keys(alloc, raw.keys)? {
-        Some(keys) => Ok(Some(Path::new(variable, keys))),
+        Some(keys) => {
+            let path = Path::new(alloc, variable, keys)?;
+            Ok(Some(path))
+        }
         None => Ok(None),
     }
 }

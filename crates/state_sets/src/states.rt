@@ -9,8 +9,7 @@ use state_layers::StepFault;
 use std::alloc::{AllocError, Global};
 use tla_core::{Partial, State};
 
-/// The states that places are, each once, in the order in which they stand there, unless there are more than `bound`. Places of which one is empty are
-/// no state.
+/// The states that places are, each once, unless there are more than `bound`. Places of which one is empty are no state.
 pub fn states_of(alloc: Global, found: &[Partial], bound: u32) -> Result<Vec<State>, StepFault>
     ensures { Gives (IsAmong found.now) (λ t f. ⊥) (λ t. Unit {0}) bound result }
 {

@@ -100,7 +100,7 @@ impl ProgramNames {
         }
     }
 
-    /// The first entry of that name.
+    /// An entry that tells what that name means, as the first of that name does.
     pub fn get(&self, name: &Text) -> Option<&Entry>
         ensures { MatchOption result (among self.now name.now ≡ None) (λ e. among self.now name.now ≡ Some e.now.is) }
     {

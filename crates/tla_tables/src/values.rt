@@ -61,7 +61,7 @@ fn value_of(alloc: Global, given: Option<&Given>) -> Result<Value, NoMemory>
     }
 }
 
-/// A value for each constant, in the order of their declaration: that which the configuration spells, and FALSE where it spells none.
+/// A value for each constant, in the order of their declaration: that which the configuration spells. Where it spells none the value says nothing.
 pub fn constant_values(
     alloc: Global,
     program: &Program,

@@ -86,7 +86,7 @@ pub struct Spec {
 }
 
 impl Spec {
-    /// The definition of that name, which is not one of a LET. The first, though a specification has no two of one name.
+    /// The definition of that name, which is not one of a LET. A specification has no two of one name.
     pub fn operator(&self, name: &str) -> Option<DefId>
         ensures { MatchOption result ((k : ℕ) → ¬ IsNamed self.now.operators name.now k) (λ d. IsNamed self.now.operators name.now d.0) }
     {

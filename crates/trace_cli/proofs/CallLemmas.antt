@@ -33,7 +33,7 @@ use Rattle.run_stages.specs.GivenStops.{GivenStopsBy}
 use Rattle.trace_cli.specs.declared.judge.Judged.{Judged}
 use Rattle.trace_cli.specs.declared.call.Status.{Status}
 use Rattle.trace_cli.specs.declared.call.Status.TheVariants as status
-use Rattle.trace_cli.specs.Calls.{Answers, AnswersGiven, Calls, CallsGiven, asked_by, is_answered, is_answered_given, is_judged, is_refused, is_refused_given, is_unassumed, named_in, status_of, status_of_verdict}
+use Rattle.trace_cli.specs.Calls.{Answers, AnswersGiven, Calls, CallsGiven, asked_by, is_answered, is_answered_given, is_judged, is_refused, is_refused_given, is_unassumed, named_beside, named_in, status_of, status_of_verdict}
 use Rattle.run_reading.specs.Refusals.{all_files}
 use Rattle.run_texts.specs.Answers.{Named, answer_text}
 use Rattle.run_texts.specs.Verdicts.{verdict_text}
@@ -203,6 +203,18 @@ pub answered : (job : Job) (p : Program) (c : Config) (s : Spec) (log : Log) (a 
 answered job p c s log a (Ok j) is at told = record { answer = a; is_true = is; status_is = at; report_is = told }
 answered job p c s log a (Err x) is at told = tt
 
+-- the same where the lines of the log are counted apart
+pub answered_beside : (job : Job) (p : Program) (c : Config) (s : Spec) (log : Log) (lines : ℕ) (a : Answer) (r : Result Judged Stop) → lines ≡ length log.lines
+    → IsAnswer (system s log (asked_by job.options)) a → IfOk r (λ j. j.status ≡ status_of a)
+    → IfOk r (λ j. string_bytes j.report ≡ answer_text (named_beside job p c s lines) a) → IfOk r (λ j. Answers job p c s log j.status (string_bytes j.report))
+answered_beside job p c s log lines a r count is at told =
+    answered job p c s log a r is at (subst (λ (n : ℕ). IfOk r (λ j. string_bytes j.report ≡ answer_text (named_beside job p c s n) a)) count told)
+
+-- the report of an answer, where the lines of the log are counted apart
+pub counted_told : (job : Job) (p : Program) (c : Config) (s : Spec) (log : Log) (lines : ℕ) (a : Answer) (r : Result Judged Stop) → lines ≡ length log.lines
+    → IfOk r (λ j. string_bytes j.report ≡ answer_text (named_beside job p c s lines) a) → IfOk r (λ j. string_bytes j.report ≡ answer_text (named_in job p c s log) a)
+counted_told job p c s log lines a r count told = subst (λ (n : ℕ). IfOk r (λ j. string_bytes j.report ≡ answer_text (named_beside job p c s n) a)) count told
+
 -- an assumption that is not TRUE, beside given states
 pub unassumed_told : (job : Job) (p : Program) (c : Config) (s : Spec) (log : Log) (w : List Shown) (a : Answer) (r : Result Judged Stop)
     → IsUnassumed (system s log (asked_by job.options)) a → IfOk r (λ j. j.status ≡ status_of a)
@@ -247,10 +259,9 @@ pub no_form : (words : List (List ℕ)) (read : Option Words) → Reads words (O
 no_form words read reads is = subst (λ (r : Option Words). Reads words (Ok r)) is reads
 
 -- the report of an answer, by what the labels are
-pub report_told : (job : Job) (p : Program) (c : Config) (s : Spec) (log : Log) (answer : Answer) (files : List (List ℕ)) (lines : ℕ) (report : List ℕ)
-    → files ≡ all_files p c → lines ≡ length log.lines
+pub report_told : (job : Job) (p : Program) (c : Config) (s : Spec) (lines : ℕ) (answer : Answer) (files : List (List ℕ)) (report : List ℕ) → files ≡ all_files p c
     → report ≡ answer_text (record { files = files; logs = job.logs; variables = s.variables; unchecked = s.unchecked; lines = lines; limit = job.options.limit }) answer
-    → report ≡ answer_text (named_in job p c s log) answer
-report_told job p c s log answer files lines report are count told =
-    let with : List (List ℕ) → ℕ → Named = λ fs n. record { files = fs; logs = job.logs; variables = s.variables; unchecked = s.unchecked; lines = n; limit = job.options.limit } in
-    told ∙ ap (λ (fs : List (List ℕ)). answer_text (with fs lines) answer) are ∙ ap (λ (n : ℕ). answer_text (with (all_files p c) n) answer) count
+    → report ≡ answer_text (named_beside job p c s lines) answer
+report_told job p c s lines answer files report are told =
+    let with : List (List ℕ) → Named = λ fs. record { files = fs; logs = job.logs; variables = s.variables; unchecked = s.unchecked; lines = lines; limit = job.options.limit } in
+    told ∙ ap (λ (fs : List (List ℕ)). answer_text (with fs) answer) are

@@ -42,16 +42,19 @@ status_of (TotalLimit after silent) = Limit
 abbrev pub asked_by : Options → Asked
 asked_by options = asked options.stutter options.within options.limit
 
--- what a report names
-abbrev pub named_in : Job → Program → Config → Spec → Log → Named
-named_in job p c s log = record {
+-- what a report names, of a log of so many lines
+abbrev pub named_beside : Job → Program → Config → Spec → ℕ → Named
+named_beside job p c s lines = record {
   files = all_files p c;
   logs = job.logs;
   variables = s.variables;
   unchecked = s.unchecked;
-  lines = length log.lines;
+  lines = lines;
   limit = job.options.limit;
 }
+
+abbrev pub named_in : Job → Program → Config → Spec → Log → Named
+named_in job p c s log = named_beside job p c s (length log.lines)
 
 -- The answer is true of the specification beside the log; these are its status and its report.
 pub record Answers (job : Job) (p : Program) (c : Config) (s : Spec) (log : Log) (status : Status) (report : List ℕ) : Type 0 where

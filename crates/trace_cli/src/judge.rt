@@ -8,7 +8,7 @@ ghost use Rattle.run_stages.specs.declared.stop.Stop.TheVariants.{NoMemory};
 ghost use Rattle.run_texts.specs.Files.{words_text};
 ghost use Rattle.run_texts.specs.Answers.{answer_text};
 ghost use Rattle.ready_specs.specs.Beside.{IsReady};
-ghost use Rattle.trace_cli.specs.Calls.{Answers, Calls, asked_by, named_in, status_of};
+ghost use Rattle.trace_cli.specs.Calls.{Answers, Calls, asked_by, named_beside, named_in, status_of};
 ghost use Rattle.trace_cli.specs.Run.{IsStop, Runs};
 
 use crate::call::Status;
@@ -20,6 +20,8 @@ use run_words::{Job, Words, read_words};
 use spec_steps::{SpecSteps, small_law};
 use state_layers::{Answer, search_layers};
 use std::alloc::Global;
+use tla_ast::{Config, Program};
+use tla_terms::Spec;
 use trace_base::Files;
 
 /// A report, and the status that goes with it.
@@ -67,19 +69,33 @@ fn judge_job<F: Files>(alloc: Global, job: &Job, files: &mut F) -> Result<Judged
     ensures later { F.faults files.old ≤ F.faults files.new }
 {
     let accepted = read_all(alloc, job, files)?;
-    answer(alloc, job, &accepted)
+    answer(alloc, job, accepted)
 }
 
-/// What is true of the specification beside the log.
-fn answer(alloc: Global, job: &Job, accepted: &Accepted) -> Result<Judged, Stop>
+/// What is true of the specification beside the log. The log is let go before the report is made, which may be as large.
+fn answer(alloc: Global, job: &Job, accepted: Accepted) -> Result<Judged, Stop>
     requires meets { JobMeets job.now }
-    requires ready { IsReady accepted.now.spec accepted.now.log }
-    requires few_lines { length accepted.now.log.lines ≤ 200000 }
-    ensures answers { IfOk result (λ j. Answers job.now accepted.now.program accepted.now.config accepted.now.spec accepted.now.log j.status (string_bytes j.report)) }
+    requires ready { IsReady accepted.spec accepted.log }
+    requires few_lines { length accepted.log.lines ≤ 200000 }
+    ensures answers { IfOk result (λ j. Answers job.now accepted.program accepted.config accepted.spec accepted.log j.status (string_bytes j.report)) }
     ensures stopped { IfErr result (λ stop. stop ≡ NoMemory) }
 {
-    let answer = search_log(alloc, job, accepted)?;
-    told(alloc, job, accepted, &answer)
+    let answer = search_log(alloc, job, &accepted)?;
+    let Accepted {
+        program,
+        config,
+        spec,
+        log,
+    } = accepted;
+    let lines = log.lines.len();
+    drop(log);
+    let heading = Heading {
+        program: &program,
+        config: &config,
+        spec: &spec,
+        lines,
+    };
+    told_beside(alloc, job, heading, &answer)
 }
 
 /// The answer of a search for what explains the log.
@@ -102,6 +118,15 @@ pub(crate) fn search_log(alloc: Global, job: &Job, accepted: &Accepted) -> Resul
     Ok(answer)
 }
 
+/// What a report tells of what was accepted, beside the answer: the lines of the log are only counted.
+#[derive(Clone, Copy, Drop)]
+struct Heading<'a> {
+    program: &'a Program,
+    config: &'a Config,
+    spec: &'a Spec,
+    lines: usize,
+}
+
 /// The status and the report of an answer.
 pub(crate) fn told(
     alloc: Global,
@@ -114,13 +139,34 @@ pub(crate) fn told(
         ≡ answer_text (named_in job.now accepted.now.program accepted.now.config accepted.now.spec accepted.now.log) answer.now) }
     ensures stopped { IfErr result (λ stop. stop ≡ NoMemory) }
 {
-    let files = all_files(alloc, &accepted.program, &accepted.config)?;
+    let heading = Heading {
+        program: &accepted.program,
+        config: &accepted.config,
+        spec: &accepted.spec,
+        lines: accepted.log.lines.len(),
+    };
+    told_beside(alloc, job, heading, answer)
+}
+
+/// The status and the report of an answer, under this heading.
+fn told_beside(
+    alloc: Global,
+    job: &Job,
+    heading: Heading<'_>,
+    answer: &Answer,
+) -> Result<Judged, Stop>
+    ensures status { IfOk result (λ j. j.status ≡ status_of answer.now) }
+    ensures report { IfOk result (λ j. string_bytes j.report
+        ≡ answer_text (named_beside job.now heading.program.now heading.config.now heading.spec.now heading.lines) answer.now) }
+    ensures stopped { IfErr result (λ stop. stop ≡ NoMemory) }
+{
+    let files = all_files(alloc, heading.program, heading.config)?;
     let labels = Labels {
         files: &files,
         logs: &job.logs,
-        variables: &accepted.spec.variables,
-        unchecked: &accepted.spec.unchecked,
-        lines: accepted.log.lines.len(),
+        variables: &heading.spec.variables,
+        unchecked: &heading.spec.unchecked,
+        lines: heading.lines,
         limit: job.options.limit,
     };
     Ok(Judged {
