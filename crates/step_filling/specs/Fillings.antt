@@ -3,7 +3,7 @@ use Rattle.std.specs.Prelude.{◌≡◌, ◌⊎◌, ◌↔◌, ℕ, List, [], �
 use Rattle.trace_base.specs.declared.place.Place.{Place}
 use Rattle.tla_values.specs.Data.{Val}
 use Rattle.tla_values.specs.IsValue.{IsValue}
-use Rattle.tla_values.specs.Sets.{items_of}
+use Rattle.tla_values.specs.Sets.{Member, items_of}
 use Rattle.eval_sets.specs.DescribedSets.{Described}
 use Rattle.eval_sets.specs.Membership.{Belongs}
 use Rattle.tla_eval.specs.declared.fault.EvalFault.{EvalFault}
@@ -54,3 +54,7 @@ Chooses sees x S at p qs =
 -- the set can not be listed for a variable without a value, or memory is wanted
 abbrev pub FailsToChoose : ℕ → Described → Place → Places → EvalFault → Type 0
 FailsToChoose x S at p f = Stops (λ r. IsEmpty p x × list_at at S r) f
+
+-- There is a value that the set is listed as, wherever it stands, and its members are what belongs to the set.
+abbrev pub IsAtHand : Described → Type 0
+IsAtHand S = (at : Place) → (listed : Val) × list_at at S (Ok listed) × IsValue listed × ((v : Val) → Member v listed ↔ Belongs S v)

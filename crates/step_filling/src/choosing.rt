@@ -1,19 +1,26 @@
 //! One of the values of a set for a variable.
 
-ghost use Rattle.std.specs.Prelude.{◌<◌, IfErr, IfOk, length};
+ghost use Rattle.std.specs.Prelude.{◌≡◌, ◌<◌, ◌≤◌, ◌≤ℤ◌, ◌+ℤ◌, pos, IfErr, IfOk, IfSome, IsTrue, Some, length, slice_set};
+ghost use Rattle.tla_values.specs.Data.{Val};
+ghost use Rattle.tla_values.specs.IsValue.{max_members};
+ghost use Rattle.eval_sets.specs.DescribedSets.{Interval};
+ghost use Rattle.eval_sets.specs.Membership.{Belongs};
 ghost use Rattle.eval_sets.specs.Soundness.{IsSound};
 ghost use Rattle.tla_eval.specs.Sets.{list_at};
 ghost use Rattle.eval_parts.specs.Scenes.{Stops};
-ghost use Rattle.step_filling.specs.Fillings.{AreFilled, Chooses, FailsToChoose, FillsMembers};
+ghost use Rattle.step_filling.specs.Fillings.{Allows, AreFilled, Chooses, FailsToChoose, FillsMembers, IsAtHand, OneIf, SeenIn};
 
 use crate::filling::{add_filled, one_if};
-use eval_sets::{Described, member};
+use eval_sets::{Described, DescribedNode, member};
 use path_updates::See;
 use std::alloc::{AllocError, Global};
 use tla_core::{Partial, VarId};
 use tla_eval::{EvalFault, list_at};
 use tla_values::Value;
 use trace_base::Place;
+
+/// How many members a set may have.
+const MAX_MEMBERS: i64 = 100_000;
 
 /// The places with a member of the set, which stands at the place, as the variable's value: themselves where it has one already, none where its
 /// value is no member, and where it has no value, for each member those filled further, if what is seen of the variable stands in the member.
@@ -36,7 +43,7 @@ pub fn chosen(
     }
 }
 
-/// The same where the variable has no value.
+/// The same where the variable has no value. Where one is seen of it, the set need not be listed to be asked for that one, as long as it could be.
 fn listed_members(
     alloc: Global,
     sees: &[See],
@@ -50,6 +57,11 @@ fn listed_members(
     ensures found { IfOk result (λ found. FillsMembers sees.now number.0 set at places.now found.items) }
     ensures fault { IfErr result (Stops (list_at at set)) }
 {
+    if let Some(value) = seen_whole(sees, number) {
+        if is_at_hand(&set) {
+            return Ok(fill_seen(alloc, sees, places, number, &set, value)?);
+        }
+    }
     match list_at(alloc, set, at) {
         Ok(listed) => {
             listed.is_value();
@@ -74,5 +86,86 @@ fn fill_each(
     for value in values {
         add_filled(alloc, &mut found, sees, places, number, value)?;
     }
+    Ok(found)
+}
+
+/// The value that is seen of the variable as a whole, if one is.
+fn seen_whole(sees: &[See], number: VarId) -> Option<&Value>
+    ensures { IfSome result (λ value. (v : Val) → SeenIn sees.now number.0 v → v ≡ value.now) }
+{
+    for see in sees {
+        if is_whole(see, number) {
+            return Some(&see.value);
+        }
+    }
+    None
+}
+
+/// Whether it is the value of the whole variable that is seen.
+fn is_whole(see: &See, number: VarId) -> bool
+    ensures { IsTrue result → (v : Val) → Allows see.now number.0 v → v ≡ see.now.value }
+{
+    if see.path.variable().0 != number.0 {
+        return false;
+    }
+    see.path.keys().is_empty()
+}
+
+/// Whether the set is known to be one that can be listed: a value, or as many integers as a set may have.
+fn is_at_hand(set: &Described) -> bool
+    ensures { IsTrue result → IsAtHand set.now }
+{
+    match &set.node {
+        DescribedNode::Listed(all) => {
+            all.is_value();
+            true
+        }
+        DescribedNode::Interval(first, last) => are_few(*first, *last),
+        _ => false,
+    }
+}
+
+/// Whether there are integers from the first to the last, and no more than a set may have.
+fn are_few(first: i64, last: i64) -> bool
+    ensures { IsTrue result → IsAtHand (Interval first last) }
+{
+    if first > last {
+        return false;
+    }
+    match count_between(first, last) {
+        Some(_) => true,
+        None => false,
+    }
+}
+
+/// How many integers there are from the first to the last, unless they are more than a set may have.
+fn count_between(first: i64, last: i64) -> Option<u32>
+    requires { first ≤ℤ last }
+    ensures { IfSome result (λ n. (n ≤ max_members) × (first +ℤ pos n ≡ last +ℤ pos 1)) }
+{
+    match last.checked_sub(first) {
+        Some(more) if more < MAX_MEMBERS => Some(more as u32 + 1),
+        _ => None,
+    }
+}
+
+/// The places with the value that is seen of the variable, if it belongs to the set and all that is seen stands in it.
+fn fill_seen(
+    alloc: Global,
+    sees: &[See],
+    places: &Partial,
+    number: VarId,
+    set: &Described,
+    value: &Value,
+) -> Result<Vec<Partial>, AllocError>
+    requires within { number.0 < length places.now }
+    requires sound { IsSound set.now }
+    ensures { IfOk result (λ found. OneIf (Belongs set.now value.now × SeenIn sees.now number.0 value.now) (slice_set places.now number.0 (Some value.now)) found.items) }
+{
+    let mut found = Vec::new(alloc);
+    if !member(set, value) {
+        return Ok(found);
+    }
+    add_filled(alloc, &mut found, sees, places, number, value)?;
     Ok(found)
 }
