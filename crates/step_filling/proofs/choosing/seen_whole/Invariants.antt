@@ -1,4 +1,3 @@
-use Rattle.std.proofs.Common.{Unit}
 use Rattle.step_filling.proofs.choosing.seen_whole.Given as goal
 
 abbrev pub invariant-loop-see : goal.invariant-loop-see
