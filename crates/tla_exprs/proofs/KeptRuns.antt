@@ -1,19 +1,20 @@
 -- One token of a run, by the names that do not unfold.
-use Rattle.std.proofs.Common.{◌≡◌, ◌⊎◌, ℕ, Bool, true, false, nat_lt, ◌+◌, ◌<◌, ◌≤◌, List, [], ◌∷◌, ◌++◌, length, take, drop, get_or, suc, refl, sym, ap, subst, ◌∙◌, inl, inr, drop_of_length-le, arith}
+use Rattle.std.proofs.Common.{◌≡◌, ◌⊎◌, ℕ, Bool, true, false, nat_lt, ◌+◌, ◌<◌, ◌≤◌, List, [], ◌∷◌, ◌++◌, Option, Some, None, length, take, drop, get_or, suc, refl, sym, ap, subst, ◌∙◌, inl, inr, drop_of_length-le, arith}
 use Rattle.std.proofs.Math.Seq.{drop-cons}
 use Rattle.std.proofs.lemmas.Bool.{ltb-false, ltb-true}
 use Rattle.std.proofs.lemmas.List.{append_assoc, take-append-drop}
 use Rattle.trace_base.specs.declared.place.Place.{Place}
 use Rattle.tla_ast.specs.declared.token.Kind.{Kind}
 use Rattle.tla_ast.specs.declared.token.Kind.TheVariants as kinds
-use Rattle.tla_ast.specs.declared.laid.Laid.TheVariants.{Plain, ListOpen, ListItem, ListClose}
+use Rattle.tla_ast.specs.declared.token.Token.{Token}
+use Rattle.tla_ast.specs.Laid.{next_of}
 use Rattle.tla_ast.specs.declared.expr.Definition.{Definition}
 use Rattle.tla_ast.specs.declared.laid.Laid.{Laid}
 use Rattle.tla_ast.specs.Trees.{Tree}
 use Rattle.tla_exprs.specs.Does.{Does}
 use Rattle.tla_exprs.specs.Ended.{IsRead}
 use Rattle.tla_exprs.specs.Nesting.{deepest, unfinished}
-use Rattle.tla_exprs.specs.Refused.{ShallowIn, Refuses, ShallowUpTo, place_of, refusal_of, refusal_of_kind}
+use Rattle.tla_exprs.specs.Refused.{ShallowIn, IsRefusedAt, Refuses, ShallowUpTo, place_of, refusal_of, refusal_before, refusal_of_kind}
 use Rattle.reader_model.proofs.Paths.{Path}
 use Rattle.tla_exprs.proofs.ShallowRuns.{shallow_on, shallow_there}
 use Rattle.reader_model.specs.Machine.{Stepped, Reads, Stops, Clashes, Ends, EndsDefinition, StopsAt, after, run, step}
@@ -128,22 +129,24 @@ pub last_read : (laid : List Laid) (from i : ℕ) (x : Laid) (p : Place) → i <
 last_read laid from i x p h g q =
     inr (take i laid, x, sym (take-append-drop i laid) ∙ ap (λ r. take i laid ++ r) (here laid i x h g), sym q)
 
-kind_refused : (laid : List Laid) (from : ℕ) (start : Mode) (k : Kind) (at : Place) (x : Laid) (rest : List Laid) → kept_run laid from [] start ≡ StopsAt (x ∷ rest) → refusal_of x ≡ refusal_of_kind k at → ShallowUpTo laid from start (x ∷ rest) → Refuses laid from start (refusal_of_kind k at)
-kind_refused laid from start (kinds.Foreign f) at x rest e q s = (x, rest, e, q, s)
-kind_refused laid from start _ at x rest e q s = inl (x, rest, e, q, s)
+kind_refused : (laid : List Laid) (from : ℕ) (start : Mode) (k : Kind) (own at : Place) (x : Laid) (rest : List Laid) → kept_run laid from [] start ≡ StopsAt (x ∷ rest) → refusal_of x rest ≡ refusal_of_kind k own at → ShallowUpTo laid from start (x ∷ rest) → Refuses laid from start (refusal_of_kind k own at)
+kind_refused laid from start (kinds.Foreign f) own at x rest e q s = (x, rest, e, q, s)
+kind_refused laid from start _ own at x rest e q s = inl (x, rest, e, q, s)
 
-laid_refused : (laid : List Laid) (from : ℕ) (start : Mode) (x : Laid) (rest : List Laid) → kept_run laid from [] start ≡ StopsAt (x ∷ rest) → ShallowUpTo laid from start (x ∷ rest) → Refuses laid from start (refusal_of x)
-laid_refused laid from start (Plain t) rest e s = kind_refused laid from start t.kind t.place (Plain t) rest e refl s
-laid_refused laid from start (ListOpen b at) rest e s = inl (ListOpen b at, rest, e, refl, s)
-laid_refused laid from start (ListItem b at) rest e s = inl (ListItem b at, rest, e, refl, s)
-laid_refused laid from start (ListClose at) rest e s = inl (ListClose at, rest, e, refl, s)
+next_refused : (laid : List Laid) (from : ℕ) (start : Mode) (o : Option Token) (at : Place) (x : Laid) (rest : List Laid) → kept_run laid from [] start ≡ StopsAt (x ∷ rest) → refusal_of x rest ≡ refusal_before o at → ShallowUpTo laid from start (x ∷ rest) → Refuses laid from start (refusal_before o at)
+next_refused laid from start (Some t) at x rest e q s = kind_refused laid from start t.kind t.place at x rest e q s
+next_refused laid from start None at x rest e q s = inl (x, rest, e, q, s)
+
+laid_refused : (laid : List Laid) (from : ℕ) (start : Mode) (x : Laid) (rest : List Laid) → kept_run laid from [] start ≡ StopsAt (x ∷ rest) → ShallowUpTo laid from start (x ∷ rest) → Refuses laid from start (refusal_of x rest)
+laid_refused laid from start x rest e s = next_refused laid from start (next_of (x ∷ rest) None) (place_of x) x rest e refl s
 
 stops_here : (laid : List Laid) (from i : ℕ) (start : Mode) (x : Laid) → i < length laid → x ≡ get_or laid i x → kept_run laid from [] start ≡ StopsAt (drop i laid) → kept_run laid from [] start ≡ StopsAt (x ∷ drop (i + 1) laid)
 stops_here laid from i start x h g e = e ∙ ap (λ r. StopsAt r) (here laid i x h g)
 
-pub read_stops : (laid : List Laid) (from i : ℕ) (start m : Mode) (fault : ParseFault) (x : Laid) (fs gs : List Frame) (r : code.Stepped) → ReadUpTo laid from i start fs m → kept_run laid from [] start ≡ kept_run laid i fs m → i < length laid → x ≡ get_or laid i x → Does r gs (kept_step x fs m) → r ≡ codes.Stops → fault ≡ refusal_of x → Refuses laid from start fault
+pub read_stops : (laid : List Laid) (from i : ℕ) (start m : Mode) (fault : ParseFault) (x : Laid) (fs gs : List Frame) (r : code.Stepped) → ReadUpTo laid from i start fs m → kept_run laid from [] start ≡ kept_run laid i fs m → i < length laid → x ≡ get_or laid i x → Does r gs (kept_step x fs m) → r ≡ codes.Stops → IsRefusedAt (drop i laid) fault → Refuses laid from start fault
 read_stops laid from i start m fault x fs gs r k v h g d e q =
-    subst (λ f. Refuses laid from start f) (sym q)
+    let there : refusal_of x (drop (i + 1) laid) ≡ fault = subst (λ w. IsRefusedAt w fault) (here laid i x h g) q in
+    subst (λ f. Refuses laid from start f) there
     (laid_refused laid from start x (drop (i + 1) laid) (stops_here laid from i start x h g (v ∙ kept_after laid i x fs m Stops h g (subst (λ s. Does s gs (kept_step x fs m)) e d)))
     (subst (λ w. ShallowUpTo laid from start w) (here laid i x h g) (up_to laid from i start fs m k)))
 

@@ -20,7 +20,7 @@ pub record UpTo (Begins Fitting Shallow : List Laid → Type 0) (laid rest : Lis
 
 -- the first token that can not follow those before it is refused so
 abbrev pub CanNotFollow : (Begins Fitting Shallow : List Laid → Type 0) → List Laid → ParseFault → Type 0
-CanNotFollow Begins Fitting Shallow laid fault = (x : Laid) × (rest : List Laid) × UpTo Begins Fitting Shallow laid rest x × (refusal_of x ≡ fault)
+CanNotFollow Begins Fitting Shallow laid fault = (x : Laid) × (rest : List Laid) × UpTo Begins Fitting Shallow laid rest x × (refusal_of x rest ≡ fault)
 
 -- all the tokens are the beginning of a text with its ranges, and this is the place of the last
 pub record EndsTooEarly (Begins Fitting Shallow : List Laid → Type 0) (laid : List Laid) (p : Place) : Type 0 where

@@ -1,10 +1,12 @@
 -- Why laid tokens are refused from an index on, by the reader from a start.
-use Rattle.std.specs.Prelude.{◌≡◌, ◌⊎◌, ℕ, ◌≤◌, List, [], ◌∷◌, ◌++◌, drop}
+use Rattle.std.specs.Prelude.{◌≡◌, ◌⊎◌, ℕ, ◌≤◌, List, [], ◌∷◌, ◌++◌, Option, Some, None, drop}
 use Rattle.trace_base.specs.declared.place.Place.{Place}
 use Rattle.tla_ast.specs.declared.laid.Laid.{Laid}
 use Rattle.tla_ast.specs.declared.laid.Laid.TheVariants.{Plain, ListOpen, ListItem, ListClose}
 use Rattle.tla_ast.specs.declared.token.Kind.{Kind}
 use Rattle.tla_ast.specs.declared.token.Kind.TheVariants as kinds
+use Rattle.tla_ast.specs.declared.token.Token.{Token}
+use Rattle.tla_ast.specs.Laid.{next_of}
 use Rattle.reader_model.specs.Machine.{Stepped, Reads, Stops, Clashes, Ends, EndsDefinition, StopsAt, ClashesAt, run, step}
 use Rattle.tla_exprs.specs.Nesting.{deepest, unfinished}
 use Rattle.tla_exprs.specs.Kept.{kept_run}
@@ -20,16 +22,24 @@ place_of (ListOpen b at) = at
 place_of (ListItem b at) = at
 place_of (ListClose at) = at
 
-abbrev pub refusal_of_kind : Kind → Place → ParseFault
-refusal_of_kind (kinds.Foreign f) at = OutOfProfile f at
-refusal_of_kind _ at = Expected at
+-- The refusal at a place where a token of this kind comes next, which has a place of its own. Outside the profile it is refused as such, where it stands.
+abbrev pub refusal_of_kind : Kind → (own at : Place) → ParseFault
+refusal_of_kind (kinds.Foreign f) own at = OutOfProfile f own
+refusal_of_kind _ own at = Expected at
 
--- the refusal of a token that can not follow
-abbrev pub refusal_of : Laid → ParseFault
-refusal_of (Plain t) = refusal_of_kind t.kind t.place
-refusal_of (ListOpen b at) = Expected at
-refusal_of (ListItem b at) = Expected at
-refusal_of (ListClose at) = Expected at
+-- the same where this token comes next, or none
+abbrev pub refusal_before : Option Token → Place → ParseFault
+refusal_before (Some t) at = refusal_of_kind t.kind t.place at
+refusal_before None at = Expected at
+
+-- The refusal of a laid token that can not follow, with those behind it. The end of a list is refused as the token before which the list ends.
+abbrev pub refusal_of : Laid → List Laid → ParseFault
+refusal_of x rest = refusal_before (next_of (x ∷ rest) None) (place_of x)
+
+-- the first of these can not follow, and is refused so
+abbrev pub IsRefusedAt : List Laid → ParseFault → Type 0
+IsRefusedAt [] fault = ⊥
+IsRefusedAt (x ∷ rest) fault = refusal_of x rest ≡ fault
 
 -- what holds of the state behind a token that is read
 abbrev pub ShallowBehind : Stepped → (List Frame → Mode → Type 0) → Type 0
@@ -52,7 +62,7 @@ pub record ShallowUpTo (laid : List Laid) (from : ℕ) (start : Mode) (behind : 
 
 -- the reader stops at a token that can not follow, of which this is the refusal
 abbrev pub StopsBefore : List Laid → ℕ → Mode → ParseFault → Type 0
-StopsBefore laid from start fault = (x : Laid) × (rest : List Laid) × (kept_run laid from [] start ≡ StopsAt (x ∷ rest)) × (refusal_of x ≡ fault) × ShallowUpTo laid from start (x ∷ rest)
+StopsBefore laid from start fault = (x : Laid) × (rest : List Laid) × (kept_run laid from [] start ≡ StopsAt (x ∷ rest)) × (refusal_of x rest ≡ fault) × ShallowUpTo laid from start (x ∷ rest)
 
 -- every token from there on is read and nothing has ended, and the last token of the list stands at this place
 abbrev pub EndsEarly : List Laid → ℕ → Mode → Place → Type 0

@@ -89,19 +89,13 @@ fn let_body(
     want(stack, Frame::LetBody(at, definitions))
 }
 
-/// Lets go of what waits and of the expression behind it. Each function that does so itself has a goal for each kind of frame.
-fn let_go(_frame: Frame, _e: Expr) {}
-
 /// THEN behind the test of an IF.
 fn then_closes(frame: Frame, stack: &mut Stack, e: Expr) -> Result<Stepped, NoMemory>
     ensures { IfOk result (λ r. Does r (frames_in stack.new) (word_closes Word.Then frame (frames_in stack.old) e)) }
 {
     match frame {
         Frame::IfTest(at) => want(stack, Frame::IfThen(at, e)),
-        other => {
-            let_go(other, e);
-            Ok(Stepped::Stops)
-        }
+        _ => Ok(Stepped::Stops),
     }
 }
 
@@ -111,10 +105,7 @@ fn else_closes(frame: Frame, stack: &mut Stack, e: Expr) -> Result<Stepped, NoMe
 {
     match frame {
         Frame::IfThen(at, test) => want(stack, Frame::IfElse(at, test, e)),
-        other => {
-            let_go(other, e);
-            Ok(Stepped::Stops)
-        }
+        _ => Ok(Stepped::Stops),
     }
 }
 
@@ -140,10 +131,7 @@ fn except_closes(
             stack,
             e,
         ),
-        other => {
-            let_go(other, e);
-            Ok(Stepped::Stops)
-        }
+        _ => Ok(Stepped::Stops),
     }
 }
 
@@ -158,10 +146,7 @@ fn in_closes(alloc: Global, frame: Frame, stack: &mut Stack, e: Expr) -> Result<
             }
             Scope::Unit => Ok(Stepped::Stops),
         },
-        other => {
-            let_go(other, e);
-            Ok(Stepped::Stops)
-        }
+        _ => Ok(Stepped::Stops),
     }
 }
 
@@ -180,10 +165,7 @@ fn word_closes(
         Word::Else => else_closes(frame, stack, e),
         Word::Except => except_closes(alloc, frame, stack, e),
         Word::In => in_closes(alloc, frame, stack, e),
-        _ => {
-            let_go(frame, e);
-            Ok(Stepped::Stops)
-        }
+        _ => Ok(Stepped::Stops),
     }
 }
 
@@ -206,10 +188,7 @@ fn name_closes(
             }
             Scope::Unit => Ok(Stepped::Stops),
         },
-        other => {
-            let_go(other, e);
-            Ok(Stepped::Stops)
-        }
+        _ => Ok(Stepped::Stops),
     }
 }
 
@@ -240,10 +219,7 @@ fn item_closes(
             items.push(e)?;
             want(stack, Frame::Junction(own, at, items))
         }
-        other => {
-            let_go(other, e);
-            Ok(Stepped::Stops)
-        }
+        _ => Ok(Stepped::Stops),
     }
 }
 
@@ -257,10 +233,7 @@ fn list_closes(frame: Frame, e: Expr) -> Result<Stepped, NoMemory>
             let node = Node::Junction(bullet, items);
             Ok(Stepped::Reads(Mode::Have(Expr { at, node })))
         }
-        other => {
-            let_go(other, e);
-            Ok(Stepped::Stops)
-        }
+        _ => Ok(Stepped::Stops),
     }
 }
 
@@ -307,10 +280,7 @@ fn laid_closes(
 {
     match laid {
         Laid::Plain(token) => kind_closes(alloc, &token.kind, token.place, frame, stack, e),
-        Laid::ListOpen(_, _) => {
-            let_go(frame, e);
-            Ok(Stepped::Stops)
-        }
+        Laid::ListOpen(_, _) => Ok(Stepped::Stops),
         Laid::ListItem(bullet, _) => item_closes(*bullet, frame, stack, e),
         Laid::ListClose(_) => list_closes(frame, e),
     }

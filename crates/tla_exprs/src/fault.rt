@@ -13,7 +13,7 @@ pub enum ParseFault {
     Conflict(Place, Place),
     /// The token here stands inside more than 100 unfinished constructs.
     TooNested(Place),
-    /// As `Expected`, at a token of TLA+ that is outside this project's profile.
+    /// As `Expected`, at a token of TLA+ that is outside this project's profile, or at the end of junction lists before one.
     OutOfProfile(Foreign, Place),
     NoMemory,
 }

@@ -27,9 +27,6 @@ fn folds(case: bool, frame: &Frame) -> bool
     }
 }
 
-/// Lets go of a frame.
-fn let_go(_frame: Frame) {}
-
 /// Such a row with its last expression.
 pub fn folded(alloc: Global, frame: Frame, last: Expr) -> Result<Expr, NoMemory>
     ensures { IfOk result (λ e. e ≡ folded frame last) }
@@ -74,10 +71,7 @@ pub fn folded(alloc: Global, frame: Frame, last: Expr) -> Result<Expr, NoMemory>
             let node = Node::Let(definitions, Box::new(alloc, last)?);
             Ok(Expr { at, node })
         }
-        other => {
-            let_go(other);
-            Ok(last)
-        }
+        _ => Ok(last),
     }
 }
 

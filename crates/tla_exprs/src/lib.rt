@@ -14,6 +14,7 @@ mod named;
 mod nesting;
 mod openers;
 mod reader;
+mod refusing;
 mod stack;
 mod starts;
 mod stepped;
@@ -21,3 +22,4 @@ mod steps;
 
 pub use fault::ParseFault;
 pub use reader::{definition, expression};
+pub use refusing::fault_at;

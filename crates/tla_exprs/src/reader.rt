@@ -10,18 +10,18 @@ ghost use Rattle.tla_exprs.specs.Does.{frames_in};
 ghost use Rattle.tla_exprs.specs.Ended.{IsRead};
 ghost use Rattle.tla_exprs.specs.Nesting.{Shallow, ShallowDefinition, deepest, unfinished};
 ghost use Rattle.tla_exprs.specs.Refusals.{GoesAsFar, IsRefused};
-ghost use Rattle.tla_exprs.specs.Refused.{Refuses, place_of, refusal_of};
+ghost use Rattle.tla_exprs.specs.Refused.{Refuses};
 ghost use Rattle.tla_exprs.specs.Unended.{EndedDefinition, EndedText, IsUnended};
 
 use crate::fault::ParseFault;
 use crate::nesting::unfinished_at;
+use crate::refusing::{fault_at, place_of};
 use crate::stack::Stack;
 use crate::stepped::Stepped;
 use crate::steps::step;
 use reader_model::{Mode, Scope};
 use std::alloc::Global;
-use tla_ast::{Definition, Expr, Foreign, Kind, Laid};
-use trace_base::Place;
+use tla_ast::{Definition, Expr, Laid};
 
 /// How many unfinished constructs a token may stand inside.
 const DEEPEST: u64 = 100;
@@ -31,31 +31,6 @@ const DEEPEST: u64 = 100;
 pub enum Ended {
     Expression(Expr, usize),
     Definition(Definition, usize),
-}
-
-/// The place of a laid token.
-fn place_of(laid: &Laid) -> Place
-    ensures { result ≡ place_of laid.now }
-{
-    match laid {
-        Laid::Plain(token) => token.place,
-        Laid::ListOpen(_, at) => *at,
-        Laid::ListItem(_, at) => *at,
-        Laid::ListClose(at) => *at,
-    }
-}
-
-/// The refusal of a token that can not follow.
-fn expected(laid: &Laid) -> ParseFault
-    ensures { result ≡ refusal_of laid.now }
-{
-    match laid {
-        Laid::Plain(token) => match &token.kind {
-            Kind::Foreign(foreign) => ParseFault::OutOfProfile(*foreign, token.place),
-            _ => ParseFault::Expected(token.place),
-        },
-        other => ParseFault::Expected(place_of(other)),
-    }
 }
 
 /// Whether a token stands inside too many unfinished constructs.
@@ -85,7 +60,7 @@ fn read(alloc: Global, laid: &[Laid], from: usize, start: Mode) -> Result<Ended,
                 }
                 mode = behind;
             }
-            Stepped::Stops => return Err(expected(next)),
+            Stepped::Stops => return Err(fault_at(laid, i)),
             Stepped::Clashes(p, q) => return Err(ParseFault::Conflict(p, q)),
             Stepped::Ends(e) => return Ok(Ended::Expression(e, i)),
             Stepped::EndsDefinition(definition) => return Ok(Ended::Definition(definition, i)),
@@ -108,7 +83,7 @@ pub fn expression(alloc: Global, laid: &[Laid], from: usize) -> Result<(Expr, us
 {
     match read(alloc, laid, from, Mode::Want)? {
         Ended::Expression(e, behind) => Ok((e, behind)),
-        Ended::Definition(_, behind) => Err(expected(&laid[behind])),
+        Ended::Definition(_, behind) => Err(fault_at(laid, behind)),
     }
 }
 
@@ -129,6 +104,6 @@ pub fn definition(
 {
     match read(alloc, laid, from, Mode::DefinitionName(Scope::Unit))? {
         Ended::Definition(definition, behind) => Ok((definition, behind)),
-        Ended::Expression(_, behind) => Err(expected(&laid[behind])),
+        Ended::Expression(_, behind) => Err(fault_at(laid, behind)),
     }
 }

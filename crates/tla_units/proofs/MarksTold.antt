@@ -12,7 +12,8 @@ use Rattle.tla_ast.specs.declared.token.Symbol.TheVariants as symbols
 use Rattle.tla_ast.specs.declared.token.Token.{Token as LaidToken}
 use Rattle.reader_model.specs.LawsOfTrees.{EndsText}
 use Rattle.std.specs.Option.{IfSome}
-use Rattle.tla_units.specs.Marks.{word_mark, symbol_mark, kind_mark, mark_of, first_mark, IsRefusedAt}
+use Rattle.tla_exprs.specs.Refused.{IsRefusedAt}
+use Rattle.tla_units.specs.Marks.{word_mark, symbol_mark, kind_mark, mark_of, first_mark}
 use Rattle.tla_exprs.specs.declared.fault.ParseFault.{ParseFault}
 use Rattle.tla_units.specs.Reads.{Misses}
 use Rattle.tla_units.specs.Rests.{Marked}

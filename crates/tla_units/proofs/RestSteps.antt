@@ -1,17 +1,18 @@
 -- One token of the rest of a module, and names.
-use Rattle.std.proofs.Common.{◌≡◌, ℕ, zero, suc, Bool, false, List, [], ◌∷◌, Option, Some, Result, Ok, Err, refl, sym, ap, subst, ◌∙◌, true}
+use Rattle.std.proofs.Common.{◌≡◌, ℕ, zero, suc, Bool, false, List, [], ◌∷◌, Option, Some, None, Result, Ok, Err, refl, sym, ap, subst, ◌∙◌, true}
 use Rattle.std.specs.Option.{IfSome}
 use Rattle.std.specs.Result.{IfErr}
 use Rattle.trace_base.specs.declared.place.Place.{Place}
 use Rattle.tla_ast.specs.declared.laid.Laid.{Laid}
-use Rattle.tla_ast.specs.declared.laid.Laid.TheVariants.{Plain, ListOpen, ListItem, ListClose}
 use Rattle.tla_ast.specs.declared.token.Kind.{Kind}
 use Rattle.tla_ast.specs.declared.token.Kind.TheVariants as kinds
+use Rattle.tla_ast.specs.declared.token.Token.{Token}
+use Rattle.tla_ast.specs.Laid.{next_of}
 use Rattle.tla_ast.specs.Grammar.{Span, ◌⨟◌}
-use Rattle.tla_exprs.specs.Refused.{refusal_of, refusal_of_kind}
+use Rattle.tla_exprs.specs.Refused.{IsRefusedAt, place_of, refusal_before, refusal_of, refusal_of_kind}
 use Rattle.tla_exprs.specs.declared.fault.ParseFault.{ParseFault}
 use Rattle.tla_exprs.specs.declared.fault.ParseFault.TheVariants.{Expected, Conflict, TooNested, OutOfProfile, NoMemory}
-use Rattle.tla_units.specs.Marks.{mark_of, first_mark, IsRefusedAt}
+use Rattle.tla_units.specs.Marks.{mark_of, first_mark}
 use Rattle.tla_units.specs.Rests.{Rest, ◌▹◌, Marked, Others, SomeOthers, Listed}
 use Rattle.tla_units.specs.Reads.{SameHead, Leads, Lacks, Misses, IsStopped, RefusedIn, BegunBy}
 use Rattle.tla_units.specs.declared.marks.Mark.{Mark}
@@ -34,21 +35,22 @@ IsOfToken (Expected p) = Unit {0}
 IsOfToken (OutOfProfile f p) = Unit {0}
 IsOfToken _ = ⊥
 
-kind_refusal : (k : Kind) (p : Place) → IsOfToken (refusal_of_kind k p)
-kind_refusal (kinds.Foreign f) p = tt
-kind_refusal _ p = tt
+of_kind : (k : Kind) (own at : Place) → IsOfToken (refusal_of_kind k own at)
+of_kind (kinds.Foreign f) own at = tt
+of_kind _ own at = tt
 
-of_token : (x : Laid) → IsOfToken (refusal_of x)
-of_token (Plain t) = kind_refusal t.kind t.place
-of_token (ListOpen b at) = tt
-of_token (ListItem b at) = tt
-of_token (ListClose at) = tt
+of_next : (o : Option Token) (at : Place) → IsOfToken (refusal_before o at)
+of_next (Some t) at = of_kind t.kind t.place at
+of_next None at = tt
+
+of_token : (x : Laid) (rest : List Laid) → IsOfToken (refusal_of x rest)
+of_token x rest = of_next (next_of (x ∷ rest) None) (place_of x)
 
 pub refused_stopped : (T : Rest) (D : Place → Type 0) (H : List Laid → Type 0) (xs : List Laid) (e : ParseFault) → IsStopped T H xs e → RefusedIn T D H xs e
 refused_stopped T D H xs (Expected p) s = s
 refused_stopped T D H xs (OutOfProfile f p) s = s
-refused_stopped T D H xs (Conflict p q) s = absurd (subst IsOfToken s.3 (of_token s.0))
-refused_stopped T D H xs (TooNested p) s = absurd (subst IsOfToken s.3 (of_token s.0))
+refused_stopped T D H xs (Conflict p q) s = absurd (subst IsOfToken s.3 (of_token s.0 s.1))
+refused_stopped T D H xs (TooNested p) s = absurd (subst IsOfToken s.3 (of_token s.0 s.1))
 refused_stopped T D H xs NoMemory s = tt
 
 -- the first token is refused

@@ -7,7 +7,8 @@ use Rattle.tla_ast.specs.declared.token.Kind.TheVariants as kinds
 use Rattle.tla_ast.specs.Grammar.{Span, ◌⨟◌, some_token}
 use Rattle.tla_ast.specs.Modules.{ExtendsText}
 use Rattle.tla_exprs.specs.declared.fault.ParseFault.{ParseFault}
-use Rattle.tla_units.specs.Marks.{begins_end, IsRefusedAt}
+use Rattle.tla_exprs.specs.Refused.{IsRefusedAt}
+use Rattle.tla_units.specs.Marks.{begins_end}
 use Rattle.tla_units.specs.Parts.{MarkText}
 use Rattle.tla_units.specs.Refusals.{Begins, HeadingText, IsRefusedModule, ShallowModule, ShallowUnit, ShallowUnits, ShallowWholeUnits, SomeExtends}
 use Rattle.tla_units.specs.Reads.{SameHead, Leads, Lacks, Misses, RefusedIn, NeverDeep, DeepUnits}

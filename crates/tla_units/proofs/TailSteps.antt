@@ -6,7 +6,8 @@ use Rattle.tla_ast.specs.declared.laid.Laid.TheVariants.{Plain}
 use Rattle.tla_ast.specs.declared.token.Kind.TheVariants as kinds
 use Rattle.tla_ast.specs.Grammar.{nothing}
 use Rattle.tla_exprs.specs.declared.fault.ParseFault.{ParseFault}
-use Rattle.tla_units.specs.Marks.{mark_of, kind_mark, first_mark, IsRefusedAt}
+use Rattle.tla_exprs.specs.Refused.{IsRefusedAt}
+use Rattle.tla_units.specs.Marks.{mark_of, kind_mark, first_mark}
 use Rattle.tla_units.specs.Rests.{Rest, ◌▹◌, Then, Marked, Listed, Titled, Definition, Behind, UnitPart, Last, UnitsLeft, Tail}
 use Rattle.tla_units.specs.Reads.{SameHead, Leads, RefusedIn, BegunBy}
 use Rattle.tla_units.specs.declared.marks.Mark.{Mark}

@@ -17,7 +17,8 @@ use Rattle.tla_exprs.specs.Nesting.{Shallow, ShallowDefinition}
 use Rattle.tla_exprs.specs.Refusals.{GoesAsFar, IsRefused}
 use Rattle.tla_exprs.specs.Unended.{EndedText, EndedDefinition, IsUnended}
 use Rattle.tla_exprs.specs.declared.fault.ParseFault.{ParseFault}
-use Rattle.tla_units.specs.Marks.{first_mark, IsRefusedAt}
+use Rattle.tla_exprs.specs.Refused.{IsRefusedAt}
+use Rattle.tla_units.specs.Marks.{first_mark}
 use Rattle.tla_units.specs.Reads.{Leads, ReadsTitle, RefusedIn, NeverDeep, DeepExpression, DeepDefinition, DeepTitled, DeepStated, DeepUnit, DeepUnits, ShallowTitled}
 use Rattle.tla_units.specs.Refusals.{Begins, ShallowUnit, ShallowUnits, ShallowWholeUnits}
 use Rattle.tla_units.specs.Rests.{◌▹◌, Then, Marked, Listed, Titled, Expression, Definition, Last, Tail}

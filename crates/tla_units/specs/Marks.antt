@@ -1,5 +1,5 @@
 -- What a laid token is to the grammar of modules: its mark, if it has one.
-use Rattle.std.specs.Prelude.{◌≡◌, Bool, false, List, [], ◌∷◌, Option, Some, None}
+use Rattle.std.specs.Prelude.{Bool, false, List, [], ◌∷◌, Option, Some, None}
 use Rattle.tla_ast.specs.declared.laid.Laid.{Laid}
 use Rattle.tla_ast.specs.declared.laid.Laid.TheVariants.{Plain, ListOpen, ListItem, ListClose}
 use Rattle.tla_ast.specs.declared.token.Kind.{Kind}
@@ -9,8 +9,6 @@ use Rattle.tla_ast.specs.declared.token.Word.TheVariants as words
 use Rattle.tla_ast.specs.declared.token.Symbol.{Symbol}
 use Rattle.tla_ast.specs.declared.token.Symbol.TheVariants as symbols
 use Rattle.tla_ast.specs.Opens.{is_end}
-use Rattle.tla_exprs.specs.Refused.{refusal_of}
-use Rattle.tla_exprs.specs.declared.fault.ParseFault.{ParseFault}
 use Rattle.tla_units.specs.declared.marks.Mark.{Mark}
 use Rattle.tla_units.specs.declared.marks.Mark.TheVariants.{Name, Dashes, Equals, Comma, Defined, Heading, Extends, Variables, Constants, Assume, Theorem}
 
@@ -61,8 +59,3 @@ begins_end (Plain t ∷ xs) = is_end t.kind
 begins_end (ListOpen b at ∷ xs) = false
 begins_end (ListItem b at ∷ xs) = false
 begins_end (ListClose at ∷ xs) = false
-
--- the first of these is refused so
-abbrev pub IsRefusedAt : List Laid → ParseFault → Type 0
-IsRefusedAt [] fault = ⊥
-IsRefusedAt (x ∷ xs) fault = refusal_of x ≡ fault

@@ -7,10 +7,10 @@ use Rattle.reader_model.specs.Beginnings.{FittingBegun, FittingBegunDefinition}
 use Rattle.reader_model.specs.Meeting.{Meets}
 use Rattle.tla_exprs.specs.Nesting.{Shallow, ShallowDefinition}
 use Rattle.tla_exprs.specs.Refusals.{IsTooNested}
-use Rattle.tla_exprs.specs.Refused.{refusal_of}
+use Rattle.tla_exprs.specs.Refused.{IsRefusedAt, refusal_of}
 use Rattle.tla_exprs.specs.declared.fault.ParseFault.{ParseFault}
 use Rattle.tla_exprs.specs.declared.fault.ParseFault.TheVariants.{Expected, Conflict, TooNested, OutOfProfile, NoMemory}
-use Rattle.tla_units.specs.Marks.{first_mark, IsRefusedAt}
+use Rattle.tla_units.specs.Marks.{first_mark}
 use Rattle.tla_units.specs.Rests.{Rest, Title, Tail}
 use Rattle.tla_units.specs.declared.marks.Mark.{Mark}
 use Rattle.tla_units.specs.declared.marks.Mark.TheVariants as marks
@@ -64,7 +64,7 @@ pub record Stops (T : Rest) (Held : List Laid → Type 0) (xs rest : List Laid) 
   pub held : Held read
 
 abbrev pub IsStopped : Rest → (List Laid → Type 0) → List Laid → ParseFault → Type 0
-IsStopped T Held xs fault = (x : Laid) × (rest : List Laid) × Stops T Held xs rest x × (refusal_of x ≡ fault)
+IsStopped T Held xs fault = (x : Laid) × (rest : List Laid) × Stops T Held xs rest x × (refusal_of x rest ≡ fault)
 
 -- up to one of the tokens a rest with its ranges is begun; through that one a rest goes on where ranges play no part, and none with them
 pub record Meeting (T : Rest) (Held : List Laid → Type 0) (xs : List Laid) (p q : Place) : Type 0 where

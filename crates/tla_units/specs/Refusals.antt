@@ -94,7 +94,7 @@ pub record CanNotFollow (laid : List Laid) (fault : ParseFault) : Type 0 where
   pub fits : FittingBegunModule read
   pub there : ¬ (BegunModule (read ++ here ∷ []))
   pub shallow : ShallowModule read
-  pub refusal : refusal_of here ≡ fault
+  pub refusal : refusal_of here rest ≡ fault
 
 -- Up to one of the tokens a module with its ranges is begun; through that one a module goes on where ranges play no part, and none with
 -- them. The two places are those of the operators that meet there.

@@ -2,7 +2,6 @@
 #![tactic(auto)]
 
 mod extends;
-mod fault;
 mod laid_ends;
 mod marks;
 mod module_laws;

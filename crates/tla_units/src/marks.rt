@@ -7,15 +7,15 @@ ghost use Rattle.tla_ast.specs.declared.token.Word.TheVariants as words;
 ghost use Rattle.tla_ast.specs.declared.token.Symbol.TheVariants as symbols;
 ghost use Rattle.tla_ast.specs.Grammar.{some_token, word};
 ghost use Rattle.tla_ast.specs.Modules.{LaidEndsOnce};
-ghost use Rattle.tla_units.specs.Marks.{word_mark, symbol_mark, kind_mark, first_mark, begins_end, IsRefusedAt};
+ghost use Rattle.tla_exprs.specs.Refused.{IsRefusedAt};
+ghost use Rattle.tla_units.specs.Marks.{word_mark, symbol_mark, kind_mark, first_mark, begins_end};
 ghost use Rattle.tla_units.specs.Parts.{Part, MarkText, IsMark};
 ghost use Rattle.tla_units.specs.Reads.{Lacks};
 ghost use Rattle.tla_units.specs.Rests.{Marked};
 ghost use Rattle.tla_units.specs.declared.marks.Mark.TheVariants as marks;
 
-use crate::fault::fault_at;
 use tla_ast::{Kind, Laid, Symbol, Token, Word};
-use tla_exprs::ParseFault;
+use tla_exprs::{ParseFault, fault_at};
 
 /// A token by its part in the grammar of modules.
 #[derive(Clone, Copy, Debug, Drop, PartialEq, Eq)]

@@ -9,11 +9,10 @@ ghost use Rattle.tla_units.specs.Refusals.{Begins};
 ghost use Rattle.tla_units.specs.Rests.{◌▹◌, Marked, Listed, Tail};
 ghost use Rattle.tla_units.specs.declared.marks.Mark.TheVariants as marks;
 
-use crate::fault::fault_at;
 use crate::marks::{Mark, mark_at, token_at};
 use std::alloc::Global;
 use tla_ast::{Declared, DeclaredNames, Kind, Laid};
-use tla_exprs::ParseFault;
+use tla_exprs::{ParseFault, fault_at};
 use trace_base::Names;
 
 /// Reads a name.

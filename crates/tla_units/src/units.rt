@@ -9,13 +9,12 @@ ghost use Rattle.tla_units.specs.Refusals.{ShallowUnit, ShallowUnits, ShallowWho
 ghost use Rattle.tla_units.specs.Rests.{Marked, Last, Tail};
 ghost use Rattle.tla_units.specs.declared.marks.Mark.TheVariants as marks;
 
-use crate::fault::fault_at;
 use crate::marks::{Mark, mark_at};
 use crate::names::declared_names;
 use reader_model::{laws_of_extents, laws_of_refusals};
 use std::alloc::Global;
 use tla_ast::{Laid, Unit, Units};
-use tla_exprs::{ParseFault, definition, expression};
+use tla_exprs::{ParseFault, definition, expression, fault_at};
 
 /// The index behind a name and `==`, or that at which they would begin.
 fn behind_title(laid: &[Laid], from: usize) -> usize

@@ -15,8 +15,8 @@ returns-in-EndsDefinition-clause-read c =
 
 pub returns-in-Stops-clause-refused : goal.returns-in-Stops-clause-refused
 returns-in-Stops-clause-refused c =
-    read_stops c.args.laid.now c.args.from c.loop-i.i c.args.start c.loop-i.mode c.expected.result c.index-laid-i.result (frames_in c.loop-i.stack) (frames_in c.step.new.stack) c.in_ok-behind.field-0
-    c.loop-i.invariant.2 c.loop-i.invariant.0 c.loop-i-test.true c.index-laid-i.is c.in_ok-behind.ensures c.in-Stops.is c.expected.ensures
+    read_stops c.args.laid.now c.args.from c.loop-i.i c.args.start c.loop-i.mode c.fault_at.result c.index-laid-i.result (frames_in c.loop-i.stack) (frames_in c.step.new.stack) c.in_ok-behind.field-0
+    c.loop-i.invariant.2 c.loop-i.invariant.0 c.loop-i-test.true c.index-laid-i.is c.in_ok-behind.ensures c.in-Stops.is c.fault_at.ensures
 
 pub returns-in-Clashes-clause-refused : goal.returns-in-Clashes-clause-refused
 returns-in-Clashes-clause-refused c =

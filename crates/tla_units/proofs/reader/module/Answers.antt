@@ -1,6 +1,6 @@
 use Rattle.std.proofs.Common.{drop, rules}
 use Rattle.std.specs.Result.{IfErr}
-use Rattle.tla_units.specs.Marks.{IsRefusedAt}
+use Rattle.tla_exprs.specs.Refused.{IsRefusedAt}
 use Rattle.tla_units.specs.Reads.{Misses, RefusedIn, NeverDeep, DeepUnits}
 use Rattle.tla_units.specs.Refusals.{Begins, IsRefusedModule, ShallowUnits}
 use Rattle.tla_units.specs.Rests.{◌▹◌, Extended, Tail}
