@@ -1,0 +1,12 @@
+pub mod Zipping
+pub mod Matched
+pub mod Lists
+pub mod Forms
+pub mod Opened
+pub mod Holding
+pub mod Ending
+pub mod Reading
+pub mod Timely
+pub mod Fixing
+pub mod Failing
+pub mod Settled

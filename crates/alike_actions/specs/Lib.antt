@@ -1,0 +1,2 @@
+pub mod AlikeSettings
+pub mod Laws

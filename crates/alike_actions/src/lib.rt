@@ -1,0 +1,6 @@
+//! Actions are the same over two tables that differ by the numbers of definitions alone.
+#![tactic(auto)]
+
+mod laws;
+
+pub use laws::action_laws;

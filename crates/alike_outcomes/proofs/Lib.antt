@@ -1,0 +1,7 @@
+pub mod AlikeLists
+pub mod Turning
+pub mod Spelled
+pub mod Zipping
+pub mod Behind
+pub mod Rows
+pub mod Outcomes

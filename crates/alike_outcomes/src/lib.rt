@@ -1,0 +1,6 @@
+//! Of terms that differ by the numbers of definitions alone evaluation says the same.
+#![tactic(auto)]
+
+mod laws;
+
+pub use laws::outcome_laws;
