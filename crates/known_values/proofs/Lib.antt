@@ -1,3 +1,4 @@
 pub mod Rows
 pub mod Way
 pub mod Bodies
+pub mod Listed

@@ -1,7 +1,8 @@
 -- That the values which stand in a specification are values.
-use Rattle.std.specs.Prelude.{◌≡◌, ℕ, Some, slice_get}
+use Rattle.std.specs.Prelude.{◌≡◌, ℕ, All, Some, slice_get}
 use Rattle.tla_terms.specs.declared.operator.Operator.{Operator}
 use Rattle.tla_terms.specs.declared.spec.Spec.{Spec}
+use Rattle.tla_terms.specs.Lists.{terms_list}
 use Rattle.tla_eval.specs.Contexts.{Table}
 use Rattle.tla_eval.specs.Laws.{KnowsValues}
 
@@ -13,3 +14,4 @@ pub record KnowsSpecification (s : Spec) : Type 0 where
   pub init : KnowsValues s.init
   pub next : KnowsValues s.next
   pub bodies : KnowBodies s.operators
+  pub assumes : All KnowsValues (terms_list s.assumes)

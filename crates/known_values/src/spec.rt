@@ -1,9 +1,11 @@
-ghost use Rattle.std.specs.Prelude.{IfOk};
+ghost use Rattle.std.specs.Prelude.{All, IfOk};
+ghost use Rattle.tla_terms.specs.Lists.{terms_list};
+ghost use Rattle.tla_eval.specs.Laws.{KnowsValues};
 ghost use Rattle.known_values.specs.Known.{KnowBodies, KnowsSpecification};
 
 use crate::walk::knows_values;
 use std::alloc::Global;
-use tla_terms::{Operators, Spec};
+use tla_terms::{Operators, Spec, Terms};
 use trace_base::NoMemory;
 
 /// Each known value in the definitions is a value.
@@ -16,11 +18,22 @@ fn knows_bodies(alloc: Global, operators: &Operators) -> Result<(), NoMemory>
     Ok(())
 }
 
-/// Each known value in Init, in Next and in the definitions of a specification is a value.
+/// Each known value in the terms is a value.
+fn knows_terms(alloc: Global, terms: &Terms) -> Result<(), NoMemory>
+    ensures { IfOk result (λ done. All KnowsValues (terms_list terms.now)) }
+{
+    for term in terms.items() {
+        knows_values(alloc, term)?;
+    }
+    Ok(())
+}
+
+/// Each known value in Init, in Next, in the assumptions and in the definitions of a specification is a value.
 pub fn knows_specification(alloc: Global, spec: &Spec) -> Result<(), NoMemory>
     ensures { IfOk result (λ done. KnowsSpecification spec.now) }
 {
     knows_values(alloc, &spec.init)?;
     knows_values(alloc, &spec.next)?;
+    knows_terms(alloc, &spec.assumes)?;
     knows_bodies(alloc, &spec.operators)
 }

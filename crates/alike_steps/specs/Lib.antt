@@ -1,0 +1,3 @@
+pub mod AlikeLogs
+pub mod Same
+pub mod Laws

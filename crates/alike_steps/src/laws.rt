@@ -1,0 +1,14 @@
+ghost use Rattle.alike_steps.specs.Laws.{AnswersAlike, AskAlike, VerdictsAlike};
+
+use alike_actions::action_laws;
+use alike_outcomes::outcome_laws;
+
+/// Over two specifications that are alike, beside logs that are alike, the same is asked of states, and the same answers and verdicts are true.
+pub fn alike_steps_laws()
+    ensures asks { AskAlike }
+    ensures answers { AnswersAlike }
+    ensures verdicts { VerdictsAlike }
+{
+    outcome_laws();
+    action_laws();
+}
