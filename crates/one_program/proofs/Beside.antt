@@ -1,0 +1,63 @@
+-- What may be refused where there is a program, or a configuration.
+use Rattle.std.proofs.Common.{◌≡◌, ◌∙◌, ℕ, List, [], ◌∷◌, ◌++◌, append_assoc, append-nil, Some, None, Ok, Err, sym, subst}
+use Rattle.trace_base.specs.Device.{File}
+use Rattle.tla_ast.specs.declared.module.Declared.{Declared}
+use Rattle.tla_ast.specs.declared.module.Program.{Program}
+use Rattle.tla_ast.specs.Laid.{NeverBoth, OneLaid}
+use Rattle.tla_ast.specs.Tokens.{OneOutcome}
+use Rattle.tla_config.specs.Reads as read
+use Rattle.tla_modules.specs.declared.fault.LoadWhy.{LoadWhy}
+use Rattle.tla_modules.specs.declared.fault.LoadWhy.TheVariants.{Read, Lex, Lay, Parse, Cycle, TooMany, Twice, WrongName}
+use Rattle.tla_modules.specs.declared.so_far.SoFar.{SoFar}
+use Rattle.tla_modules.specs.Loads.{IsProgram, IsRefused, in_a_module, in_the_whole}
+use Rattle.tla_modules.specs.Twice.{AreNew, Repeats, declared_as, declared_in, stands}
+use Rattle.tla_units.specs.LawsOfModules.{OneModule}
+use Rattle.one_program.specs.Laws.{FlatteningMayStop, LoadingMayStop, MayStop, NoConfigurationRefused, NothingRepeats, OneFlattening}
+use Rattle.one_program.proofs.Paths.{path_same}
+use Rattle.one_program.proofs.Refused.{IsFound, IsOk, module_stop}
+use Rattle.one_program.proofs.Spelling.{module_same}
+use Rattle.one_program.proofs.Stopping.{flattening_stops}
+
+pub flattening_may_stop : OneOutcome → OneLaid → NeverBoth → OneModule → FlatteningMayStop
+flattening_may_stop outcome laid never one files folder name all modules why h g =
+    flattening_stops (Some files) folder (module_same outcome laid one files folder) (module_stop outcome laid never one files folder) name all (modules, why) h g
+
+-- ---- names that are declared twice
+
+new_at : (standard : List (List ℕ)) (seen before : List Declared) (d : Declared) (rest : List Declared) → AreNew standard seen (before ++ d ∷ rest) → stands standard (seen ++ before) d.name ≡ None
+new_at standard seen [] d rest h = subst (λ v. stands standard v d.name ≡ None) (sym (append-nil seen)) h.0
+new_at standard seen (b ∷ before) d rest h =
+    subst (λ v. stands standard v d.name ≡ None) (append_assoc seen (b ∷ []) before) (new_at standard (seen ++ b ∷ []) before d rest h.1)
+
+no_repeat : (standard : List (List ℕ)) (declared : List Declared) (why : LoadWhy) → AreNew standard [] declared → Repeats standard declared why → ⊥
+no_repeat standard declared (Twice name later earlier) n r =
+    let new : stands standard r.before name ≡ None = new_at standard [] r.before (declared_as name later) r.rest (subst (AreNew standard []) r.whole n) in
+    subst IsFound (sym r.twice ∙ new) tt
+no_repeat standard declared (Read file fault) n r = r
+no_repeat standard declared (Lex why at) n r = r
+no_repeat standard declared (Lay at) n r = r
+no_repeat standard declared (Parse fault) n r = r
+no_repeat standard declared (Cycle names) n r = r
+no_repeat standard declared (TooMany name) n r = r
+no_repeat standard declared (WrongName name at) n r = r
+
+pub nothing_repeats : OneFlattening → NothingRepeats
+nothing_repeats flattening files folder name p all why h g r =
+    let same : h.all ≡ all = flattening files folder name h.all all h.flattened g in
+    no_repeat all.standard (declared_in all.units) why (subst (λ (v : SoFar). AreNew v.standard [] (declared_in v.units)) same h.names) r
+
+-- ---- loading
+
+refused_stops : FlatteningMayStop → NothingRepeats → (files : List File) (earlier later : ℕ) (folder name : List ℕ) (p : Program) (named : List (List ℕ)) (why : LoadWhy) → IsProgram (Some files) folder name p → IsRefused (Some files) earlier later folder name named why → MayStop why
+refused_stops stop new files earlier later folder name p _ _ h (in_a_module modules why flat caused) = stop files folder name h.all modules why h.flattened flat
+refused_stops stop new files earlier later folder name p _ _ h (in_the_whole all why flat r) = absurd (new files folder name p all why h flat r)
+
+pub loading_may_stop : FlatteningMayStop → NothingRepeats → LoadingMayStop
+loading_may_stop stop new files before now earlier later path p named why h g =
+    let parts = path_same path h.0 g.0 h.1 g.1 h.2 g.2 in
+    let program : IsProgram (Some files) g.0 g.1 p =
+    subst (λ v. IsProgram (Some files) g.0 v p) parts.1 (subst (λ v. IsProgram (Some files) v h.1 p) parts.0 h.3) in
+    refused_stops stop new files earlier later g.0 g.1 p named why program g.3
+
+pub no_configuration_refused : read.OneConfiguration → NoConfigurationRefused
+no_configuration_refused one file name text c why at h g = subst IsOk (one file name text (Ok c) (Err (why, at)) h g) tt

@@ -1,0 +1,8 @@
+pub mod Beside
+pub mod Flattenings
+pub mod Paths
+pub mod Programs
+pub mod Refused
+pub mod Spelling
+pub mod Stopping
+pub mod Texts

@@ -1,0 +1,62 @@
+-- A file that gives a module is refused only where a read failed, or where a token stands too deep.
+use Rattle.std.proofs.Common.{◌≡◌, ◌∙◌, ◌<◌, ℕ, true, List, Option, Some, None, Result, Ok, Err, arith, length, refl, sym, ap, subst}
+use Rattle.trace_base.specs.Device.{File}
+use Rattle.trace_base.specs.declared.reading.ReadFault.{ReadFault}
+use Rattle.trace_base.specs.declared.reading.ReadFault.TheVariants.{Missing, Failed, TooLong, NoMemory}
+use Rattle.tla_ast.specs.declared.module.Module.{Module}
+use Rattle.tla_ast.specs.Laid.{IsLaid, NeverBoth, OneLaid}
+use Rattle.tla_ast.specs.Modules.{SpellsModule}
+use Rattle.tla_ast.specs.Tokens.{OneOutcome}
+use Rattle.tla_modules.specs.declared.fault.LoadWhy.{LoadWhy}
+use Rattle.tla_modules.specs.declared.fault.LoadWhy.TheVariants.{Read, Lex, Lay, Parse, Cycle, TooMany, Twice, WrongName}
+use Rattle.tla_modules.specs.Paths.{file_of}
+use Rattle.tla_modules.specs.Refusals.{IsModule, IsText, IsUnread, LaidAs, Misspells, Refuses, RefusesBytes, SpelledBy, misnamed, misspelled, module_limit, not_good, not_read}
+use Rattle.tla_units.specs.LawsOfModules.{OneModule}
+use Rattle.one_program.specs.Laws.{MayStop}
+use Rattle.one_program.proofs.Spelling.{laid_same, ok_same, spelled_same, text_same}
+use Rattle.one_program.proofs.Texts.{refused_deep}
+
+abbrev pub IsFound : {A : Type 0} → Option A → Type 0
+IsFound (Some a) = Unit {0}
+IsFound None = ⊥
+
+abbrev pub IsOk : {A E : Type 0} → Result A E → Type 0
+IsOk (Ok a) = Unit {0}
+IsOk (Err e) = ⊥
+
+read_stop : (files : List File) (file bytes : List ℕ) (fault : ReadFault) → IsText (Some files) file bytes → IsUnread (Some files) file fault → fault ≡ Failed
+read_stop files file bytes Missing t u = absurd (subst IsFound (sym t.whole ∙ u) tt)
+read_stop files file bytes Failed t u = refl
+read_stop files file bytes TooLong t u =
+    let same : bytes ≡ u.0 = text_same files file bytes u.0 t.whole u.1 in
+    let long : module_limit < length bytes = subst (λ v. module_limit < length v) (sym same) u.2 in
+    absurd (omega (arith, long, t.short))
+read_stop files file bytes NoMemory t u = absurd u
+
+module _ (outcome : OneOutcome) (laid : OneLaid) (never : NeverBoth) (one : OneModule) where
+  left_never : (number : ℕ) (bytes : List ℕ) (m : Module) (why : LoadWhy) → SpelledBy number bytes m → Misspells number bytes why → MayStop why
+  left_never number bytes m (Lex why at) s w = subst IsOk (outcome true number bytes (Ok s.laid_as.tokens) (Err (why, at)) s.laid_as.lexed w) tt
+  left_never number bytes m (Lay at) s w =
+      let a : LaidAs number bytes s.laid = s.laid_as in
+      let same : a.tokens ≡ w.0 = ok_same a.tokens w.0 (Ok a.tokens) refl (outcome true number bytes (Ok a.tokens) (Ok w.0) a.lexed w.1) in
+      never w.0 s.laid at (subst (λ v. IsLaid v s.laid) same a.marked) w.2
+  left_never number bytes m (Parse fault) s w =
+      let same : s.laid ≡ w.0 = laid_same outcome laid number bytes s.laid w.0 s.laid_as w.1 in
+      refused_deep m w.0 fault (subst (SpellsModule m) same s.spells) w.2.0 w.2.1
+  left_never number bytes m (Read file fault) s w = absurd w
+  left_never number bytes m (Cycle names) s w = absurd w
+  left_never number bytes m (TooMany name) s w = absurd w
+  left_never number bytes m (Twice name later earlier) s w = absurd w
+  left_never number bytes m (WrongName name at) s w = absurd w
+
+  bytes_stop : (number : ℕ) (bytes name : List ℕ) (m : Module) (why : LoadWhy) → SpelledBy number bytes m → m.name ≡ name → RefusesBytes number bytes name why → MayStop why
+  bytes_stop number bytes name m _ s e (misspelled why w) = left_never number bytes m why s w
+  bytes_stop number bytes name m _ s e (misnamed n t other) =
+      let same : n ≡ m = spelled_same outcome laid one number bytes n m t s in
+      absurd (other (ap (λ (v : Module). v.name) same ∙ e))
+
+  pub module_stop : (files : List File) (folder : List ℕ) (number : ℕ) (name : List ℕ) (m : Module) (why : LoadWhy) → IsModule (Some files) folder number name m → Refuses (Some files) folder number name why → MayStop why
+  module_stop files folder number name m _ i (not_read fault u) = read_stop files (file_of folder name) i.bytes fault i.text u
+  module_stop files folder number name m _ i (not_good bytes why t r) =
+      let same : i.bytes ≡ bytes = text_same files (file_of folder name) i.bytes bytes i.text.whole t.whole in
+      bytes_stop number bytes name m why (subst (λ v. SpelledBy number v m) same i.spelled) i.named r

@@ -1,0 +1,53 @@
+-- Laid tokens that spell a module are refused only where one of them stands too deep.
+use Rattle.std.proofs.Common.{◌≡◌, ◌≢◌, ◌∙◌, List, [], ◌∷◌, ◌++◌, append_assoc, inl, inr, refl, sym, subst}
+use Rattle.trace_base.specs.declared.place.Place.{Place}
+use Rattle.tla_ast.specs.declared.laid.Laid.{Laid}
+use Rattle.tla_ast.specs.declared.module.Module.{Module}
+use Rattle.tla_ast.specs.declared.module.Unit.{Unit as ModuleUnit}
+use Rattle.tla_ast.specs.declared.module.Unit.TheVariants.{Variables, Constants, Define, Assume, Passed}
+use Rattle.tla_ast.specs.Begun.{BegunModule, FittingBegunModule}
+use Rattle.tla_ast.specs.Modules.{ModuleText, ModuleTextBy, SomeExpression, SomeText, SpellsModule, UnitTextBy, UnitsTextBy}
+use Rattle.tla_exprs.specs.declared.fault.ParseFault.{ParseFault}
+use Rattle.tla_exprs.specs.declared.fault.ParseFault.TheVariants.{Expected, Conflict, TooNested, OutOfProfile, NoMemory}
+use Rattle.tla_units.specs.Refusals.{IsRefusedModule}
+
+-- ---- where ranges play no part
+
+some_text : (xs ys : List Laid) → SomeExpression xs ys → SomeText xs ys
+some_text xs ys h = (h.0, h.1.text)
+
+unit_text : (u : ModuleUnit) (xs ys : List Laid) → UnitTextBy SomeExpression u xs ys → UnitTextBy SomeText u xs ys
+unit_text (Variables ds) xs ys h = h
+unit_text (Constants ds) xs ys h = h
+unit_text (Define d) xs ys h = h
+unit_text (Assume e) xs ys h = h
+unit_text Passed xs ys (inl h) = inl h
+unit_text Passed xs ys (inr h) = inr (h.0, h.1, (h.2.0, h.2.1, some_text h.2.0 ys h.2.2))
+
+units_text : (us : List ModuleUnit) (xs ys : List Laid) → UnitsTextBy SomeExpression us xs ys → UnitsTextBy SomeText us xs ys
+units_text [] xs ys h = h
+units_text (u ∷ us) xs ys h = (h.0, unit_text u xs h.0 h.1, units_text us h.0 ys h.2)
+
+module_text : (m : Module) (laid : List Laid) → ModuleText m laid [] → ModuleTextBy SomeText m laid []
+module_text m laid h =
+    let b = h.2.2.2.2 in
+    let units : UnitsTextBy SomeText m.units b.0 b.2.0 = units_text m.units b.0 b.2.0 b.2.1 in
+    (h.0, h.1, (h.2.0, h.2.1, (h.2.2.0, h.2.2.1, (h.2.2.2.0, h.2.2.2.1, (b.0, b.1, (b.2.0, units, b.2.2))))))
+
+-- ---- refusals
+
+cut_at : (laid read rest : List Laid) (here : Laid) → laid ≡ read ++ here ∷ rest → laid ≡ (read ++ here ∷ []) ++ rest
+cut_at laid read rest here e = e ∙ sym (append_assoc read (here ∷ []) rest)
+
+begun : (m : Module) (laid read rest : List Laid) (here : Laid) → laid ≡ read ++ here ∷ rest → SpellsModule m laid → BegunModule (read ++ here ∷ [])
+begun m laid read rest here e s = record { read_as = m; rest = rest; text = subst (λ v. ModuleTextBy SomeText m v []) (cut_at laid read rest here e) (module_text m laid s.text) }
+
+fitting : (m : Module) (laid read rest : List Laid) (here : Laid) → laid ≡ read ++ here ∷ rest → SpellsModule m laid → FittingBegunModule (read ++ here ∷ [])
+fitting m laid read rest here e s = record { read_as = m; rest = rest; spelled = subst (SpellsModule m) (cut_at laid read rest here e) s }
+
+pub refused_deep : (m : Module) (laid : List Laid) (fault : ParseFault) → SpellsModule m laid → IsRefusedModule laid fault → fault ≢ NoMemory → (p : Place) × (fault ≡ TooNested p)
+refused_deep m laid (Expected p) s r n = absurd (r.there (begun m laid r.read r.rest r.here r.whole s))
+refused_deep m laid (OutOfProfile f p) s r n = absurd (r.there (begun m laid r.read r.rest r.here r.whole s))
+refused_deep m laid (Conflict p q) s r n = absurd (r.none (fitting m laid r.read r.rest r.here r.whole s))
+refused_deep m laid (TooNested p) s r n = (p, refl)
+refused_deep m laid NoMemory s r n = absurd (n refl)

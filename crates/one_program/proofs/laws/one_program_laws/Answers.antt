@@ -1,0 +1,22 @@
+use Rattle.one_program.proofs.Paths.{path_same}
+use Rattle.one_program.proofs.Programs.{one_flattening, one_program, one_loading, one_configuration}
+use Rattle.one_program.proofs.Spelling.{text_same}
+use Rattle.one_program.proofs.laws.one_program_laws.Goals as goal
+
+pub returns-clause-path : goal.returns-clause-path
+returns-clause-path c = path_same
+
+pub returns-clause-text : goal.returns-clause-text
+returns-clause-text c = text_same
+
+pub returns-clause-flattening : goal.returns-clause-flattening
+returns-clause-flattening c = one_flattening c.one_outcome.ensures.one c.laws_of_laid.ensures.one c.one_module.ensures
+
+pub returns-clause-program : goal.returns-clause-program
+returns-clause-program c = one_program (one_flattening c.one_outcome.ensures.one c.laws_of_laid.ensures.one c.one_module.ensures)
+
+pub returns-clause-loading : goal.returns-clause-loading
+returns-clause-loading c = one_loading (one_program (one_flattening c.one_outcome.ensures.one c.laws_of_laid.ensures.one c.one_module.ensures))
+
+pub returns-clause-configuration : goal.returns-clause-configuration
+returns-clause-configuration c = one_configuration c.one_configuration.ensures.one

@@ -1,0 +1,83 @@
+-- What is read is one. It is said of files that tell: where they do not, nothing says which text was read.
+use Rattle.std.specs.Prelude.{◌≡◌, ℕ, List, Some, Ok, Err}
+use Rattle.trace_base.specs.Device.{File, IsWhole}
+use Rattle.trace_base.specs.declared.place.Place.{Place}
+use Rattle.trace_base.specs.declared.reading.ReadFault.TheVariants.{Failed}
+use Rattle.tla_ast.specs.declared.config.Config.{Config}
+use Rattle.tla_ast.specs.declared.module.Program.{Program}
+use Rattle.tla_config.specs.declared.fault.ConfigKind.{ConfigKind}
+use Rattle.tla_config.specs.Reads.{Reads}
+use Rattle.tla_exprs.specs.declared.fault.ParseFault.TheVariants.{TooNested}
+use Rattle.tla_modules.specs.declared.fault.LoadFault.TheVariants.{Refused}
+use Rattle.tla_modules.specs.declared.fault.LoadWhy.{LoadWhy}
+use Rattle.tla_modules.specs.declared.fault.LoadWhy.TheVariants.{Read, Lex, Lay, Parse, Cycle, TooMany, Twice, WrongName}
+use Rattle.tla_modules.specs.declared.so_far.SoFar.{SoFar}
+use Rattle.tla_modules.specs.Flattened.{Flattened}
+use Rattle.tla_modules.specs.Loads.{IsProgram, Loads}
+use Rattle.tla_modules.specs.Paths.{IsPath}
+use Rattle.tla_modules.specs.Twice.{declared_in, Repeats}
+
+-- ---- what is read
+
+-- a path names one folder and one main module
+abbrev pub OnePath : Type 0
+OnePath = (path folder front name main : List ℕ) → IsPath path folder name → IsPath path front main → (folder ≡ front) × (name ≡ main)
+
+-- a name is that of one text
+abbrev pub OneText : Type 0
+OneText = (files : List File) (name a b : List ℕ) → IsWhole name (Some files) a → IsWhole name (Some files) b → a ≡ b
+
+-- the modules that a main module extends are read in one way
+abbrev pub OneFlattening : Type 0
+OneFlattening =
+    (files : List File) (folder name : List ℕ) (a b : SoFar) → Flattened (Some files) folder name (Ok a) → Flattened (Some files) folder name (Ok b) → a ≡ b
+
+-- a main module has one program
+abbrev pub OneProgram : Type 0
+OneProgram =
+    (files : List File) (folder name : List ℕ) (p q : Program) → IsProgram (Some files) folder name p → IsProgram (Some files) folder name q → p ≡ q
+
+-- a path gives one program, whatever the counts of faults are
+abbrev pub OneLoading : Type 0
+OneLoading =
+    (files : List File) (before now earlier later : ℕ) (path : List ℕ) (p q : Program) → Loads (Some files) before now path (Ok p)
+    → Loads (Some files) earlier later path (Ok q) → p ≡ q
+
+-- a text gives one configuration
+abbrev pub OneConfiguration : Type 0
+OneConfiguration = (file : ℕ) (name text : List ℕ) (c d : Config) → Reads file name text (Ok c) → Reads file name text (Ok d) → c ≡ d
+
+-- ---- what is refused beside it
+
+-- Where there is a program, its reading is refused only where a read failed, or where a token stands too deep: the files do not tell of the
+-- one, nor the grammar of the other.
+abbrev pub MayStop : LoadWhy → Type 0
+MayStop (Read name fault) = fault ≡ Failed
+MayStop (Parse fault) = (p : Place) × (fault ≡ TooNested p)
+MayStop (Lex why at) = ⊥
+MayStop (Lay at) = ⊥
+MayStop (Cycle names) = ⊥
+MayStop (TooMany name) = ⊥
+MayStop (Twice name later earlier) = ⊥
+MayStop (WrongName name at) = ⊥
+
+abbrev pub FlatteningMayStop : Type 0
+FlatteningMayStop =
+    (files : List File) (folder name : List ℕ) (all : SoFar) (modules : List (List ℕ)) (why : LoadWhy) → Flattened (Some files) folder name (Ok all)
+    → Flattened (Some files) folder name (Err (modules, why)) → MayStop why
+
+-- no name of a program is declared twice
+abbrev pub NothingRepeats : Type 0
+NothingRepeats =
+    (files : List File) (folder name : List ℕ) (p : Program) (all : SoFar) (why : LoadWhy) → IsProgram (Some files) folder name p
+    → Flattened (Some files) folder name (Ok all) → Repeats all.standard (declared_in all.units) why → ⊥
+
+abbrev pub LoadingMayStop : Type 0
+LoadingMayStop =
+    (files : List File) (before now earlier later : ℕ) (path : List ℕ) (p : Program) (named : List (List ℕ)) (why : LoadWhy)
+    → Loads (Some files) before now path (Ok p) → Loads (Some files) earlier later path (Err (Refused named why)) → MayStop why
+
+-- a text that gives a configuration is not refused
+abbrev pub NoConfigurationRefused : Type 0
+NoConfigurationRefused =
+    (file : ℕ) (name text : List ℕ) (c : Config) (why : ConfigKind) (at : Place) → Reads file name text (Ok c) → Reads file name text (Err (why, at)) → ⊥
