@@ -11,16 +11,16 @@ use Rattle.tla_modules.specs.declared.fault.LoadWhy.TheVariants.{Read, Lex, Lay,
 use Rattle.tla_modules.specs.declared.so_far.SoFar.{SoFar}
 use Rattle.tla_modules.specs.Loads.{IsProgram, IsRefused, in_a_module, in_the_whole}
 use Rattle.tla_modules.specs.Twice.{AreNew, Repeats, declared_as, declared_in, stands}
-use Rattle.tla_units.specs.LawsOfModules.{OneModule}
+use Rattle.tla_units.specs.LawsOfModules.{OneModule, ShallowNotRefused}
 use Rattle.one_program.specs.Laws.{FlatteningMayStop, LoadingMayStop, MayStop, NoConfigurationRefused, NothingRepeats, OneFlattening}
 use Rattle.one_program.proofs.Paths.{path_same}
 use Rattle.one_program.proofs.Refused.{IsFound, IsOk, module_stop}
 use Rattle.one_program.proofs.Spelling.{module_same}
 use Rattle.one_program.proofs.Stopping.{flattening_stops}
 
-pub flattening_may_stop : OneOutcome → OneLaid → NeverBoth → OneModule → FlatteningMayStop
-flattening_may_stop outcome laid never one files folder name all modules why h g =
-    flattening_stops (Some files) folder (module_same outcome laid one files folder) (module_stop outcome laid never one files folder) name all (modules, why) h g
+pub flattening_may_stop : OneOutcome → OneLaid → NeverBoth → OneModule → ShallowNotRefused → FlatteningMayStop
+flattening_may_stop outcome laid never one deep files folder name all modules why h g =
+    flattening_stops (Some files) folder (module_same outcome laid one files folder) (module_stop outcome laid never one deep files folder) name all (modules, why) h g
 
 -- ---- names that are declared twice
 

@@ -1,4 +1,4 @@
--- A file that gives a module is refused only where a read failed, or where a token stands too deep.
+-- A file that gives a module is refused only where a read failed.
 use Rattle.std.proofs.Common.{◌≡◌, ◌∙◌, ◌<◌, ℕ, true, List, Option, Some, None, Result, Ok, Err, arith, length, refl, sym, ap, subst}
 use Rattle.trace_base.specs.Device.{File}
 use Rattle.trace_base.specs.declared.reading.ReadFault.{ReadFault}
@@ -11,10 +11,11 @@ use Rattle.tla_modules.specs.declared.fault.LoadWhy.{LoadWhy}
 use Rattle.tla_modules.specs.declared.fault.LoadWhy.TheVariants.{Read, Lex, Lay, Parse, Cycle, TooMany, Twice, WrongName}
 use Rattle.tla_modules.specs.Paths.{file_of}
 use Rattle.tla_modules.specs.Refusals.{IsModule, IsText, IsUnread, LaidAs, Misspells, Refuses, RefusesBytes, SpelledBy, misnamed, misspelled, module_limit, not_good, not_read}
-use Rattle.tla_units.specs.LawsOfModules.{OneModule}
+use Rattle.tla_units.specs.LawsOfModules.{OneModule, ShallowNotRefused}
+use Rattle.tla_units.specs.Refusals.{ShallowWholeModule}
 use Rattle.one_program.specs.Laws.{MayStop}
 use Rattle.one_program.proofs.Spelling.{laid_same, ok_same, spelled_same, text_same}
-use Rattle.one_program.proofs.Texts.{refused_deep}
+use Rattle.one_program.proofs.Texts.{refused_never}
 
 abbrev pub IsFound : {A : Type 0} → Option A → Type 0
 IsFound (Some a) = Unit {0}
@@ -33,7 +34,7 @@ read_stop files file bytes TooLong t u =
     absurd (omega (arith, long, t.short))
 read_stop files file bytes NoMemory t u = absurd u
 
-module _ (outcome : OneOutcome) (laid : OneLaid) (never : NeverBoth) (one : OneModule) where
+module _ (outcome : OneOutcome) (laid : OneLaid) (never : NeverBoth) (one : OneModule) (deep : ShallowNotRefused) where
   left_never : (number : ℕ) (bytes : List ℕ) (m : Module) (why : LoadWhy) → SpelledBy number bytes m → Misspells number bytes why → MayStop why
   left_never number bytes m (Lex why at) s w = subst IsOk (outcome true number bytes (Ok s.laid_as.tokens) (Err (why, at)) s.laid_as.lexed w) tt
   left_never number bytes m (Lay at) s w =
@@ -42,7 +43,7 @@ module _ (outcome : OneOutcome) (laid : OneLaid) (never : NeverBoth) (one : OneM
       never w.0 s.laid at (subst (λ v. IsLaid v s.laid) same a.marked) w.2
   left_never number bytes m (Parse fault) s w =
       let same : s.laid ≡ w.0 = laid_same outcome laid number bytes s.laid w.0 s.laid_as w.1 in
-      refused_deep m w.0 fault (subst (SpellsModule m) same s.spells) w.2.0 w.2.1
+      refused_never deep m w.0 fault (subst (SpellsModule m) same s.spells) (subst (λ v. ShallowWholeModule v) same s.shallow) w.2.0 w.2.1
   left_never number bytes m (Read file fault) s w = absurd w
   left_never number bytes m (Cycle names) s w = absurd w
   left_never number bytes m (TooMany name) s w = absurd w

@@ -1,4 +1,4 @@
--- Laid tokens that spell a module are refused only where one of them stands too deep.
+-- Laid tokens that spell a module, none of which stands too deep, are not refused.
 use Rattle.std.proofs.Common.{◌≡◌, ◌≢◌, ◌∙◌, List, [], ◌∷◌, ◌++◌, append_assoc, inl, inr, refl, sym, subst}
 use Rattle.trace_base.specs.declared.place.Place.{Place}
 use Rattle.tla_ast.specs.declared.laid.Laid.{Laid}
@@ -9,7 +9,8 @@ use Rattle.tla_ast.specs.Begun.{BegunModule, FittingBegunModule}
 use Rattle.tla_ast.specs.Modules.{ModuleText, ModuleTextBy, SomeExpression, SomeText, SpellsModule, UnitTextBy, UnitsTextBy}
 use Rattle.tla_exprs.specs.declared.fault.ParseFault.{ParseFault}
 use Rattle.tla_exprs.specs.declared.fault.ParseFault.TheVariants.{Expected, Conflict, TooNested, OutOfProfile, NoMemory}
-use Rattle.tla_units.specs.Refusals.{IsRefusedModule}
+use Rattle.tla_units.specs.LawsOfModules.{ShallowNotRefused}
+use Rattle.tla_units.specs.Refusals.{IsRefusedModule, ShallowWholeModule}
 
 -- ---- where ranges play no part
 
@@ -45,9 +46,9 @@ begun m laid read rest here e s = record { read_as = m; rest = rest; text = subs
 fitting : (m : Module) (laid read rest : List Laid) (here : Laid) → laid ≡ read ++ here ∷ rest → SpellsModule m laid → FittingBegunModule (read ++ here ∷ [])
 fitting m laid read rest here e s = record { read_as = m; rest = rest; spelled = subst (SpellsModule m) (cut_at laid read rest here e) s }
 
-pub refused_deep : (m : Module) (laid : List Laid) (fault : ParseFault) → SpellsModule m laid → IsRefusedModule laid fault → fault ≢ NoMemory → (p : Place) × (fault ≡ TooNested p)
-refused_deep m laid (Expected p) s r n = absurd (r.there (begun m laid r.read r.rest r.here r.whole s))
-refused_deep m laid (OutOfProfile f p) s r n = absurd (r.there (begun m laid r.read r.rest r.here r.whole s))
-refused_deep m laid (Conflict p q) s r n = absurd (r.none (fitting m laid r.read r.rest r.here r.whole s))
-refused_deep m laid (TooNested p) s r n = (p, refl)
-refused_deep m laid NoMemory s r n = absurd (n refl)
+pub refused_never : ShallowNotRefused → (m : Module) (laid : List Laid) (fault : ParseFault) → SpellsModule m laid → ShallowWholeModule laid → IsRefusedModule laid fault → fault ≢ NoMemory → ⊥
+refused_never deep m laid (Expected p) s w r n = r.there (begun m laid r.read r.rest r.here r.whole s)
+refused_never deep m laid (OutOfProfile f p) s w r n = r.there (begun m laid r.read r.rest r.here r.whole s)
+refused_never deep m laid (Conflict p q) s w r n = r.none (fitting m laid r.read r.rest r.here r.whole s)
+refused_never deep m laid (TooNested p) s w r n = deep laid p w r
+refused_never deep m laid NoMemory s w r n = n refl

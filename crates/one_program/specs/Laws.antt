@@ -7,7 +7,6 @@ use Rattle.tla_ast.specs.declared.config.Config.{Config}
 use Rattle.tla_ast.specs.declared.module.Program.{Program}
 use Rattle.tla_config.specs.declared.fault.ConfigKind.{ConfigKind}
 use Rattle.tla_config.specs.Reads.{Reads}
-use Rattle.tla_exprs.specs.declared.fault.ParseFault.TheVariants.{TooNested}
 use Rattle.tla_modules.specs.declared.fault.LoadFault.TheVariants.{Refused}
 use Rattle.tla_modules.specs.declared.fault.LoadWhy.{LoadWhy}
 use Rattle.tla_modules.specs.declared.fault.LoadWhy.TheVariants.{Read, Lex, Lay, Parse, Cycle, TooMany, Twice, WrongName}
@@ -49,11 +48,10 @@ OneConfiguration = (file : ℕ) (name text : List ℕ) (c d : Config) → Reads 
 
 -- ---- what is refused beside it
 
--- Where there is a program, its reading is refused only where a read failed, or where a token stands too deep: the files do not tell of the
--- one, nor the grammar of the other.
+-- Where there is a program, its reading is refused only where a read failed, of which the files do not tell.
 abbrev pub MayStop : LoadWhy → Type 0
 MayStop (Read name fault) = fault ≡ Failed
-MayStop (Parse fault) = (p : Place) × (fault ≡ TooNested p)
+MayStop (Parse fault) = ⊥
 MayStop (Lex why at) = ⊥
 MayStop (Lay at) = ⊥
 MayStop (Cycle names) = ⊥

@@ -2,7 +2,7 @@ ghost use Rattle.one_program.specs.Laws.{FlatteningMayStop, LoadingMayStop, NoCo
 
 use tla_ast::{laws_of_laid, one_outcome};
 use tla_config::one_configuration;
-use tla_units::one_module;
+use tla_units::{one_module, shallow_not_refused};
 
 /// A path names one folder and one main module. Files that tell have one text of each name, and give one list of modules, one program of a
 /// main module and one of a path. A text gives one configuration.
@@ -20,8 +20,7 @@ pub fn one_program_laws()
     one_configuration();
 }
 
-/// Where files that tell give a program, its reading is refused only where a read failed or a token stands too deep. A text that gives a
-/// configuration is not refused.
+/// Where files that tell give a program, its reading is refused only where a read failed. A text that gives a configuration is not refused.
 pub fn no_refusal_laws()
     ensures flattening { FlatteningMayStop }
     ensures repeats { NothingRepeats }
@@ -31,5 +30,6 @@ pub fn no_refusal_laws()
     one_outcome();
     laws_of_laid();
     one_module();
+    shallow_not_refused();
     one_configuration();
 }

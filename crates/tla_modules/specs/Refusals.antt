@@ -1,7 +1,8 @@
 -- What the file of one module gives: a module, or a refusal.
 --
--- A module is what its file's bytes spell: they have tokens, the tokens have their junction lists marked, and these spell the module.
--- It has the name under which it was sought. `number` is the number of its file, which each place in it carries.
+-- A module is what its file's bytes spell: they have tokens, the tokens have their junction lists marked, and these spell the module, each of
+-- them inside at most 100 unfinished constructs of its unit. It has the name under which it was sought. `number` is the number of its file,
+-- which each place in it carries.
 use Rattle.std.specs.Prelude.{◌≡◌, ◌≢◌, ℕ, ◌≤◌, true, List, length, Option, Some, None, Ok, Err}
 use Rattle.trace_base.specs.Device.{File, found, Rose, Lacks, IsWhole, IsLonger}
 use Rattle.trace_base.specs.declared.reading.ReadFault.{ReadFault}
@@ -14,7 +15,7 @@ use Rattle.tla_ast.specs.Laid.{IsLaid, IsLeftOfList}
 use Rattle.tla_ast.specs.Modules.{SpellsModule}
 use Rattle.tla_exprs.specs.declared.fault.ParseFault.{ParseFault}
 use Rattle.tla_exprs.specs.declared.fault.ParseFault.TheVariants as parse
-use Rattle.tla_units.specs.Refusals.{IsRefusedModule}
+use Rattle.tla_units.specs.Refusals.{IsRefusedModule, ShallowWholeModule}
 use Rattle.tla_modules.specs.declared.fault.LoadWhy.{LoadWhy}
 use Rattle.tla_modules.specs.declared.fault.LoadWhy.TheVariants.{Read, Lex, Lay, Parse, Cycle, TooMany, Twice, WrongName}
 use Rattle.tla_modules.specs.declared.fault.Stop.{Stop}
@@ -36,11 +37,12 @@ pub record LaidAs (number : ℕ) (bytes : List ℕ) (laid : List Laid) : Type 0 
   pub lexed : Tokens true number bytes (Ok tokens)
   pub marked : IsLaid tokens laid
 
--- the bytes spell this module
+-- the bytes spell this module, and no token stands too deep
 pub record SpelledBy (number : ℕ) (bytes : List ℕ) (m : Module) : Type 0 where
   pub laid : List Laid
   pub laid_as : LaidAs number bytes laid
   pub spells : SpellsModule m laid
+  pub shallow : ShallowWholeModule laid
 
 -- the file of that name spells this module, which has the name
 pub record IsModule (holds : Option (List File)) (folder : List ℕ) (number : ℕ) (name : List ℕ) (m : Module) : Type 0 where

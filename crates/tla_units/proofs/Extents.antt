@@ -22,7 +22,7 @@ abbrev head_or : Laid → List Laid → Laid
 head_or u [] = u
 head_or u (x ∷ xs) = x
 
-data Parted (a xs b ys : List Laid) : Type 0 where
+pub data Parted (a xs b ys : List Laid) : Type 0 where
   Same : a ≡ b → xs ≡ ys → Parted a xs b ys
   Before : (u : Laid) (w : List Laid) → b ≡ a ++ u ∷ w → xs ≡ u ∷ (w ++ ys) → Parted a xs b ys
   Behind : (u : Laid) (w : List Laid) → a ≡ b ++ u ∷ w → ys ≡ u ∷ (w ++ xs) → Parted a xs b ys
@@ -32,7 +32,7 @@ push_front x y a xs b ys q (Same e f) = Same (ap (λ v. v ∷ a) q ∙ ap (λ v.
 push_front x y a xs b ys q (Before u w e f) = Before u w (ap (λ v. v ∷ b) (sym q) ∙ ap (λ v. x ∷ v) e) f
 push_front x y a xs b ys q (Behind u w e f) = Behind u w (ap (λ v. v ∷ a) q ∙ ap (λ v. y ∷ v) e) f
 
-parted : (a xs b ys : List Laid) → a ++ xs ≡ b ++ ys → Parted a xs b ys
+pub parted : (a xs b ys : List Laid) → a ++ xs ≡ b ++ ys → Parted a xs b ys
 parted [] xs [] ys e = Same refl e
 parted [] xs (u ∷ w) ys e = Before u w refl e
 parted (u ∷ w) xs [] ys e = Behind u w refl (sym e)
@@ -60,7 +60,7 @@ pub record TextKind (S : Bool → Span) (B F : List Laid → Type 0) : Type 0 wh
   pub no_end : (before after : List Laid) (t : LaidToken) → B (before ++ Plain t ∷ after) → t.kind ≡ kinds.End → ⊥
 
 -- what stands behind it may be anything
-alone : (R : Span) (xs ys : List Laid) → (l : Local R xs ys) → R l.text []
+pub alone : (R : Span) (xs ys : List Laid) → (l : Local R xs ys) → R l.text []
 alone R xs ys l = subst (λ v. R v []) (append-nil l.text) (l.anywhere [])
 
 -- a text to the end of a list is one before any others
@@ -80,10 +80,10 @@ through : (a w : List Laid) (x : Laid) → a ++ x ∷ w ≡ (a ++ x ∷ []) ++ w
 through a w x = sym (append_assoc a (x ∷ []) w)
 
 -- a text with a token behind it that ends it is no part of what begins one
-none_within : (S : Bool → Span) (B F : List Laid → Type 0) → TextKind S B F → (l text w : List Laid) (u : Laid) → B l → l ≡ text ++ u ∷ w → S false text [] → EndsText u → ⊥
+pub none_within : (S : Bool → Span) (B F : List Laid → Type 0) → TextKind S B F → (l text w : List Laid) (u : Laid) → B l → l ≡ text ++ u ∷ w → S false text [] → EndsText u → ⊥
 none_within S B F k l text w u b e s h = k.none text u s h (begins_less S B F k text w u (subst B e b))
 
-ends_first : (u : Laid) (w us : List Laid) → us ≡ u ∷ w → TextEnds us → EndsText u
+pub ends_first : (u : Laid) (w us : List Laid) → us ≡ u ∷ w → TextEnds us → EndsText u
 ends_first u w us e h = subst TextEnds e h
 
 -- where a text goes as far as it can, each text from there ends with it

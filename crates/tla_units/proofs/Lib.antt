@@ -1,3 +1,4 @@
+pub mod DeepUnits
 pub mod Ends
 pub mod Extents
 pub mod LaidEnds
@@ -6,15 +7,18 @@ pub mod Locals
 pub mod MarksTold
 pub mod NamesRead
 pub mod NoEnd
+pub mod NotTooNested
+pub mod Official
+pub mod OfficialBack
 pub mod OneModule
 pub mod OneModuleParts
 pub mod OneModuleTokens
 pub mod OneModuleUnits
-pub mod Official
-pub mod OfficialBack
+pub mod OpenStarts
 pub mod Parts
 pub mod RefusedModule
 pub mod RestSteps
+pub mod SameExtents
 pub mod ShallowRead
 pub mod Stages
 pub mod TailSteps

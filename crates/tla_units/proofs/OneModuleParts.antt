@@ -125,7 +125,7 @@ no_title read e n xs (y ∷ ys) zs s a h =
     sym (read xs ys y e s a) ∙ ap (λ v. run v [] mode.Want) whole in
     subst TextEnds (ended_behind e (tree.Name h.1.0 n) (y ∷ ys) (Plain (record { kind = kinds.Symbol symbols.Defined; place = h.2.0 }) ∷ zs) q) a
 
-title_tail : (n : List ℕ) (xs ys : List Laid) → (name n ⨟ sign symbols.Defined) xs ys → tail_of (tail_of xs) ≡ ys
+pub title_tail : (n : List ℕ) (xs ys : List Laid) → (name n ⨟ sign symbols.Defined) xs ys → tail_of (tail_of xs) ≡ ys
 title_tail n xs ys h = ap (λ v. tail_of (tail_of v)) h.1.1 ∙ ap tail_of h.2.1
 
 -- an expression behind a title, or with none

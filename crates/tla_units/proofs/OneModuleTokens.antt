@@ -90,20 +90,20 @@ form_ends (ListClose at ∷ xs) h = h
 
 -- ---- what units begin with
 
-variable_begins : (xs ys : List Laid) → variable_word xs ys → form_of xs ≡ OfVariables
+pub variable_begins : (xs ys : List Laid) → variable_word xs ys → form_of xs ≡ OfVariables
 variable_begins xs ys (inl h) = ap form_of h.1
 variable_begins xs ys (inr h) = ap form_of h.1
 
-constant_begins : (xs ys : List Laid) → constant_word xs ys → form_of xs ≡ OfConstants
+pub constant_begins : (xs ys : List Laid) → constant_word xs ys → form_of xs ≡ OfConstants
 constant_begins xs ys (inl h) = ap form_of h.1
 constant_begins xs ys (inr h) = ap form_of h.1
 
-assume_begins : (xs ys : List Laid) → assume_word xs ys → form_of xs ≡ OfAssumption
+pub assume_begins : (xs ys : List Laid) → assume_word xs ys → form_of xs ≡ OfAssumption
 assume_begins xs ys (inl h) = ap form_of h.1
 assume_begins xs ys (inr (inl h)) = ap form_of h.1
 assume_begins xs ys (inr (inr h)) = ap form_of h.1
 
-theorem_begins : (xs ys : List Laid) → theorem_word xs ys → form_of xs ≡ OfPassed
+pub theorem_begins : (xs ys : List Laid) → theorem_word xs ys → form_of xs ≡ OfPassed
 theorem_begins xs ys (inl (inl h)) = ap form_of h.1
 theorem_begins xs ys (inl (inr h)) = ap form_of h.1
 theorem_begins xs ys (inr (inl h)) = ap form_of h.1
@@ -124,7 +124,7 @@ pub units_begin : (us : List ModuleUnit) (xs ys : List Laid) → UnitsText us xs
 units_begin [] xs ys h q = ap form_of h ∙ q
 units_begin (u ∷ us) xs ys h q = unit_begins u xs h.0 h.1
 
-form_of_unit : (u : ModuleUnit) → IsOfUnits (unit_form u)
+pub form_of_unit : (u : ModuleUnit) → IsOfUnits (unit_form u)
 form_of_unit (units.Variables ds) = tt
 form_of_unit (units.Constants ds) = tt
 form_of_unit (units.Define d) = tt

@@ -12,13 +12,13 @@ use Rattle.reader_model.specs.LawsOfTrees.{SpelledRead, DefinitionRead}
 use Rattle.tla_units.proofs.OneModuleTokens.{OfEquals, form_of, TextEnds, form_ends, unit_form, unit_begins, units_are, some_behind, variable_behind, constant_behind, assume_behind, theorem_behind, dashes_no_theorem}
 use Rattle.tla_units.proofs.OneModuleParts.{declared_names_same, titled_same, definition_same}
 
-variables_same : (ds es : List Declared) (xs ys zs : List Laid) → UnitText (units.Variables ds) xs ys → UnitText (units.Variables es) xs zs → TextEnds ys → TextEnds zs → (units.Variables ds ≡ units.Variables es) × (ys ≡ zs)
+pub variables_same : (ds es : List Declared) (xs ys zs : List Laid) → UnitText (units.Variables ds) xs ys → UnitText (units.Variables es) xs zs → TextEnds ys → TextEnds zs → (units.Variables ds ≡ units.Variables es) × (ys ≡ zs)
 variables_same ds es xs ys zs h g a b =
     let q : h.0 ≡ g.0 = variable_behind xs h.0 g.0 h.1 g.1 in
     let r = declared_names_same ds es h.0 ys zs h.2 (subst (λ v. DeclaredNamesText es v zs) (sym q) g.2) a b in
     (ap units.Variables r.0, r.1)
 
-constants_same : (ds es : List Declared) (xs ys zs : List Laid) → UnitText (units.Constants ds) xs ys → UnitText (units.Constants es) xs zs → TextEnds ys → TextEnds zs → (units.Constants ds ≡ units.Constants es) × (ys ≡ zs)
+pub constants_same : (ds es : List Declared) (xs ys zs : List Laid) → UnitText (units.Constants ds) xs ys → UnitText (units.Constants es) xs zs → TextEnds ys → TextEnds zs → (units.Constants ds ≡ units.Constants es) × (ys ≡ zs)
 constants_same ds es xs ys zs h g a b =
     let q : h.0 ≡ g.0 = constant_behind xs h.0 g.0 h.1 g.1 in
     let r = declared_names_same ds es h.0 ys zs h.2 (subst (λ v. DeclaredNamesText es v zs) (sym q) g.2) a b in
@@ -57,7 +57,7 @@ unit_no_equals (units.Define d) q = cc
 unit_no_equals (units.Assume e) q = cc
 unit_no_equals units.Passed q = cc
 
-equals_no_unit : (u : ModuleUnit) (xs ys : List Laid) → UnitText u xs ys → form_of xs ≡ OfEquals → ⊥
+pub equals_no_unit : (u : ModuleUnit) (xs ys : List Laid) → UnitText u xs ys → form_of xs ≡ OfEquals → ⊥
 equals_no_unit u xs ys h q = unit_no_equals u (sym (unit_begins u xs ys h) ∙ q)
 
 -- units with equals signs behind them

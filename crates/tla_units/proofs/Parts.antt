@@ -14,6 +14,7 @@ use Rattle.tla_ast.specs.Grammar.{◌⨟◌, token, sign, word, name, some_token
 use Rattle.tla_ast.specs.Fits.{Spells}
 use Rattle.tla_ast.specs.Modules.{DeclaredText, DeclaredNamesText, UnitText, UnitsText, UnitFits, UnitsFit, MaybeTitle, ExtendsText, SpellsModule, variable_word, constant_word, assume_word, theorem_word}
 use Rattle.tla_units.specs.Parts.{Part}
+use Rattle.tla_units.specs.Refusals.{ShallowWholeModule, ShallowWholeUnits}
 
 -- ---- lists that grow at their end
 
@@ -96,3 +97,14 @@ one_more_fits us vs u h f e = subst UnitsFit (sym e) (more_fit us u h f)
 pub whole_module : (d : Declared) (ns : List (List ℕ)) (us : List ModuleUnit) (xs : List Laid) (a b c e f g h : ℕ) → Part (some_token kinds.Dashes) xs 0 a → Part (word words.Module) xs a b → Part (DeclaredText d) xs b c → Part (some_token kinds.Dashes) xs c e → ExtendsText ns (drop e xs) (drop f xs) → UnitsText us (drop f xs) (drop g xs) → UnitsFit us → Part (some_token kinds.Equals) xs g h → some_token kinds.End (drop h xs) [] → SpellsModule (record { name = d.name; at = d.at; extends = ns; units = us }) xs
 whole_module d ns us xs a b c e f g h first heading named second extended spelled fits equals end =
     record { text = (drop a xs, first.text, (drop b xs, heading.text, (drop c xs, named.text, (drop e xs, second.text, (drop f xs, extended, (drop g xs, spelled, (drop h xs, equals.text, end))))))); fits = fits }
+
+-- with units whose tokens are shallow
+pub whole_shallow : (d : Declared) (ns : List (List ℕ)) (xs : List Laid) (a b c e f g h : ℕ) → Part (some_token kinds.Dashes) xs 0 a → Part (word words.Module) xs a b → Part (DeclaredText d) xs b c → Part (some_token kinds.Dashes) xs c e → ExtendsText ns (drop e xs) (drop f xs) → ShallowWholeUnits (drop f xs) (drop g xs) → Part (some_token kinds.Equals) xs g h → some_token kinds.End (drop h xs) [] → ShallowWholeModule xs
+whole_shallow d ns xs a b c e f g h first heading named second extended units equals end =
+    record {
+      first = drop f xs;
+      last = drop g xs;
+      heading = (drop a xs, first.text, (drop b xs, heading.text, (drop c xs, (d.name, (d.at, named.text)), (drop e xs, second.text, (ns, extended)))));
+      units = units;
+      ends = (drop h xs, equals.text, end);
+    }

@@ -41,7 +41,7 @@ loose_expression fit xs ys s = (s.0, s.1, tt)
 some_name : Laid
 some_name = plain (kinds.Name [])
 
-no_empty : NoneFollows → (e : Tree) → Text e [] [] → ⊥
+pub no_empty : NoneFollows → (e : Tree) → Text e [] [] → ⊥
 no_empty none e t = none e [] (plain (kinds.Name [])) t tt (record { tree = tree.Name (record { file = 0; line = 0; col = 0 }) []; rest = []; whole = refl })
 
 pub expression_kind : LocalText → NoneFollows → NoMarkInside → TextKind Expression Begun FittingBegun
@@ -107,7 +107,7 @@ defined x e = let t = told marks.Defined x e in (t.0.place, t.1 ∙ ap (λ k. Pl
 title_no_text : EndsThere → (n : List ℕ) (p q : Place) → Begun (Plain (record { kind = kinds.Name n; place = p }) ∷ Plain (record { kind = kinds.Symbol symbols.Defined; place = q }) ∷ []) → ⊥
 title_no_text ends n p q b = ends (Plain (record { kind = kinds.Name n; place = p }) ∷ []) [] (Plain (record { kind = kinds.Symbol symbols.Defined; place = q })) (tree.Name p n) refl b
 
-no_such : EndsThere → (n d : Laid) → mark_of n ≡ Some marks.Name → mark_of d ≡ Some marks.Defined → Begun (n ∷ d ∷ []) → ⊥
+pub no_such : EndsThere → (n d : Laid) → mark_of n ≡ Some marks.Name → mark_of d ≡ Some marks.Defined → Begun (n ∷ d ∷ []) → ⊥
 no_such ends n d a b h =
     let s = named n a in
     let t = defined d b in
@@ -122,7 +122,7 @@ tail_or [] = []
 tail_or (x ∷ xs) = xs
 
 -- the text of an expression from there on, by how many of the two tokens it has
-no_title_text : EndsThere → NoneFollows → (n d : Laid) (more text ys : List Laid) (e : Tree) → mark_of n ≡ Some marks.Name → mark_of d ≡ Some marks.Defined → n ∷ d ∷ more ≡ text ++ ys → Text e text [] → TextEnds ys → ⊥
+pub no_title_text : EndsThere → NoneFollows → (n d : Laid) (more text ys : List Laid) (e : Tree) → mark_of n ≡ Some marks.Name → mark_of d ≡ Some marks.Defined → n ∷ d ∷ more ≡ text ++ ys → Text e text [] → TextEnds ys → ⊥
 no_title_text ends none n d more [] ys e a b q t h = no_empty none e t
 no_title_text ends none n d more (x ∷ []) ys e a b q t h =
     let here : d ∷ more ≡ ys = ap tail_or q in

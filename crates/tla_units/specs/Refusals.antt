@@ -81,6 +81,15 @@ HeadingText = some_token kinds.Dashes ⨟ word words.Module ⨟ (λ xs ys. (n : 
 abbrev pub ShallowModule : List Laid → Type 0
 ShallowModule read = Begins HeadingText read ⊎ ((behind : List Laid) × HeadingText read behind × ShallowUnits behind)
 
+-- These tokens are a whole module, and each of them stands inside at most 100 unfinished constructs of its unit. In the heading, in what it
+-- extends, in the equals signs and in the End nothing is unfinished.
+pub record ShallowWholeModule (laid : List Laid) : Type 0 where
+  pub first : List Laid
+  pub last : List Laid
+  pub heading : HeadingText laid first
+  pub units : ShallowWholeUnits first last
+  pub ends : (some_token kinds.Equals ⨟ some_token kinds.End) last []
+
 -- ---- refusals
 
 -- A module with its ranges is begun up to one of the tokens, and none goes on through that one, even where ranges play no part. This is the

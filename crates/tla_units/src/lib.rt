@@ -10,6 +10,6 @@ mod reader;
 mod units;
 
 pub use laid_ends::laid_ends_once;
-pub use module_laws::one_module;
+pub use module_laws::{one_module, shallow_not_refused};
 pub use reader::module;
 pub use tla_exprs::ParseFault;

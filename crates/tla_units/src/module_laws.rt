@@ -1,12 +1,21 @@
-//! The law of laid tokens and the modules that they spell.
+//! The laws of laid tokens and the modules that they spell.
 
-ghost use Rattle.tla_units.specs.LawsOfModules.{OneModule};
+ghost use Rattle.tla_units.specs.LawsOfModules.{OneModule, ShallowNotRefused};
 
-use reader_model::laws_of_trees;
+use reader_model::{laws_of_extents, laws_of_refusals, laws_of_trees};
 
 /// Laid tokens spell one module.
 pub fn one_module()
     ensures { OneModule }
 {
     laws_of_trees();
+}
+
+/// Where each token of a module stands inside few enough unfinished constructs, none is refused because it stands
+/// inside too many.
+pub fn shallow_not_refused()
+    ensures { ShallowNotRefused }
+{
+    laws_of_extents();
+    laws_of_refusals();
 }

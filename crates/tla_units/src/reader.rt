@@ -1,8 +1,8 @@
 //! The module.
 
-ghost use Rattle.std.specs.Prelude.{◌≡◌, ◌<◌, length, drop, IfOk, IfErr};
+ghost use Rattle.std.specs.Prelude.{◌≡◌, ◌<◌, length, drop, IfOk, IfErr, OnOk};
 ghost use Rattle.tla_ast.specs.Modules.{LaidEndsOnce, SpellsModule};
-ghost use Rattle.tla_units.specs.Refusals.{IsRefusedModule};
+ghost use Rattle.tla_units.specs.Refusals.{IsRefusedModule, ShallowWholeModule};
 
 use crate::extends::extends;
 use crate::marks::{dashes, equals, heading, the_end};
@@ -14,10 +14,12 @@ use tla_exprs::ParseFault;
 
 /// Reads a whole list of laid tokens, up to the End, as a module.
 ///
+/// Of a module that is read each token stands inside at most 100 unfinished constructs of its unit.
 /// A refusal has the place of the first laid token that can not stand where it does.
 pub fn module(alloc: Global, laid: &[Laid]) -> Result<Module, ParseFault>
     requires { LaidEndsOnce laid.now }
     ensures spelled { IfOk result (λ m. SpellsModule m laid.now) }
+    ensures shallow { OnOk result (ShallowWholeModule laid.now) }
     ensures refused { IfErr result (λ e. IsRefusedModule laid.now e) }
 {
     let word = dashes(laid, 0)?;

@@ -5,7 +5,7 @@ use Rattle.tla_units.specs.Reads.{Misses, RefusedIn, NeverDeep, DeepUnits}
 use Rattle.tla_units.specs.Refusals.{Begins, IsRefusedModule, ShallowUnits}
 use Rattle.tla_units.specs.Rests.{◌▹◌, Extended, Tail}
 use Rattle.tla_units.specs.declared.marks.Mark.TheVariants as marks
-use Rattle.tla_units.proofs.Parts.{whole_module}
+use Rattle.tla_units.proofs.Parts.{whole_module, whole_shallow}
 use Rattle.tla_units.proofs.RestSteps.{err_mapped}
 use Rattle.tla_units.proofs.Stages.{headed, behind_extends, behind_units, no_dashes, no_heading, no_name, no_second, no_extends, no_units, no_equals, no_end}
 use Rattle.tla_units.proofs.reader.module.Goals as goal
@@ -52,3 +52,6 @@ returns-in_err-the_end-clause-refused c =
 
 pub returns-clause-spelled : goal.returns-clause-spelled
 returns-clause-spelled c = whole_module c.in_ok-name.name c.in_ok-extends.extends c.in_ok-units.units c.args.laid.now c.in_ok-word.word c.in_ok-called.called c.in_ok-name.behind c.in_ok-body.body c.in_ok-extends.first c.in_ok-units.last c.in_ok-end.end c.in_ok-word.ensures.part c.in_ok-called.ensures.part c.in_ok-name.ensures.part c.in_ok-body.ensures.part c.in_ok-extends.ensures.spelled c.in_ok-units.ensures.spelled c.in_ok-units.ensures.fits c.in_ok-end.ensures.part c.in_ok-the_end.ensures.end
+
+pub returns-clause-shallow : goal.returns-clause-shallow
+returns-clause-shallow c = whole_shallow c.in_ok-name.name c.in_ok-extends.extends c.args.laid.now c.in_ok-word.word c.in_ok-called.called c.in_ok-name.behind c.in_ok-body.body c.in_ok-extends.first c.in_ok-units.last c.in_ok-end.end c.in_ok-word.ensures.part c.in_ok-called.ensures.part c.in_ok-name.ensures.part c.in_ok-body.ensures.part c.in_ok-extends.ensures.spelled c.in_ok-units.ensures.shallow c.in_ok-end.ensures.part c.in_ok-the_end.ensures.end
