@@ -157,7 +157,7 @@ fn told_beside(
 ) -> Result<Judged, Stop>
     ensures status { IfOk result (λ j. j.status ≡ status_of answer.now) }
     ensures report { IfOk result (λ j. string_bytes j.report
-        ≡ answer_text (named_beside job.now heading.program.now heading.config.now heading.spec.now heading.lines) answer.now) }
+        ≡ answer_text (named_beside job.now heading.entry.program.now heading.entry.config.now heading.entry.spec.now heading.entry.lines) answer.now) }
     ensures stopped { IfErr result (λ stop. stop ≡ NoMemory) }
 {
     let files = all_files(alloc, heading.program, heading.config)?;
