@@ -1,0 +1,73 @@
+-- Files that are alike have logs that are alike: the clocks are the same, and so is the one order of the lines.
+use Rattle.std.proofs.Common.{◌≡◌, ℕ, zero, suc, List, [], ◌∷◌, ◌++◌, map, Some, None, refl, sym, ◌∙◌, subst}
+use Rattle.std.specs.Prelude.{slice_get}
+use Rattle.std.specs.List.{AllZip}
+use Rattle.tla_terms.specs.declared.operator.Operator.{Operator}
+use Rattle.path_updates.specs.declared.line.Line.{Line}
+use Rattle.path_updates.specs.declared.line.Log.{Log}
+use Rattle.clock_merge.specs.Orders.{Clocks, IsMerged, IsOnlyOrder}
+use Rattle.clock_merge.specs.declared.order.LineRef.{LineRef}
+use Rattle.log_lines.specs.declared.file.FileLines.{FileLines}
+use Rattle.log_files.specs.Logs.{IsLogOf, StandsAt, clocks_in, first_sees, sees_of}
+use Rattle.alike_steps.specs.AlikeLogs.{AreAlikeLines, AreAlikeLogs}
+use Rattle.alike_logs.specs.AlikeFiles.{AreAlikeFiles}
+
+some_is : {A : Type 0} (a b : A) → Some a ≡ Some b → a ≡ b
+some_is a b e = cc
+
+none_is_some : {A : Type 0} (a : A) → None ≡ Some a → ⊥
+none_is_some a e = cc
+
+-- what stands at one place of both
+zip_get : {A B : Type 0} (R : A → B → Type 0) (xs : List A) (ys : List B) (i : ℕ) (x : A) (y : B) → AllZip R xs ys → slice_get xs i ≡ Some x → slice_get ys i ≡ Some y → R x y
+zip_get R [] [] i x y h p q = absurd (none_is_some x p)
+zip_get R [] (b ∷ ys) i x y h p q = absurd h
+zip_get R (a ∷ xs) [] i x y h p q = absurd h
+zip_get {A} {B} R (a ∷ xs) (b ∷ ys) zero x y h p q =
+    let there : R x b = subst (λ (c : A). R c b) (some_is a x p) h.0 in
+    subst (λ (c : B). R x c) (some_is b y q) there
+zip_get R (a ∷ xs) (b ∷ ys) (suc i) x y h p q = zip_get R xs ys i x y h.1 p q
+
+-- one list beside two
+zip_both : {A B C : Type 0} (R : A → B → Type 0) (S : A → C → Type 0) (T : B → C → Type 0) (xs : List A) (ys : List B) (zs : List C) → ((x : A) (y : B) (z : C) → R x y → S x z → T y z)
+    → AllZip R xs ys → AllZip S xs zs → AllZip T ys zs
+zip_both R S T [] [] [] both p q = tt
+zip_both R S T [] [] (z ∷ zs) both p q = absurd q
+zip_both R S T [] (y ∷ ys) zs both p q = absurd p
+zip_both R S T (x ∷ xs) [] zs both p q = absurd p
+zip_both R S T (x ∷ xs) (y ∷ ys) [] both p q = absurd q
+zip_both R S T (x ∷ xs) (y ∷ ys) (z ∷ zs) both p q = (both x y z p.0 q.0, zip_both R S T xs ys zs both p.1 q.1)
+
+module _ (ops all : List Operator) where
+  clocks_same : (ls ms : List Line) → AllZip (AreAlikeLines ops all) ls ms → map (λ (l : Line). l.clock) ls ≡ map (λ (l : Line). l.clock) ms
+  clocks_same [] [] h = refl
+  clocks_same [] (m ∷ ms) h = absurd h
+  clocks_same (l ∷ ls) [] h = absurd h
+  clocks_same (l ∷ ls) (m ∷ ms) h = λ i. h.0.clock i ∷ clocks_same ls ms h.1 i
+
+  all_clocks_same : (fs gs : List FileLines) → AllZip (AreAlikeFiles ops all) fs gs → clocks_in fs ≡ clocks_in gs
+  all_clocks_same [] [] h = refl
+  all_clocks_same [] (g ∷ gs) h = absurd h
+  all_clocks_same (f ∷ fs) [] h = absurd h
+  all_clocks_same (f ∷ fs) (g ∷ gs) h = λ i. clocks_same f.steps g.steps h.0.steps i ∷ all_clocks_same fs gs h.1 i
+
+  sees_same : (fs gs : List FileLines) → AllZip (AreAlikeFiles ops all) fs gs → first_sees fs ≡ first_sees gs
+  sees_same [] [] h = refl
+  sees_same [] (g ∷ gs) h = absurd h
+  sees_same (f ∷ fs) [] h = absurd h
+  sees_same (f ∷ fs) (g ∷ gs) h = λ i. sees_of (h.0.init i) ++ sees_same fs gs h.1 i
+
+  lines_stand : (fs gs : List FileLines) (place : LineRef) (l m : Line) → AllZip (AreAlikeFiles ops all) fs gs → StandsAt fs place l → StandsAt gs place m → AreAlikeLines ops all l m
+  lines_stand fs gs place l m h p q =
+      let files : AreAlikeFiles ops all p.0 q.0 = zip_get (AreAlikeFiles ops all) fs gs place.file p.0 q.0 h p.1 q.1 in
+      zip_get (AreAlikeLines ops all) p.0.steps q.0.steps place.index l m files.steps p.2 q.2
+
+  pub logs_alike : IsOnlyOrder → (fs gs : List FileLines) (log m : Log) → AllZip (AreAlikeFiles ops all) fs gs → IsLogOf fs log → IsLogOf gs m → AreAlikeLogs ops all log m
+  logs_alike only fs gs log m h p q =
+      let merged : IsMerged (clocks_in fs) q.order = subst (λ (c : Clocks). IsMerged c q.order) (sym (all_clocks_same fs gs h)) q.merged in
+      let order : q.order ≡ p.order = only (clocks_in fs) q.order p.order merged p.merged in
+      let there : AllZip (StandsAt gs) p.order m.lines = subst (λ (o : List LineRef). AllZip (StandsAt gs) o m.lines) order q.lines in
+      record {
+        init = p.init ∙ (sees_same fs gs h ∙ sym q.init);
+        lines = zip_both (StandsAt fs) (StandsAt gs) (AreAlikeLines ops all) p.order log.lines m.lines (λ place l k a b. lines_stand fs gs place l k h a b) p.lines there;
+      }

@@ -1,0 +1,4 @@
+pub mod AlikeLines
+pub mod AlikeTexts
+pub mod ToldAlike
+pub mod AlikeMerges

@@ -1,0 +1,3 @@
+pub mod AlikeFiles
+pub mod AlikeNames
+pub mod Laws

@@ -1,0 +1,163 @@
+-- Beside an accepted reading nothing is refused, and each file that is sought is there and is not too long.
+use Rattle.std.proofs.Common.{◌≡◌, ◌<◌, ℕ, List, [], ◌∷◌, length, Some, None, Ok, Err, inl, inr, sym, ◌∙◌, subst, arith}
+use Rattle.trace_base.specs.Device.{File, IsLonger, found}
+use Rattle.trace_base.specs.declared.place.Place.{Place}
+use Rattle.trace_base.specs.declared.reading.ReadFault.{ReadFault}
+use Rattle.trace_base.specs.declared.reading.ReadFault.TheVariants.{Missing, Failed, TooLong}
+use Rattle.tla_ast.specs.declared.config.Config.{Config}
+use Rattle.tla_ast.specs.declared.module.Program.{Program}
+use Rattle.tla_config.specs.declared.fault.ConfigKind.{ConfigKind}
+use Rattle.tla_config.specs.Reads.{Reads}
+use Rattle.tla_modules.specs.declared.fault.LoadWhy.{LoadWhy}
+use Rattle.tla_modules.specs.declared.fault.LoadWhy.TheVariants.{Read, Lex, Lay, Parse, Cycle, TooMany, Twice, WrongName}
+use Rattle.tla_modules.specs.declared.so_far.SoFar.{SoFar}
+use Rattle.tla_modules.specs.Flattened.{Flattened}
+use Rattle.tla_modules.specs.Loads.{IsProgram}
+use Rattle.tla_modules.specs.Paths.{IsPath}
+use Rattle.tla_modules.specs.Refusals.{IsUnread, module_limit}
+use Rattle.tla_terms.specs.declared.spec.Spec.{Spec}
+use Rattle.tla_levels.specs.Resolved.{Resolved}
+use Rattle.spec_laws.specs.IsSpec.{IsSpec}
+use Rattle.one_outcome.specs.Outcome.{AreAlike}
+use Rattle.one_program.specs.Laws.{FlatteningMayStop, NoConfigurationRefused, NothingRepeats}
+use Rattle.run_words.specs.declared.job.Job.{Job}
+use Rattle.run_reading.specs.Texts.{HasText, LogsRead, bytes_left, config_limit}
+use Rattle.run_reading.specs.Reaches.{IsNext, Reaches, Stage, config_next, loaded, log_next, logged, module_next, resolved}
+use Rattle.run_reading.specs.Refusals.{IsOfText, IsRefusal, Rejects, in_a_log, in_a_module, in_all_modules, in_forms, in_names, in_the_configuration, is_missing, is_refused, is_too_long}
+use Rattle.one_reading.proofs.OneReading.{Parts}
+use Rattle.one_reading.proofs.SameLogs.{one_text}
+use Rattle.one_reading.proofs.Stages.{logged_from, none_is_some, resolved_by, some_is}
+use Rattle.not_refused.proofs.Begun.{Given, IsConfigured, configured_so, names_accepted, program_of, programs_same, spec_in_order, specs_alike}
+use Rattle.not_refused.proofs.Forms.{FormsKnown, forms_accepted}
+use Rattle.not_refused.proofs.LogsBeside.{log_accepted, log_there, whole_forms}
+use Rattle.not_refused.proofs.Sought.{flattening_so}
+
+-- What is known of the parts of reading, and of what is refused beside them.
+pub record Known : Type 0 where
+  pub parts : Parts
+  pub forms : FormsKnown
+  pub stops : FlatteningMayStop
+  pub repeats : NothingRepeats
+  pub configuration : NoConfigurationRefused
+
+missing_no_fail : Missing ≡ Failed → ⊥
+missing_no_fail e = cc
+
+long_no_fail : TooLong ≡ Failed → ⊥
+long_no_fail e = cc
+
+-- The file is there, and is not too long.
+pub record IsThere (files : List File) (name : List ℕ) (limit : ℕ) : Type 0 where
+  pub found_there : found name files ≡ None → ⊥
+  pub short : IsLonger name (Some files) limit → ⊥
+
+pub there_of : (files : List File) (name : List ℕ) (limit : ℕ) (text : List ℕ) → HasText (Some files) name limit text → IsThere files name limit
+there_of files name limit text h = record {
+  found_there = λ e. none_is_some text (sym e ∙ h.whole);
+  short = λ l.
+      let same : l.0 ≡ text = some_is l.0 text (sym l.1 ∙ h.whole) in
+      let long : limit < length text = subst (λ (x : List ℕ). limit < length x) same l.2 in
+      omega (arith, long, h.short);
+}
+
+module _ (known : Known) (files : List File) (job : Job) where
+  -- ---- modules
+
+  text_accepted : (folder name : List ℕ) (all : SoFar) (modules : List (List ℕ)) (why : LoadWhy) → Flattened (Some files) folder name (Ok all)
+      → Flattened (Some files) folder name (Err (modules, why)) → IsOfText why → ⊥
+  text_accepted folder name all modules (Read file fault) h g t = t
+  text_accepted folder name all modules (Lex why at) h g t = known.stops files folder name all modules (Lex why at) h g
+  text_accepted folder name all modules (Lay at) h g t = known.stops files folder name all modules (Lay at) h g
+  text_accepted folder name all modules (Parse fault) h g t = known.stops files folder name all modules (Parse fault) h g
+  text_accepted folder name all modules (Cycle names) h g t = known.stops files folder name all modules (Cycle names) h g
+  text_accepted folder name all modules (TooMany other) h g t = known.stops files folder name all modules (TooMany other) h g
+  text_accepted folder name all modules (Twice other later earlier) h g t = known.stops files folder name all modules (Twice other later earlier) h g
+  text_accepted folder name all modules (WrongName other at) h g t = known.stops files folder name all modules (WrongName other at) h g
+
+  module_read : (folder name : List ℕ) (all : SoFar) (modules : List (List ℕ)) (file : List ℕ) (fault : ReadFault) → Flattened (Some files) folder name (Ok all)
+      → Flattened (Some files) folder name (Err (modules, Read file Failed)) → IsUnread (Some files) file fault → fault ≡ Failed
+  module_read folder name all modules file fault h g u =
+      known.stops files folder name all modules (Read file fault) h (flattening_so (Some files) folder file fault u name modules g)
+
+  module_there : (folder name : List ℕ) (all : SoFar) (modules : List (List ℕ)) (file : List ℕ) → Flattened (Some files) folder name (Ok all)
+      → Flattened (Some files) folder name (Err (modules, Read file Failed)) → IsThere files file module_limit
+  module_there folder name all modules file h g = record {
+    found_there = λ e. missing_no_fail (module_read folder name all modules file Missing h g e);
+    short = λ l. long_no_fail (module_read folder name all modules file TooLong h g l);
+  }
+
+  -- ---- the configuration
+
+  configuration_there : (p : Program) (c : Config) (name : List ℕ) → Given known.parts files job p c → job.config ≡ Some name → (text : List ℕ) × HasText (Some files) name config_limit text
+  configuration_there p c name (inl a) some = absurd (none_is_some name (sym a.0 ∙ some))
+  configuration_there p c name (inr a) some =
+      (a.1, subst (λ (x : List ℕ). HasText (Some files) x config_limit a.1) (some_is a.0 name (sym a.2 ∙ some)) a.3)
+
+  configuration_accepted : (p : Program) (c : Config) (name text : List ℕ) (kind : ConfigKind) (at : Place) → Given known.parts files job p c → job.config ≡ Some name
+      → HasText (Some files) name config_limit text → Reads (length p.files) name text (Err (kind, at)) → ⊥
+  configuration_accepted p c name text kind at (inl a) some has reads = none_is_some name (sym a.0 ∙ some)
+  configuration_accepted p c name text kind at (inr a) some has reads =
+      let named : a.0 ≡ name = some_is a.0 name (sym a.2 ∙ some) in
+      let texts : a.1 ≡ text = one_text files a.0 name config_limit config_limit a.1 text named a.3 has in
+      let here : Reads (length p.files) name a.1 (Ok c) = subst (λ (x : List ℕ). Reads (length p.files) x a.1 (Ok c)) named a.4 in
+      known.configuration (length p.files) name text c kind at (subst (λ (x : List ℕ). Reads (length p.files) name x (Ok c)) texts here) reads
+
+  -- ---- beside an accepted reading
+
+  module _ (p : Program) (c : Config) (s : Spec) (all : LogsRead) (accepted : Reaches (Some files) job (logged p c s all [])) where
+    from : Reaches (Some files) job (resolved p c s)
+    from = logged_from (Some files) job p c s all [] accepted
+
+    is_configured : IsConfigured known.parts files job p c
+    is_configured = configured_so known.parts files job p c (resolved_by (Some files) job p c s from).0
+
+    is_resolved : Resolved p c job.silent (Ok s)
+    is_resolved = (resolved_by (Some files) job p c s from).1
+
+    in_order : IsSpec s
+    in_order = spec_in_order known.parts files job p c s from
+
+    pub alike_to : (q : Program) (d : Config) (t : Spec) → Reaches (Some files) job (resolved q d t) → AreAlike s t
+    alike_to q d t reaches = specs_alike known.parts files job p q c d s t is_configured is_resolved reaches
+
+    is_program : (folder name : List ℕ) → IsPath job.module folder name → IsProgram (Some files) folder name p
+    is_program folder name path = program_of known.parts files job folder name p path is_configured.program
+
+    one_more_program : (q : Program) → Reaches (Some files) job (loaded q) → p ≡ q
+    one_more_program q reaches = programs_same known.parts files job p q is_configured.program reaches
+
+    log_text : (q : Program) (d : Config) (t : Spec) (read : LogsRead) (name : List ℕ) (names : List (List ℕ)) → Reaches (Some files) job (logged q d t read (name ∷ names))
+        → (text : List ℕ) × HasText (Some files) name (bytes_left read) text
+    log_text q d t read name names reaches =
+        let other : Reaches (Some files) job (resolved q d t) = logged_from (Some files) job q d t read (name ∷ names) reaches in
+        log_there files job known.parts.files s t in_order (spec_in_order known.parts files job q d t other) (alike_to q d t other) p q c d all read name names accepted reaches
+
+    -- what is sought is there
+    pub sought_there : (stage : Stage) (name : List ℕ) (limit : ℕ) → Reaches (Some files) job stage → IsNext (Some files) job stage name limit → IsThere files name limit
+    sought_there _ _ _ reaches (module_next folder name modules file path flat) = module_there folder name (is_program folder name path).all modules file (is_program folder name path).flattened flat
+    sought_there _ _ _ reaches (config_next q name some) =
+        let has = configuration_there p c name is_configured.given some in
+        there_of files name config_limit has.0 has.1
+    sought_there _ _ _ reaches (log_next q d t read name names) = let has = log_text q d t read name names reaches in there_of files name (bytes_left read) has.0 has.1
+
+    -- and no text is refused
+    pub text_not_refused : (stage : Stage) (report : List ℕ) → Reaches (Some files) job stage → Rejects (Some files) job stage report → ⊥
+    text_not_refused _ _ reaches (in_a_module folder name modules why path flat text) =
+        text_accepted folder name (is_program folder name path).all modules why (is_program folder name path).flattened flat text
+    text_not_refused _ _ reaches (in_all_modules folder name every why path flat twice) = known.repeats files folder name p every why (is_program folder name path) flat twice
+    text_not_refused _ _ reaches (in_the_configuration q name text kind at some has reads) =
+        let same : p ≡ q = one_more_program q reaches in
+        configuration_accepted p c name text kind at is_configured.given some has (subst (λ (x : Program). Reads (length x.files) name text (Err (kind, at))) (sym same) reads)
+    text_not_refused _ _ reaches (in_names q d fault is) = names_accepted known.parts files job p q c d s fault is_configured is_resolved reaches is
+    text_not_refused _ _ reaches (in_forms q d t fault is) =
+        forms_accepted known.forms s t in_order (spec_in_order known.parts files job q d t reaches) (alike_to q d t reaches) fault
+        (whole_forms (Some files) job p c s all [] accepted) is
+    text_not_refused _ _ reaches (in_a_log q d t read name names text refusal log says) =
+        let other : Reaches (Some files) job (resolved q d t) = logged_from (Some files) job q d t read (name ∷ names) reaches in
+        log_accepted files job known.parts.files s t in_order (spec_in_order known.parts files job q d t other) (alike_to q d t other) p q c d all read name names text refusal accepted
+        reaches log says
+
+    pub refused_never : (before now : ℕ) (report : List ℕ) → IsRefusal (Some files) before now job report → ⊥
+    refused_never before now _ (is_missing name limit wants lacks) = (sought_there wants.stage name limit wants.reaches wants.is_next).found_there lacks
+    refused_never before now _ (is_too_long name limit wants long) = (sought_there wants.stage name limit wants.reaches wants.is_next).short long
+    refused_never before now _ (is_refused stage report reaches rejects) = text_not_refused stage report reaches rejects

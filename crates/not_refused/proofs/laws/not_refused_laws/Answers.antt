@@ -1,0 +1,56 @@
+use Rattle.not_refused.proofs.Accepted.{given_not_refused, read_not_refused}
+use Rattle.not_refused.proofs.laws.not_refused_laws.Goals as goal
+
+pub returns-clause-read : goal.returns-clause-read
+returns-clause-read c = read_not_refused (record {
+  parts = record {
+    path = c.one_program_laws.ensures.path;
+    program = c.one_program_laws.ensures.program;
+    configuration = c.one_program_laws.ensures.configuration;
+    well_formed = c.load_laws.ensures.well_formed;
+    in_order = c.resolved_laws.ensures.in_order;
+    form = c.configuration_laws.ensures.form;
+    plain_form = c.configuration_laws.ensures.plain_form;
+    outcome = c.outcome_laws.ensures.one;
+    files = c.alike_logs_laws.ensures.files;
+    logs = c.alike_logs_laws.ensures.logs;
+    states = c.state_laws.ensures.file;
+  };
+  forms = record {
+    one = c.form_laws.ensures.one;
+    outcomes = c.action_laws.ensures.outcomes;
+    whole = c.action_laws.ensures.whole;
+    sound = c.sound_law.ensures;
+    sound_operators = c.operator_law.ensures;
+  };
+  stops = c.no_refusal_laws.ensures.flattening;
+  repeats = c.no_refusal_laws.ensures.repeats;
+  configuration = c.no_refusal_laws.ensures.configuration;
+})
+
+pub returns-clause-given : goal.returns-clause-given
+returns-clause-given c = given_not_refused (record {
+  parts = record {
+    path = c.one_program_laws.ensures.path;
+    program = c.one_program_laws.ensures.program;
+    configuration = c.one_program_laws.ensures.configuration;
+    well_formed = c.load_laws.ensures.well_formed;
+    in_order = c.resolved_laws.ensures.in_order;
+    form = c.configuration_laws.ensures.form;
+    plain_form = c.configuration_laws.ensures.plain_form;
+    outcome = c.outcome_laws.ensures.one;
+    files = c.alike_logs_laws.ensures.files;
+    logs = c.alike_logs_laws.ensures.logs;
+    states = c.state_laws.ensures.file;
+  };
+  forms = record {
+    one = c.form_laws.ensures.one;
+    outcomes = c.action_laws.ensures.outcomes;
+    whole = c.action_laws.ensures.whole;
+    sound = c.sound_law.ensures;
+    sound_operators = c.operator_law.ensures;
+  };
+  stops = c.no_refusal_laws.ensures.flattening;
+  repeats = c.no_refusal_laws.ensures.repeats;
+  configuration = c.no_refusal_laws.ensures.configuration;
+})

@@ -1,0 +1,31 @@
+ghost use Rattle.not_refused.specs.Laws.{GivenNotRefused, ReadNotRefused};
+
+use action_forms::form_laws;
+use alike_actions::action_laws;
+use alike_logs::alike_logs_laws;
+use load_laws::{configuration_laws, load_laws};
+use one_outcome::outcome_laws;
+use one_program::{no_refusal_laws, one_program_laws};
+use resolved_laws::resolved_laws;
+use sound_laws::{operator_law, sound_law};
+use state_files::state_laws;
+
+/// Where files tell what they hold, a job that they give a specification and a log is not refused, nor, with the states of a file, one whose
+/// states are read.
+pub fn not_refused_laws()
+    ensures read { ReadNotRefused }
+    ensures given { GivenNotRefused }
+{
+    one_program_laws();
+    no_refusal_laws();
+    load_laws();
+    configuration_laws();
+    resolved_laws();
+    outcome_laws();
+    action_laws();
+    form_laws();
+    sound_law();
+    operator_law();
+    alike_logs_laws();
+    state_laws();
+}

@@ -1,0 +1,136 @@
+-- Two readings of the same files come to the same.
+use Rattle.std.proofs.Common.{◌≡◌, ◌⊎◌, ℕ, List, [], length, Some, Result, Ok, inl, inr, refl, sym, ◌∙◌, subst, arith}
+use Rattle.trace_base.specs.Device.{File}
+use Rattle.tla_ast.specs.declared.config.Config.{Config}
+use Rattle.tla_ast.specs.declared.module.Program.{Program}
+use Rattle.tla_config.specs.Reads.{Reads}
+use Rattle.tla_modules.specs.Loads.{IsProgram}
+use Rattle.tla_core.specs.declared.state.Shown.{Shown}
+use Rattle.tla_terms.specs.declared.spec.Spec.{Spec}
+use Rattle.tla_levels.specs.Resolved.{IsOneForm, Resolved}
+use Rattle.load_laws.specs.Loaded.{ConfigurationsHaveOneForm, LoadedAreWellFormed, PlainHasOneForm}
+use Rattle.resolved_laws.specs.InOrder.{ResolvedAreInOrder}
+use Rattle.spec_laws.specs.IsSpec.{IsSpec}
+use Rattle.one_outcome.specs.Laws.{HasOneOutcome}
+use Rattle.one_outcome.specs.Outcome.{AreAlike}
+use Rattle.path_updates.specs.declared.line.Log.{Log}
+use Rattle.state_files.specs.Files.{StateFileSays}
+use Rattle.state_files.specs.Laws.{StateFileSaysOne}
+use Rattle.state_files.specs.declared.refusal.StateRefusal.{StateRefusal}
+use Rattle.alike_logs.specs.Laws.{FilesSayAlike, LogsAreAlike}
+use Rattle.run_words.specs.declared.job.Job.{Job}
+use Rattle.run_reading.specs.Texts.{config_limit}
+use Rattle.run_reading.specs.Reaches.{AllRead, Reaches, resolved}
+use Rattle.run_reading.specs.Given.{AllGiven, states_limit}
+use Rattle.one_reading.specs.Laws.{AreSame, GivenIsOne, ReadingIsOne}
+use Rattle.one_program.specs.Laws.{OneConfiguration, OnePath, OneProgram}
+use Rattle.one_reading.proofs.Stages.{LoadedBy, WithText, WithoutText, configured_by, counted, loaded_by, logged_from, none_is_some, resolved_by, some_is}
+use Rattle.one_reading.proofs.SameLogs.{AreAlikeReads, one_text, same_logs}
+
+ok_is : (w v : List Shown) (r q : Result (List Shown) StateRefusal) → r ≡ Ok w → q ≡ Ok v → r ≡ q → w ≡ v
+ok_is w v r q a b e = cc
+
+-- What is known of the parts of reading.
+pub record Parts : Type 0 where
+  pub path : OnePath
+  pub program : OneProgram
+  pub configuration : OneConfiguration
+  pub well_formed : LoadedAreWellFormed
+  pub in_order : ResolvedAreInOrder
+  pub form : ConfigurationsHaveOneForm
+  pub plain_form : PlainHasOneForm
+  pub outcome : HasOneOutcome
+  pub files : FilesSayAlike
+  pub logs : LogsAreAlike
+  pub states : StateFileSaysOne
+
+module _ (known : Parts) (files : List File) (job : Job) where
+  abbrev Comes : Program → Config → Spec → Type 0
+  Comes p c s = Reaches (Some files) job (resolved p c s)
+
+  pub same_program : (p q : Program) → LoadedBy (Some files) job p → LoadedBy (Some files) job q → p ≡ q
+  same_program p q a b =
+      let same = known.path job.module a.0 b.0 a.1 b.1 a.2 b.2 in
+      let folder : IsProgram (Some files) a.0 b.1 q = subst (λ (x : List ℕ). IsProgram (Some files) x b.1 q) (sym same.0) b.3 in
+      let there : IsProgram (Some files) a.0 a.1 q = subst (λ (x : List ℕ). IsProgram (Some files) a.0 x q) (sym same.1) folder in
+      known.program files a.0 a.1 p q a.3 there
+
+  by_texts : (p : Program) (c d : Config) → WithText (Some files) job p c → WithText (Some files) job p d → c ≡ d
+  by_texts p c d a b =
+      let named : a.0 ≡ b.0 = some_is a.0 b.0 (sym a.2 ∙ b.2) in
+      let texts : a.1 ≡ b.1 = one_text files a.0 b.0 config_limit config_limit a.1 b.1 named a.3 b.3 in
+      let name : Reads (length p.files) a.0 b.1 (Ok d) = subst (λ (x : List ℕ). Reads (length p.files) x b.1 (Ok d)) (sym named) b.4 in
+      let there : Reads (length p.files) a.0 a.1 (Ok d) = subst (λ (x : List ℕ). Reads (length p.files) a.0 x (Ok d)) (sym texts) name in
+      known.configuration (length p.files) a.0 a.1 c d a.4 there
+
+  pub same_configuration : (p : Program) (c d : Config) → WithoutText (Some files) job c ⊎ WithText (Some files) job p c → WithoutText (Some files) job d ⊎ WithText (Some files) job p d → c ≡ d
+  same_configuration p c d (inl a) (inl b) = a.1 ∙ sym b.1
+  same_configuration p c d (inl a) (inr b) = absurd (none_is_some b.0 (sym a.0 ∙ b.2))
+  same_configuration p c d (inr a) (inl b) = absurd (none_is_some a.0 (sym b.0 ∙ a.2))
+  same_configuration p c d (inr a) (inr b) = by_texts p c d a b
+
+  pub one_form : (p : Program) (c : Config) → WithoutText (Some files) job c ⊎ WithText (Some files) job p c → IsOneForm c
+  one_form p c (inl a) = subst (λ (x : Config). IsOneForm x) (sym a.1) known.plain_form
+  one_form p c (inr a) = known.form (length p.files) a.0 a.1 c a.4
+
+  pub in_order : (p : Program) (c : Config) (s : Spec) → Comes p c s → IsSpec s
+  in_order p c s reaches =
+      let r = resolved_by (Some files) job p c s reaches in
+      let by = loaded_by (Some files) job p (configured_by (Some files) job p c r.0).0 in
+      known.in_order p c job.silent s (known.well_formed (Some files) 0 0 job.module p (by.0, by.1, by.2, by.3)) r.1
+
+  -- the programs, the configurations and the specifications
+  pub record AreBegun (p q : Program) (c d : Config) (s t : Spec) : Type 0 where
+    pub programs : p ≡ q
+    pub configurations : c ≡ d
+    pub specs : AreAlike s t
+
+  pub begun_same : (p q : Program) (c d : Config) (s t : Spec) → Comes p c s → Comes q d t → AreBegun p q c d s t
+  begun_same p q c d s t a b =
+      let first = resolved_by (Some files) job p c s a in
+      let second = resolved_by (Some files) job q d t b in
+      let left = configured_by (Some files) job p c first.0 in
+      let right = configured_by (Some files) job q d second.0 in
+      let programs : p ≡ q = same_program p q (loaded_by (Some files) job p left.0) (loaded_by (Some files) job q right.0) in
+      let given : WithoutText (Some files) job d ⊎ WithText (Some files) job p d =
+      subst (λ (x : Program). WithoutText (Some files) job d ⊎ WithText (Some files) job x d) (sym programs) right.1 in
+      let configurations : c ≡ d = same_configuration p c d left.1 given in
+      let program : Resolved p d job.silent (Ok t) = subst (λ (x : Program). Resolved x d job.silent (Ok t)) (sym programs) second.1 in
+      let there : Resolved p c job.silent (Ok t) = subst (λ (x : Config). Resolved p x job.silent (Ok t)) (sym configurations) program in
+      record { programs = programs; configurations = configurations; specs = known.outcome p c job.silent (one_form p c left.1) (Ok s) (Ok t) first.1 there }
+
+  same_reading : (p q : Program) (c d : Config) (s t : Spec) (log other : Log) → AllRead (Some files) job p c s log → AllRead (Some files) job q d t other → AreSame p q c d s t log other
+  same_reading p q c d s t log other a b =
+      let first : Comes p c s = logged_from (Some files) job p c s a.read [] a.reaches in
+      let second : Comes q d t = logged_from (Some files) job q d t b.read [] b.reaches in
+      let begun = begun_same p q c d s t first second in
+      let ordered : IsSpec s = in_order p c s first in
+      let other_ordered : IsSpec t = in_order q d t second in
+      let m = counted (Some files) job p c s a.read [] a.reaches in
+      let n = counted (Some files) job q d t b.read [] b.reaches in
+      let count : length a.read.found ≡ length b.read.found = omega (arith, m, n) in
+      let reads : AreAlikeReads s.operators t.operators a.read b.read =
+      same_logs files job known.files s t ordered other_ordered begun.specs q d p c a.read [] b.read [] a.reaches b.reaches count in
+      record {
+        programs = begun.programs;
+        configurations = begun.configurations;
+        specs = begun.specs;
+        ordered = ordered;
+        other_ordered = other_ordered;
+        logs = known.logs s.operators t.operators a.read.found b.read.found log other reads.found a.merged b.merged;
+      }
+
+  same_given : (witness : List ℕ) (p q : Program) (c d : Config) (s t : Spec) (log other : Log) (w v : List Shown) → AllGiven (Some files) job witness p c s log w
+      → AllGiven (Some files) job witness q d t other v → AreSame p q c d s t log other × (w ≡ v)
+  same_given witness p q c d s t log other w v a b =
+      let same = same_reading p q c d s t log other a.all_read b.all_read in
+      let texts : a.text ≡ b.text = one_text files witness witness states_limit states_limit a.text b.text refl a.has_text b.has_text in
+      let names : StateFileSays s.variables b.text (Ok v) = subst (λ (x : List (List ℕ)). StateFileSays x b.text (Ok v)) (sym same.specs.variables) b.says in
+      let there : StateFileSays s.variables a.text (Ok v) = subst (λ (x : List ℕ). StateFileSays s.variables x (Ok v)) (sym texts) names in
+      (same, ok_is w v (Ok w) (Ok v) refl refl (known.states s.variables a.text (Ok w) (Ok v) a.says there))
+
+pub reading_is_one : Parts → ReadingIsOne
+reading_is_one known files job = same_reading known files job
+
+pub given_is_one : Parts → GivenIsOne
+given_is_one known files job = same_given known files job

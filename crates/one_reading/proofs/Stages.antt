@@ -1,0 +1,94 @@
+-- By what each stage of reading was reached.
+use Rattle.std.proofs.Common.{◌≡◌, ◌⊎◌, ◌+◌, ℕ, zero, suc, List, [], ◌∷◌, ◌++◌, length, length-append, Option, Some, None, Ok, inl, inr, refl, ap, ◌∙◌, arith}
+use Rattle.std.specs.Prelude.{drop}
+use Rattle.trace_base.specs.Device.{File}
+use Rattle.tla_ast.specs.declared.config.Config.{Config}
+use Rattle.tla_ast.specs.declared.module.Program.{Program}
+use Rattle.tla_modules.specs.Loads.{IsProgram}
+use Rattle.tla_modules.specs.Paths.{IsPath}
+use Rattle.tla_config.specs.Reads.{Reads}
+use Rattle.tla_terms.specs.declared.spec.Spec.{Spec}
+use Rattle.tla_levels.specs.Resolved.{Resolved}
+use Rattle.log_lines.specs.declared.file.FileLines.{FileLines}
+use Rattle.run_words.specs.declared.job.Job.{Job}
+use Rattle.run_reading.specs.Texts.{HasText, LogsRead, config_limit, no_logs, with_log, without_file}
+use Rattle.run_reading.specs.Reaches.{IsLog, LogSays, Reaches, configured, has_forms, loaded, loads, logged, needs_no_configuration, reads_configuration, reads_log, resolved, resolves}
+
+pub some_is : {A : Type 0} (a b : A) → Some a ≡ Some b → a ≡ b
+some_is a b e = cc
+
+pub none_is_some : {A : Type 0} (a : A) → None ≡ Some a → ⊥
+none_is_some a e = cc
+
+none_left : {A : Type 0} (y : A) (ys : List A) → [] ≡ y ∷ ys → ⊥
+none_left y ys e = cc
+
+rest_is : {A : Type 0} (x y : A) (xs ys : List A) → x ∷ xs ≡ y ∷ ys → xs ≡ ys
+rest_is x y xs ys e = cc
+
+pub head_is : {A : Type 0} (x y : A) (xs ys : List A) → x ∷ xs ≡ y ∷ ys → x ≡ y
+head_is x y xs ys e = cc
+
+drop_next : {A : Type 0} (n : ℕ) (xs : List A) (y : A) (ys : List A) → drop n xs ≡ y ∷ ys → drop (suc n) xs ≡ ys
+drop_next zero [] y ys e = absurd (none_left y ys e)
+drop_next zero (x ∷ xs) y ys e = rest_is x y xs ys e
+drop_next (suc n) [] y ys e = absurd (none_left y ys e)
+drop_next (suc n) (x ∷ xs) y ys e = drop_next n xs y ys e
+
+pub one_longer : (fs : List FileLines) (f : FileLines) → length (fs ++ f ∷ []) ≡ suc (length fs)
+one_longer fs f = omega (arith, length-append fs (f ∷ []))
+
+module _ (holds : Option (List File)) (job : Job) where
+  abbrev pub LoadedBy : Program → Type 0
+  LoadedBy p = (folder : List ℕ) × (name : List ℕ) × IsPath job.module folder name × IsProgram holds folder name p
+
+  pub loaded_by : (p : Program) → Reaches holds job (loaded p) → LoadedBy p
+  loaded_by _ (loads folder name p path is) = (folder, name, path, is)
+
+  abbrev pub WithoutText : Config → Type 0
+  WithoutText c = (job.config ≡ None) × (c ≡ without_file)
+
+  abbrev pub WithText : Program → Config → Type 0
+  WithText p c = (name : List ℕ) × (text : List ℕ) × (job.config ≡ Some name) × HasText holds name config_limit text × Reads (length p.files) name text (Ok c)
+
+  pub configured_by : (p : Program) (c : Config) → Reaches holds job (configured p c) → Reaches holds job (loaded p) × (WithoutText c ⊎ WithText p c)
+  configured_by _ _ (needs_no_configuration p reaches none) = (reaches, inl (none, refl))
+  configured_by _ _ (reads_configuration p name text c reaches some has reads) = (reaches, inr (name, text, some, has, reads))
+
+  pub resolved_by : (p : Program) (c : Config) (s : Spec) → Reaches holds job (resolved p c s) → Reaches holds job (configured p c) × Resolved p c job.silent (Ok s)
+  resolved_by _ _ _ (resolves p c s reaches is) = (reaches, is)
+
+  pub logged_from : (p : Program) (c : Config) (s : Spec) (read : LogsRead) (names : List (List ℕ)) → Reaches holds job (logged p c s read names) → Reaches holds job (resolved p c s)
+  logged_from _ _ _ _ _ (has_forms p c s reaches whole) = reaches
+  logged_from _ _ _ _ _ (reads_log p c s read name names text f reaches log says) = logged_from p c s read (name ∷ names) reaches
+
+  -- the last log that was read
+  pub record LastRead (p : Program) (c : Config) (s : Spec) (all : LogsRead) (names : List (List ℕ)) : Type 0 where
+    pub read : LogsRead
+    pub name : List ℕ
+    pub text : List ℕ
+    pub file : FileLines
+    pub reaches : Reaches holds job (logged p c s read (name ∷ names))
+    pub log : IsLog holds read name text
+    pub says : LogSays job s read text (Ok file)
+    pub is : all ≡ with_log read text file
+
+  pub logged_by : (p : Program) (c : Config) (s : Spec) (all : LogsRead) (names : List (List ℕ)) → Reaches holds job (logged p c s all names)
+      → (all ≡ no_logs) ⊎ LastRead p c s all names
+  logged_by _ _ _ _ _ (has_forms p c s reaches whole) = inl refl
+  logged_by _ _ _ _ _ (reads_log p c s read name names text f reaches log says) =
+      inr (record { read = read; name = name; text = text; file = f; reaches = reaches; log = log; says = says; is = refl })
+
+  -- the logs that are still to be read are those behind as many as were read
+  pub still_named : (p : Program) (c : Config) (s : Spec) (read : LogsRead) (names : List (List ℕ)) → Reaches holds job (logged p c s read names) → drop (length read.found) job.logs ≡ names
+  still_named _ _ _ _ _ (has_forms p c s reaches whole) = refl
+  still_named _ _ _ _ _ (reads_log p c s read name names text f reaches log says) =
+      let before : drop (length read.found) job.logs ≡ name ∷ names = still_named p c s read (name ∷ names) reaches in
+      ap (λ (n : ℕ). drop n job.logs) (one_longer read.found f) ∙ drop_next (length read.found) job.logs name names before
+
+  pub counted : (p : Program) (c : Config) (s : Spec) (read : LogsRead) (names : List (List ℕ)) → Reaches holds job (logged p c s read names)
+      → length read.found + length names ≡ length job.logs
+  counted _ _ _ _ _ (has_forms p c s reaches whole) = omega arith
+  counted _ _ _ _ _ (reads_log p c s read name names text f reaches log says) =
+      let before : length read.found + suc (length names) ≡ length job.logs = counted p c s read (name ∷ names) reaches in
+      omega (arith, before, one_longer read.found f)

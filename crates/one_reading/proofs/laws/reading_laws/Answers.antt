@@ -1,0 +1,32 @@
+use Rattle.one_reading.proofs.OneReading.{given_is_one, reading_is_one}
+use Rattle.one_reading.proofs.laws.reading_laws.Goals as goal
+
+pub returns-clause-reading : goal.returns-clause-reading
+returns-clause-reading c = reading_is_one (record {
+  path = c.one_program_laws.ensures.path;
+  program = c.one_program_laws.ensures.program;
+  configuration = c.one_program_laws.ensures.configuration;
+  well_formed = c.load_laws.ensures.well_formed;
+  in_order = c.resolved_laws.ensures.in_order;
+  form = c.configuration_laws.ensures.form;
+  plain_form = c.configuration_laws.ensures.plain_form;
+  outcome = c.outcome_laws.ensures.one;
+  files = c.alike_logs_laws.ensures.files;
+  logs = c.alike_logs_laws.ensures.logs;
+  states = c.state_laws.ensures.file;
+})
+
+pub returns-clause-given : goal.returns-clause-given
+returns-clause-given c = given_is_one (record {
+  path = c.one_program_laws.ensures.path;
+  program = c.one_program_laws.ensures.program;
+  configuration = c.one_program_laws.ensures.configuration;
+  well_formed = c.load_laws.ensures.well_formed;
+  in_order = c.resolved_laws.ensures.in_order;
+  form = c.configuration_laws.ensures.form;
+  plain_form = c.configuration_laws.ensures.plain_form;
+  outcome = c.outcome_laws.ensures.one;
+  files = c.alike_logs_laws.ensures.files;
+  logs = c.alike_logs_laws.ensures.logs;
+  states = c.state_laws.ensures.file;
+})

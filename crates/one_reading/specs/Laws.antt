@@ -1,0 +1,35 @@
+-- Two readings of the same files come to the same. It is said of files that tell what they hold.
+use Rattle.std.specs.Prelude.{◌≡◌, ℕ, List, Some}
+use Rattle.trace_base.specs.Device.{File}
+use Rattle.tla_ast.specs.declared.config.Config.{Config}
+use Rattle.tla_ast.specs.declared.module.Program.{Program}
+use Rattle.tla_core.specs.declared.state.Shown.{Shown}
+use Rattle.tla_terms.specs.declared.spec.Spec.{Spec}
+use Rattle.spec_laws.specs.IsSpec.{IsSpec}
+use Rattle.one_outcome.specs.Outcome.{AreAlike}
+use Rattle.path_updates.specs.declared.line.Log.{Log}
+use Rattle.alike_steps.specs.AlikeLogs.{AreAlikeLogs}
+use Rattle.run_words.specs.declared.job.Job.{Job}
+use Rattle.run_reading.specs.Given.{AllGiven}
+use Rattle.run_reading.specs.Reaches.{AllRead}
+
+-- One program and one configuration, and specifications in order that differ by the numbers of definitions alone, as the logs do.
+pub record AreSame (p q : Program) (c d : Config) (s t : Spec) (log other : Log) : Type 0 where
+  pub programs : p ≡ q
+  pub configurations : c ≡ d
+  pub specs : AreAlike s t
+  pub ordered : IsSpec s
+  pub other_ordered : IsSpec t
+  pub logs : AreAlikeLogs s.operators t.operators log other
+
+-- what `validate` reads
+abbrev pub ReadingIsOne : Type 0
+ReadingIsOne =
+    (files : List File) (job : Job) (p q : Program) (c d : Config) (s t : Spec) (log other : Log) → AllRead (Some files) job p c s log → AllRead (Some files) job q d t other
+    → AreSame p q c d s t log other
+
+-- what `check` reads: the states are the same besides
+abbrev pub GivenIsOne : Type 0
+GivenIsOne =
+    (files : List File) (job : Job) (witness : List ℕ) (p q : Program) (c d : Config) (s t : Spec) (log other : Log) (w v : List Shown)
+    → AllGiven (Some files) job witness p c s log w → AllGiven (Some files) job witness q d t other v → AreSame p q c d s t log other × (w ≡ v)

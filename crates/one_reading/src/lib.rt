@@ -1,0 +1,6 @@
+//! Two readings of the same files come to the same program and configuration, and to specifications and logs that differ by the numbers of definitions alone.
+#![tactic(auto)]
+
+mod laws;
+
+pub use laws::reading_laws;
