@@ -4,7 +4,7 @@ use Rattle.std.specs.Prelude.{ℕ, zero, suc, not, Option, Result, Ok, option_to
 use Rattle.std.specs.List.{AllZip}
 use Rattle.trace_base.specs.declared.place.Place.{Place}
 use Rattle.tla_terms.specs.Terms as term
-use Rattle.tla_terms.specs.Terms.{Term, Placed, Bounds, place_of}
+use Rattle.tla_terms.specs.Terms.{Term, place_of}
 use Rattle.term_parts.specs.Parts.{set_list}
 use Rattle.tla_eval.specs.Contexts.{Table}
 use Rattle.tla_actions.specs.declared.fault.FormFault.{FormFault}

@@ -13,7 +13,7 @@ use Rattle.tla_terms.specs.declared.level.Level.{Level}
 use Rattle.tla_terms.specs.declared.level.Level.TheVariants as levels
 use Rattle.tla_terms.specs.Lists.{terms_list, arms_list}
 use Rattle.tla_terms.specs.Terms as term
-use Rattle.tla_terms.specs.Terms.{Term, Placed, Meaning, Terms, Operands, Bounds, Step, Steps}
+use Rattle.tla_terms.specs.Terms.{Term, Placed, Meaning, Operands, Bounds, Step, Steps}
 use Rattle.tla_eval.specs.Contexts.{Table}
 use Rattle.tla_eval.specs.Unchanged.{behind, unchanged_of}
 use Rattle.tla_actions.specs.declared.which.Which.{Which}

@@ -1,15 +1,15 @@
 ghost use Rattle.alike_actions.specs.Laws.{FailsAlike, FixesAlike, HoldsAlike, OutcomesAlike, WholeAlike};
 
-use alike_outcomes::outcome_laws;
+use alike_outcomes::alike_outcome_laws;
 
 /// Of two actions that differ by the numbers of definitions alone, each over its table, the one holds where the other does, fails as the other
 /// does, and leaves the same fixed or has the same wrong with its form.
-pub fn action_laws()
+pub fn alike_action_laws()
     ensures holds { HoldsAlike }
     ensures fails { FailsAlike }
     ensures outcomes { OutcomesAlike }
     ensures fixes { FixesAlike }
     ensures whole { WholeAlike }
 {
-    outcome_laws();
+    alike_outcome_laws();
 }

@@ -3,4 +3,4 @@
 
 mod laws;
 
-pub use laws::action_laws;
+pub use laws::alike_action_laws;

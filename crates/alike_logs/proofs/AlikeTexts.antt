@@ -1,5 +1,5 @@
 -- What a file says over one setting, it says over one that is alike, but for the numbers of definitions.
-use Rattle.std.proofs.Common.{◌≡◌, ◌+◌, ℕ, ℤ, List, [], ◌∷◌, ◌++◌, Result, Ok, Err, refl, sym, subst}
+use Rattle.std.proofs.Common.{◌≡◌, ℕ, ℤ, List, [], ◌∷◌, ◌++◌, Result, Ok, Err, refl, sym, subst}
 use Rattle.std.specs.List.{AllZip}
 use Rattle.tla_terms.specs.declared.operator.Operator.{Operator}
 use Rattle.log_lines.specs.Setting.{Setting}

@@ -1,6 +1,6 @@
 ghost use Rattle.alike_logs.specs.Laws.{FilesSayAlike, LogsAreAlike, NamesTellAlike};
 
-use alike_actions::action_laws;
+use alike_actions::alike_action_laws;
 use clock_merge::order_laws;
 use spec_names::name_laws;
 
@@ -10,7 +10,7 @@ pub fn alike_logs_laws()
     ensures files { FilesSayAlike }
     ensures logs { LogsAreAlike }
 {
-    action_laws();
+    alike_action_laws();
     name_laws();
     order_laws();
 }

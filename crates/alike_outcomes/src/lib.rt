@@ -3,4 +3,4 @@
 
 mod laws;
 
-pub use laws::outcome_laws;
+pub use laws::alike_outcome_laws;

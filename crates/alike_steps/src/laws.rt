@@ -1,7 +1,7 @@
 ghost use Rattle.alike_steps.specs.Laws.{AnswersAlike, AskAlike, VerdictsAlike};
 
-use alike_actions::action_laws;
-use alike_outcomes::outcome_laws;
+use alike_actions::alike_action_laws;
+use alike_outcomes::alike_outcome_laws;
 
 /// Over two specifications that are alike, beside logs that are alike, the same is asked of states, and the same answers and verdicts are true.
 pub fn alike_steps_laws()
@@ -9,6 +9,6 @@ pub fn alike_steps_laws()
     ensures answers { AnswersAlike }
     ensures verdicts { VerdictsAlike }
 {
-    outcome_laws();
-    action_laws();
+    alike_outcome_laws();
+    alike_action_laws();
 }

@@ -1,5 +1,4 @@
 pub mod Accepted
-pub mod Begun
 pub mod LogsBeside
 pub mod Forms
 pub mod Refused

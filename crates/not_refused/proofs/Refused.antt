@@ -17,17 +17,17 @@ use Rattle.tla_modules.specs.Paths.{IsPath}
 use Rattle.tla_modules.specs.Refusals.{IsUnread, module_limit}
 use Rattle.tla_terms.specs.declared.spec.Spec.{Spec}
 use Rattle.tla_levels.specs.Resolved.{Resolved}
+use Rattle.tla_levels.specs.declared.fault.ResolveFault.{ResolveFault}
 use Rattle.spec_laws.specs.IsSpec.{IsSpec}
 use Rattle.one_outcome.specs.Outcome.{AreAlike}
 use Rattle.one_program.specs.Laws.{FlatteningMayStop, NoConfigurationRefused, NothingRepeats}
 use Rattle.run_words.specs.declared.job.Job.{Job}
 use Rattle.run_reading.specs.Texts.{HasText, LogsRead, bytes_left, config_limit}
-use Rattle.run_reading.specs.Reaches.{IsNext, Reaches, Stage, config_next, loaded, log_next, logged, module_next, resolved}
+use Rattle.run_reading.specs.Reaches.{IsNext, Reaches, Stage, config_next, configured, loaded, log_next, logged, module_next, resolved}
 use Rattle.run_reading.specs.Refusals.{IsOfText, IsRefusal, Rejects, in_a_log, in_a_module, in_all_modules, in_forms, in_names, in_the_configuration, is_missing, is_refused, is_too_long}
-use Rattle.one_reading.proofs.OneReading.{Parts}
+use Rattle.one_reading.proofs.OneReading.{Given, Parts, begun_same, configured_same, form_is_one, in_order, program_of, resolved_there, same_program}
 use Rattle.one_reading.proofs.SameLogs.{one_text}
-use Rattle.one_reading.proofs.Stages.{logged_from, none_is_some, resolved_by, some_is}
-use Rattle.not_refused.proofs.Begun.{Given, IsConfigured, configured_so, names_accepted, program_of, programs_same, spec_in_order, specs_alike}
+use Rattle.one_reading.proofs.Stages.{LoadedBy, configured_by, loaded_by, logged_from, none_is_some, resolved_by, some_is}
 use Rattle.not_refused.proofs.Forms.{FormsKnown, forms_accepted}
 use Rattle.not_refused.proofs.LogsBeside.{log_accepted, log_there, whole_forms}
 use Rattle.not_refused.proofs.Sought.{flattening_so}
@@ -102,41 +102,51 @@ module _ (known : Known) (files : List File) (job : Job) where
       let here : Reads (length p.files) name a.1 (Ok c) = subst (λ (x : List ℕ). Reads (length p.files) x a.1 (Ok c)) named a.4 in
       known.configuration (length p.files) name text c kind at (subst (λ (x : List ℕ). Reads (length p.files) name x (Ok c)) texts here) reads
 
+  -- ---- names
+
+  names_accepted : (p q : Program) (c d : Config) (s : Spec) (fault : ResolveFault) → Reaches (Some files) job (resolved p c s) → Reaches (Some files) job (configured q d)
+      → Resolved q d job.silent (Err fault) → ⊥
+  names_accepted p q c d s fault a reaches h =
+      let by = resolved_by (Some files) job p c s a in
+      let same = configured_same known.parts files job p q c d by.0 reaches in
+      let there : Resolved p c job.silent (Err fault) = resolved_there known.parts files job p q c d (Err fault) same h in
+      known.parts.outcome p c job.silent (form_is_one known.parts files job p c by.0) (Ok s) (Err fault) by.1 there
+
   -- ---- beside an accepted reading
 
   module _ (p : Program) (c : Config) (s : Spec) (all : LogsRead) (accepted : Reaches (Some files) job (logged p c s all [])) where
     from : Reaches (Some files) job (resolved p c s)
     from = logged_from (Some files) job p c s all [] accepted
 
-    is_configured : IsConfigured known.parts files job p c
-    is_configured = configured_so known.parts files job p c (resolved_by (Some files) job p c s from).0
+    is_configured : Reaches (Some files) job (loaded p) × Given known.parts files job p c
+    is_configured = configured_by (Some files) job p c (resolved_by (Some files) job p c s from).0
 
-    is_resolved : Resolved p c job.silent (Ok s)
-    is_resolved = (resolved_by (Some files) job p c s from).1
+    is_loaded : LoadedBy (Some files) job p
+    is_loaded = loaded_by (Some files) job p is_configured.0
 
-    in_order : IsSpec s
-    in_order = spec_in_order known.parts files job p c s from
+    is_in_order : IsSpec s
+    is_in_order = in_order known.parts files job p c s from
 
     pub alike_to : (q : Program) (d : Config) (t : Spec) → Reaches (Some files) job (resolved q d t) → AreAlike s t
-    alike_to q d t reaches = specs_alike known.parts files job p q c d s t is_configured is_resolved reaches
+    alike_to q d t reaches = (begun_same known.parts files job p q c d s t from reaches).specs
 
     is_program : (folder name : List ℕ) → IsPath job.module folder name → IsProgram (Some files) folder name p
-    is_program folder name path = program_of known.parts files job folder name p path is_configured.program
+    is_program folder name path = program_of known.parts files job folder name p path is_loaded
 
     one_more_program : (q : Program) → Reaches (Some files) job (loaded q) → p ≡ q
-    one_more_program q reaches = programs_same known.parts files job p q is_configured.program reaches
+    one_more_program q reaches = same_program known.parts files job p q is_loaded (loaded_by (Some files) job q reaches)
 
     log_text : (q : Program) (d : Config) (t : Spec) (read : LogsRead) (name : List ℕ) (names : List (List ℕ)) → Reaches (Some files) job (logged q d t read (name ∷ names))
         → (text : List ℕ) × HasText (Some files) name (bytes_left read) text
     log_text q d t read name names reaches =
         let other : Reaches (Some files) job (resolved q d t) = logged_from (Some files) job q d t read (name ∷ names) reaches in
-        log_there files job known.parts.files s t in_order (spec_in_order known.parts files job q d t other) (alike_to q d t other) p q c d all read name names accepted reaches
+        log_there files job known.parts.files s t is_in_order (in_order known.parts files job q d t other) (alike_to q d t other) p q c d all read name names accepted reaches
 
     -- what is sought is there
     pub sought_there : (stage : Stage) (name : List ℕ) (limit : ℕ) → Reaches (Some files) job stage → IsNext (Some files) job stage name limit → IsThere files name limit
     sought_there _ _ _ reaches (module_next folder name modules file path flat) = module_there folder name (is_program folder name path).all modules file (is_program folder name path).flattened flat
     sought_there _ _ _ reaches (config_next q name some) =
-        let has = configuration_there p c name is_configured.given some in
+        let has = configuration_there p c name is_configured.1 some in
         there_of files name config_limit has.0 has.1
     sought_there _ _ _ reaches (log_next q d t read name names) = let has = log_text q d t read name names reaches in there_of files name (bytes_left read) has.0 has.1
 
@@ -147,14 +157,14 @@ module _ (known : Known) (files : List File) (job : Job) where
     text_not_refused _ _ reaches (in_all_modules folder name every why path flat twice) = known.repeats files folder name p every why (is_program folder name path) flat twice
     text_not_refused _ _ reaches (in_the_configuration q name text kind at some has reads) =
         let same : p ≡ q = one_more_program q reaches in
-        configuration_accepted p c name text kind at is_configured.given some has (subst (λ (x : Program). Reads (length x.files) name text (Err (kind, at))) (sym same) reads)
-    text_not_refused _ _ reaches (in_names q d fault is) = names_accepted known.parts files job p q c d s fault is_configured is_resolved reaches is
+        configuration_accepted p c name text kind at is_configured.1 some has (subst (λ (x : Program). Reads (length x.files) name text (Err (kind, at))) (sym same) reads)
+    text_not_refused _ _ reaches (in_names q d fault is) = names_accepted p q c d s fault from reaches is
     text_not_refused _ _ reaches (in_forms q d t fault is) =
-        forms_accepted known.forms s t in_order (spec_in_order known.parts files job q d t reaches) (alike_to q d t reaches) fault
+        forms_accepted known.forms s t is_in_order (in_order known.parts files job q d t reaches) (alike_to q d t reaches) fault
         (whole_forms (Some files) job p c s all [] accepted) is
     text_not_refused _ _ reaches (in_a_log q d t read name names text refusal log says) =
         let other : Reaches (Some files) job (resolved q d t) = logged_from (Some files) job q d t read (name ∷ names) reaches in
-        log_accepted files job known.parts.files s t in_order (spec_in_order known.parts files job q d t other) (alike_to q d t other) p q c d all read name names text refusal accepted
+        log_accepted files job known.parts.files s t is_in_order (in_order known.parts files job q d t other) (alike_to q d t other) p q c d all read name names text refusal accepted
         reaches log says
 
     pub refused_never : (before now : ℕ) (report : List ℕ) → IsRefusal (Some files) before now job report → ⊥

@@ -1,7 +1,7 @@
 ghost use Rattle.not_refused.specs.Laws.{GivenNotRefused, ReadNotRefused};
 
 use action_forms::form_laws;
-use alike_actions::action_laws;
+use alike_actions::alike_action_laws;
 use alike_logs::alike_logs_laws;
 use load_laws::{configuration_laws, load_laws};
 use one_outcome::outcome_laws;
@@ -22,7 +22,7 @@ pub fn not_refused_laws()
     configuration_laws();
     resolved_laws();
     outcome_laws();
-    action_laws();
+    alike_action_laws();
     form_laws();
     sound_law();
     operator_law();

@@ -1,6 +1,5 @@
 -- Laid tokens that spell a module, none of which stands too deep, are not refused.
 use Rattle.std.proofs.Common.{◌≡◌, ◌≢◌, ◌∙◌, List, [], ◌∷◌, ◌++◌, append_assoc, inl, inr, refl, sym, subst}
-use Rattle.trace_base.specs.declared.place.Place.{Place}
 use Rattle.tla_ast.specs.declared.laid.Laid.{Laid}
 use Rattle.tla_ast.specs.declared.module.Module.{Module}
 use Rattle.tla_ast.specs.declared.module.Unit.{Unit as ModuleUnit}

@@ -5,9 +5,11 @@ use Rattle.tla_ast.specs.declared.config.Config.{Config}
 use Rattle.tla_ast.specs.declared.module.Program.{Program}
 use Rattle.tla_config.specs.Reads.{Reads}
 use Rattle.tla_modules.specs.Loads.{IsProgram}
+use Rattle.tla_modules.specs.Paths.{IsPath}
 use Rattle.tla_core.specs.declared.state.Shown.{Shown}
 use Rattle.tla_terms.specs.declared.spec.Spec.{Spec}
 use Rattle.tla_levels.specs.Resolved.{IsOneForm, Resolved}
+use Rattle.tla_levels.specs.declared.fault.ResolveFault.{ResolveFault}
 use Rattle.load_laws.specs.Loaded.{ConfigurationsHaveOneForm, LoadedAreWellFormed, PlainHasOneForm}
 use Rattle.resolved_laws.specs.InOrder.{ResolvedAreInOrder}
 use Rattle.spec_laws.specs.IsSpec.{IsSpec}
@@ -20,7 +22,7 @@ use Rattle.state_files.specs.declared.refusal.StateRefusal.{StateRefusal}
 use Rattle.alike_logs.specs.Laws.{FilesSayAlike, LogsAreAlike}
 use Rattle.run_words.specs.declared.job.Job.{Job}
 use Rattle.run_reading.specs.Texts.{config_limit}
-use Rattle.run_reading.specs.Reaches.{AllRead, Reaches, resolved}
+use Rattle.run_reading.specs.Reaches.{AllRead, Reaches, configured, resolved}
 use Rattle.run_reading.specs.Given.{AllGiven, states_limit}
 use Rattle.one_reading.specs.Laws.{AreSame, GivenIsOne, ReadingIsOne}
 use Rattle.one_program.specs.Laws.{OneConfiguration, OnePath, OneProgram}
@@ -48,12 +50,17 @@ module _ (known : Parts) (files : List File) (job : Job) where
   abbrev Comes : Program → Config → Spec → Type 0
   Comes p c s = Reaches (Some files) job (resolved p c s)
 
+  -- a program is that of every folder and name that the path has
+  pub program_of : (folder name : List ℕ) (p : Program) → IsPath job.module folder name → LoadedBy (Some files) job p → IsProgram (Some files) folder name p
+  program_of folder name p path by =
+      let same = known.path job.module by.0 folder by.1 name by.2 path in
+      subst (λ (x : List ℕ). IsProgram (Some files) folder x p) same.1 (subst (λ (x : List ℕ). IsProgram (Some files) x by.1 p) same.0 by.3)
+
   pub same_program : (p q : Program) → LoadedBy (Some files) job p → LoadedBy (Some files) job q → p ≡ q
-  same_program p q a b =
-      let same = known.path job.module a.0 b.0 a.1 b.1 a.2 b.2 in
-      let folder : IsProgram (Some files) a.0 b.1 q = subst (λ (x : List ℕ). IsProgram (Some files) x b.1 q) (sym same.0) b.3 in
-      let there : IsProgram (Some files) a.0 a.1 q = subst (λ (x : List ℕ). IsProgram (Some files) a.0 x q) (sym same.1) folder in
-      known.program files a.0 a.1 p q a.3 there
+  same_program p q a b = known.program files b.0 b.1 p q (program_of b.0 b.1 p b.2 a) b.3
+
+  abbrev pub Given : Program → Config → Type 0
+  Given p c = WithoutText (Some files) job c ⊎ WithText (Some files) job p c
 
   by_texts : (p : Program) (c d : Config) → WithText (Some files) job p c → WithText (Some files) job p d → c ≡ d
   by_texts p c d a b =
@@ -63,13 +70,13 @@ module _ (known : Parts) (files : List File) (job : Job) where
       let there : Reads (length p.files) a.0 a.1 (Ok d) = subst (λ (x : List ℕ). Reads (length p.files) a.0 x (Ok d)) (sym texts) name in
       known.configuration (length p.files) a.0 a.1 c d a.4 there
 
-  pub same_configuration : (p : Program) (c d : Config) → WithoutText (Some files) job c ⊎ WithText (Some files) job p c → WithoutText (Some files) job d ⊎ WithText (Some files) job p d → c ≡ d
+  same_configuration : (p : Program) (c d : Config) → Given p c → Given p d → c ≡ d
   same_configuration p c d (inl a) (inl b) = a.1 ∙ sym b.1
   same_configuration p c d (inl a) (inr b) = absurd (none_is_some b.0 (sym a.0 ∙ b.2))
   same_configuration p c d (inr a) (inl b) = absurd (none_is_some a.0 (sym b.0 ∙ a.2))
   same_configuration p c d (inr a) (inr b) = by_texts p c d a b
 
-  pub one_form : (p : Program) (c : Config) → WithoutText (Some files) job c ⊎ WithText (Some files) job p c → IsOneForm c
+  one_form : (p : Program) (c : Config) → Given p c → IsOneForm c
   one_form p c (inl a) = subst (λ (x : Config). IsOneForm x) (sym a.1) known.plain_form
   one_form p c (inr a) = known.form (length p.files) a.0 a.1 c a.4
 
@@ -78,6 +85,27 @@ module _ (known : Parts) (files : List File) (job : Job) where
       let r = resolved_by (Some files) job p c s reaches in
       let by = loaded_by (Some files) job p (configured_by (Some files) job p c r.0).0 in
       known.in_order p c job.silent s (known.well_formed (Some files) 0 0 job.module p (by.0, by.1, by.2, by.3)) r.1
+
+  -- the programs and the configurations
+  pub record AreConfigured (p q : Program) (c d : Config) : Type 0 where
+    pub programs : p ≡ q
+    pub configurations : c ≡ d
+
+  pub configured_same : (p q : Program) (c d : Config) → Reaches (Some files) job (configured p c) → Reaches (Some files) job (configured q d) → AreConfigured p q c d
+  configured_same p q c d a b =
+      let left = configured_by (Some files) job p c a in
+      let right = configured_by (Some files) job q d b in
+      let programs : p ≡ q = same_program p q (loaded_by (Some files) job p left.0) (loaded_by (Some files) job q right.0) in
+      let given : Given p d = subst (λ (x : Program). Given x d) (sym programs) right.1 in
+      record { programs = programs; configurations = same_configuration p c d left.1 given }
+
+  -- what is resolved of the same
+  pub resolved_there : (p q : Program) (c d : Config) (r : Result Spec ResolveFault) → AreConfigured p q c d → Resolved q d job.silent r → Resolved p c job.silent r
+  resolved_there p q c d r same h =
+      subst (λ (x : Config). Resolved p x job.silent r) (sym same.configurations) (subst (λ (x : Program). Resolved x d job.silent r) (sym same.programs) h)
+
+  pub form_is_one : (p : Program) (c : Config) → Reaches (Some files) job (configured p c) → IsOneForm c
+  form_is_one p c reaches = one_form p c (configured_by (Some files) job p c reaches).1
 
   -- the programs, the configurations and the specifications
   pub record AreBegun (p q : Program) (c d : Config) (s t : Spec) : Type 0 where
@@ -89,15 +117,13 @@ module _ (known : Parts) (files : List File) (job : Job) where
   begun_same p q c d s t a b =
       let first = resolved_by (Some files) job p c s a in
       let second = resolved_by (Some files) job q d t b in
-      let left = configured_by (Some files) job p c first.0 in
-      let right = configured_by (Some files) job q d second.0 in
-      let programs : p ≡ q = same_program p q (loaded_by (Some files) job p left.0) (loaded_by (Some files) job q right.0) in
-      let given : WithoutText (Some files) job d ⊎ WithText (Some files) job p d =
-      subst (λ (x : Program). WithoutText (Some files) job d ⊎ WithText (Some files) job x d) (sym programs) right.1 in
-      let configurations : c ≡ d = same_configuration p c d left.1 given in
-      let program : Resolved p d job.silent (Ok t) = subst (λ (x : Program). Resolved x d job.silent (Ok t)) (sym programs) second.1 in
-      let there : Resolved p c job.silent (Ok t) = subst (λ (x : Config). Resolved p x job.silent (Ok t)) (sym configurations) program in
-      record { programs = programs; configurations = configurations; specs = known.outcome p c job.silent (one_form p c left.1) (Ok s) (Ok t) first.1 there }
+      let same : AreConfigured p q c d = configured_same p q c d first.0 second.0 in
+      let there : Resolved p c job.silent (Ok t) = resolved_there p q c d (Ok t) same second.1 in
+      record {
+        programs = same.programs;
+        configurations = same.configurations;
+        specs = known.outcome p c job.silent (form_is_one p c first.0) (Ok s) (Ok t) first.1 there;
+      }
 
   same_reading : (p q : Program) (c d : Config) (s t : Spec) (log other : Log) → AllRead (Some files) job p c s log → AllRead (Some files) job q d t other → AreSame p q c d s t log other
   same_reading p q c d s t log other a b =

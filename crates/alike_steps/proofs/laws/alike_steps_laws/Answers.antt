@@ -4,5 +4,5 @@ use Rattle.alike_steps.proofs.laws.alike_steps_laws.Goals as goal
 
 pub returns : goal.returns
 returns c =
-    let asks : AskAlike = ask_alike (actions c.action_laws.ensures.holds c.action_laws.ensures.fails c.action_laws.ensures.fixes) c.outcome_laws.ensures.evaluates in
+    let asks : AskAlike = ask_alike (actions c.alike_action_laws.ensures.holds c.alike_action_laws.ensures.fails c.alike_action_laws.ensures.fixes) c.alike_outcome_laws.ensures.evaluates in
     record { asks = asks; answers = answers_alike asks; verdicts = verdicts_alike asks }

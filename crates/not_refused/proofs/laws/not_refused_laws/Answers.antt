@@ -18,8 +18,8 @@ returns-clause-read c = read_not_refused (record {
   };
   forms = record {
     one = c.form_laws.ensures.one;
-    outcomes = c.action_laws.ensures.outcomes;
-    whole = c.action_laws.ensures.whole;
+    outcomes = c.alike_action_laws.ensures.outcomes;
+    whole = c.alike_action_laws.ensures.whole;
     sound = c.sound_law.ensures;
     sound_operators = c.operator_law.ensures;
   };
@@ -45,8 +45,8 @@ returns-clause-given c = given_not_refused (record {
   };
   forms = record {
     one = c.form_laws.ensures.one;
-    outcomes = c.action_laws.ensures.outcomes;
-    whole = c.action_laws.ensures.whole;
+    outcomes = c.alike_action_laws.ensures.outcomes;
+    whole = c.alike_action_laws.ensures.whole;
     sound = c.sound_law.ensures;
     sound_operators = c.operator_law.ensures;
   };

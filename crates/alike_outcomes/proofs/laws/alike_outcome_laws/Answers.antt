@@ -1,6 +1,6 @@
 use Rattle.alike_outcomes.proofs.Outcomes.{evaluates_alike, describes_alike}
 use Rattle.alike_outcomes.proofs.Behind.{behind_alike}
-use Rattle.alike_outcomes.proofs.laws.outcome_laws.Goals as goal
+use Rattle.alike_outcomes.proofs.laws.alike_outcome_laws.Goals as goal
 
 pub returns-clause-evaluates : goal.returns-clause-evaluates
 returns-clause-evaluates c = evaluates_alike
