@@ -1,4 +1,4 @@
-ghost use Rattle.std.specs.Prelude.{◌≡◌, map};
+ghost use Rattle.std.specs.Prelude.{◌≡◌, [], map};
 ghost use Rattle.tla_eval.specs.Contexts.{within};
 ghost use Rattle.eval_parts.specs.Scenes.{with_slots};
 ghost use Rattle.action_rows.specs.Rows.{setting as stage_setting};
@@ -41,7 +41,9 @@ pub fn narrowed<'a>(pair: Pair<'a>, kept: usize) -> Pair<'a>
 
 /// The stage on which the forms of its terms are told: nothing is seen beside the two states.
 pub fn stage_of(pair: Pair<'_>) -> Stage<'_>
-    ensures { stage_setting result ≡ setting pair.entry }
+    ensures setting { stage_setting result ≡ setting pair.entry }
+    ensures state { result.state.now ≡ pair.entry.scene.state.now }
+    ensures sees { result.sees.now ≡ [] }
 {
     Stage {
         which: pair.which,

@@ -11,8 +11,18 @@ use tla_terms::Term;
 use tla_values::Value;
 use trace_base::Place;
 
-/// Adds places at the end.
+/// Adds places at the end. The first ones are taken as they come.
 pub fn append(found: &mut Vec<Partial>, more: Vec<Partial>) -> Result<(), AllocError>
+    ensures { OnOk result (found.new.items ≡ found.old.items ++ more.items) }
+{
+    if found.is_empty() {
+        *found = more;
+        return Ok(());
+    }
+    push_each(found, more)
+}
+
+fn push_each(found: &mut Vec<Partial>, more: Vec<Partial>) -> Result<(), AllocError>
     ensures { OnOk result (found.new.items ≡ found.old.items ++ more.items) }
 {
     for places in more {

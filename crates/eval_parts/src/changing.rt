@@ -32,7 +32,7 @@ pub fn applied(function: &Value, key: &Value, at: Place, base: Place) -> Result<
     ensures { Tells result (Operated (AppliesAt function.now key.now) (place_in at (base ∷ []))) }
 {
     match apply_at(function, key) {
-        Ok(value) => Ok(value),
+        Ok(value) => Ok(value.copy()?),
         Err(OpFault::Refused(kind, operand)) => {
             let place = operand_place(at, base, operand);
             Err(EvalFault::Refused(kind, place))
@@ -52,11 +52,11 @@ fn operand_place(at: Place, base: Place, operand: u8) -> Place
 }
 
 /// The name of a field, as a key.
-pub fn text_key(alloc: Global, name: &Text) -> Result<Value, AllocError>
+pub fn text_key(name: &Text) -> Result<Value, AllocError>
     ensures { IfOk result (λ v. v ≡ string name.now) }
 {
     let name = name.copy()?;
-    Value::string(alloc, name)
+    Ok(Value::string(name))
 }
 
 /// What stands in a function at a key, or none where the key is outside its domain. What is no function is refused at the place of the term.

@@ -66,7 +66,7 @@ fn sound_fields(alloc: Global, parts: Vec<Part>) -> Result<DescribedFields, Eval
 {
     let mut fields = DescribedFields::new(alloc);
     for part in parts {
-        match sound_field(alloc, part) {
+        match sound_field(part) {
             Ok(field) => fields.push(field)?,
             Err(fault) => return Err(fault),
         }
@@ -75,7 +75,7 @@ fn sound_fields(alloc: Global, parts: Vec<Part>) -> Result<DescribedFields, Eval
 }
 
 /// A field whose part is a set.
-fn sound_field(alloc: Global, part: Part) -> Result<DescribedField, EvalFault>
+fn sound_field(part: Part) -> Result<DescribedField, EvalFault>
     requires { IsReady part.set }
     ensures field { IfOk result (λ f. SetOfField (part_item part) (Ok (field_item f))) }
     ensures sound { IfOk result (λ f. IsString f.name × IsSound f.part) }
@@ -83,16 +83,18 @@ fn sound_field(alloc: Global, part: Part) -> Result<DescribedField, EvalFault>
 {
     let Part { name, at, set } = part;
     match set_at(set, at) {
-        Ok(set) => Ok(named_field(alloc, name, set)?),
+        Ok(set) => Ok(named_field(name, set)),
         Err(fault) => Err(fault),
     }
 }
 
-fn named_field(alloc: Global, name: Text, set: Described) -> Result<DescribedField, AllocError>
-    ensures item { IfOk result (λ f. field_item f ≡ (string name, set)) }
-    ensures name { IfOk result (λ f. f.name ≡ string name) }
-    ensures part { IfOk result (λ f. f.part ≡ set) }
+fn named_field(name: Text, set: Described) -> DescribedField
+    ensures item { field_item result ≡ (string name, set) }
+    ensures name { result.name ≡ string name }
+    ensures part { result.part ≡ set }
 {
-    let name = Value::string(alloc, name)?;
-    Ok(DescribedField { name, part: set })
+    DescribedField {
+        name: Value::string(name),
+        part: set,
+    }
 }

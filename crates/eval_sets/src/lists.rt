@@ -7,7 +7,6 @@ ghost use Rattle.tla_values.specs.SetOperations.{GivesSet};
 ghost use Rattle.tla_values.specs.Sets.{IsSet};
 ghost use Rattle.tla_values.specs.declared.fault.EvalKind.TheVariants.{NotFinite};
 ghost use Rattle.tla_values.specs.declared.fault.OpFault.TheVariants.{NoMemory, Refused};
-ghost use Rattle.value_ops.specs.Refusals.{refusal_of};
 ghost use Rattle.eval_sets.specs.DescribedSets.{Booleans, Functions, Inter, Interval, Listed, Minus, PowerOf, Product, Records, Union};
 ghost use Rattle.eval_sets.specs.ListedParts.{AreListings, IsChosen, MayBeRefused, sets_of, text_in, texts_of};
 ghost use Rattle.eval_sets.specs.Listings.{Collects, IsListed, Listing, Lists, ListsAsOne, ListsItsMembers, fields_are_finite, is_finite, parts_are_finite};
@@ -17,12 +16,9 @@ ghost use Rattle.eval_sets.specs.Soundness.{FieldsAreSound, IsSound, IsString, P
 use crate::described::{Described, DescribedNode, Fields, Parts};
 use crate::members::{is_set, member};
 use std::alloc::{AllocError, Global};
-use tla_values::{EvalKind, OpFault, Value, ValueFault};
+use tla_values::{EvalKind, OpFault, Value};
 use trace_base::Text;
 use value_ops::{function_set, interval, powerset, records, tuples, union};
-
-/// In a fault, the number that stands for the whole term in place of an operand.
-const THE_TERM: u8 = 255;
 
 /// How many values a tuple, or fields a record, may have.
 const MAX_MEMBERS: usize = 100_000;
@@ -284,7 +280,7 @@ fn all_tuples(alloc: Global, sets: &[Value]) -> Result<Value, OpFault>
     ensures { GivesSet (InProduct sets.now) result }
 {
     if sets.len() > MAX_MEMBERS {
-        return set_from(alloc, Vec::new(alloc));
+        return set_from(Vec::new(alloc));
     }
     tuples(alloc, sets)
 }
@@ -297,7 +293,7 @@ fn all_records(alloc: Global, fields: &Fields, sets: &[Value]) -> Result<Value, 
     ensures { GivesSet (InRecordSet (texts_of fields.now) sets.now) result }
 {
     if sets.len() > MAX_MEMBERS {
-        return set_from(alloc, Vec::new(alloc));
+        return set_from(Vec::new(alloc));
     }
     let names = texts(alloc, fields)?;
     records(alloc, &names, sets)
@@ -337,7 +333,7 @@ fn chosen(alloc: Global, all: &Value, right: &Described, inside: bool) -> Result
     ensures { GivesSet (IsChosen all.now right.now inside) result }
 {
     let kept = choose(alloc, all, right, inside)?;
-    set_from(alloc, kept)
+    set_from(kept)
 }
 
 fn choose(
@@ -384,7 +380,7 @@ fn truth_values(alloc: Global) -> Result<Value, OpFault>
     ensures { Collects Booleans result }
 {
     let both = false_and_true(alloc)?;
-    set_from(alloc, both)
+    set_from(both)
 }
 
 fn false_and_true(alloc: Global) -> Result<Vec<Value>, AllocError>
@@ -413,22 +409,11 @@ fn same_set(all: &Value) -> Result<Value, OpFault>
 }
 
 /// The set of these values.
-fn set_from(alloc: Global, members: Vec<Value>) -> Result<Value, OpFault>
+fn set_from(members: Vec<Value>) -> Result<Value, OpFault>
     ensures { GivesSet (Contains members.items) result }
 {
-    match Value::make_set(alloc, members) {
+    match Value::make_set(members) {
         Ok(set) => Ok(set),
-        Err(fault) => Err(refusal(fault)),
-    }
-}
-
-/// What a listing is refused for where its value can not be made.
-fn refusal(fault: ValueFault) -> OpFault
-    ensures { result ≡ refusal_of fault }
-{
-    match fault {
-        ValueFault::TooLarge => OpFault::Refused(EvalKind::TooLarge, THE_TERM),
-        ValueFault::TooDeep => OpFault::Refused(EvalKind::TooDeep, THE_TERM),
-        ValueFault::KeyTwice | ValueFault::NoMemory => OpFault::NoMemory,
+        Err(fault) => Err(OpFault::from(fault)),
     }
 }

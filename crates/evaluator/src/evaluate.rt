@@ -103,7 +103,7 @@ fn eval_node(
         TermNode::Any(items) => truth_value(is_some_true(alloc, scene, depth, items)),
         TermNode::SetOf(items) => {
             let values = eval_each(alloc, scene, depth, items)?;
-            set_of(alloc, at, values)
+            set_of(at, values)
         }
         TermNode::Filter(set, test) => eval_filter(alloc, scene, depth, at, set, test),
         TermNode::Choose(set, test) => eval_choose(alloc, scene, depth, at, set, test),
@@ -938,7 +938,7 @@ fn filtered(
     ensures { Tells result (Then (Passing (λ v. TruthOf (Evaluates (table scene.entry) depth) (bind (context scene.entry) (v ∷ [])) test.now) (items_of all.now)) (SetOfAll at)) }
 {
     match passing(alloc, scene, depth, test, all) {
-        Ok(values) => set_of(alloc, at, values),
+        Ok(values) => set_of(at, values),
         Err(fault) => Err(fault),
     }
 }
@@ -1521,18 +1521,17 @@ fn eval_field(
     ensures { Tells result (FieldEvaluates (Evaluates (table scene.entry) depth) (context scene.entry) (field_item field.now)) }
 {
     match eval(alloc, scene, depth, &field.value) {
-        Ok(value) => Ok(named_pair(alloc, field, value)?),
+        Ok(value) => Ok(named_pair(field, value)?),
         Err(fault) => Err(fault),
     }
 }
 
 /// The name of a field as a value, beside the value of the field.
-fn named_pair(alloc: Global, field: &Field, value: Value) -> Result<(Value, Value), AllocError>
+fn named_pair(field: &Field, value: Value) -> Result<(Value, Value), AllocError>
     ensures { IfOk result (λ pair. pair ≡ (string field.now.name, value)) }
 {
     let name = field.name.copy()?;
-    let key = Value::string(alloc, name)?;
-    Ok((key, value))
+    Ok((Value::string(name), value))
 }
 
 /// `<<A>>_v`: the action, and then that `v` changed.
@@ -2226,7 +2225,7 @@ fn mapped(
 {
     let lists = member_lists(alloc, sets)?;
     match values_for_each(alloc, scene, depth, &lists, term) {
-        Ok(values) => set_of(alloc, at, values),
+        Ok(values) => set_of(at, values),
         Err(fault) => Err(fault),
     }
 }
@@ -2582,7 +2581,7 @@ fn step_key(
 {
     match step {
         Step::Index(items) => eval_key(alloc, scene, depth, at, items),
-        Step::Field(name) => Ok(text_key(alloc, name)?),
+        Step::Field(name) => Ok(text_key(name)?),
         Step::Prime => unreachable!(),
     }
 }

@@ -8,11 +8,11 @@ use tla_values::{Value, ValueFault};
 use trace_base::Text;
 
 /// The set of these values, or none where it is past the limits.
-pub fn make_set(alloc: Global, values: Vec<Value>) -> Result<Option<Value>, AllocError>
+pub fn make_set(values: Vec<Value>) -> Result<Option<Value>, AllocError>
     ensures { IfOk result (Finds (IsSetOf values.items)) }
 {
     Value::laws();
-    match Value::make_set(alloc, values) {
+    match Value::make_set(values) {
         Ok(value) => Ok(Some(value)),
         Err(ValueFault::NoMemory) => Err(AllocError),
         Err(ValueFault::KeyTwice) => Ok(None),

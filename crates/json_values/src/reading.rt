@@ -49,8 +49,7 @@ fn read_null(alloc: Global) -> Result<Option<Value>, AllocError>
     ensures { IfOk result (Finds (λ v. v ≡ model (codes "null"))) }
 {
     let name = Text::from_text(alloc, "null")?;
-    let value = Value::model(alloc, name)?;
-    Ok(Some(value))
+    Ok(Some(Value::model(name)))
 }
 
 fn read_number(number: &Number) -> Option<Value>
@@ -63,8 +62,7 @@ fn read_text(alloc: Global, text: &str) -> Result<Option<Value>, AllocError>
     ensures { IfOk result (Finds (λ v. v ≡ string text.now)) }
 {
     let text = Text::from_text(alloc, text)?;
-    let value = Value::string(alloc, text)?;
-    Ok(Some(value))
+    Ok(Some(Value::string(text)))
 }
 
 #[cycle(read)]
@@ -132,7 +130,7 @@ fn read_set(alloc: Global, content: &Json) -> Result<Option<Value>, AllocError>
 {
     match content {
         Json::Array(items) => match read_items(alloc, items)? {
-            Some(values) => make_set(alloc, values),
+            Some(values) => make_set(values),
             None => Ok(None),
         },
         _ => Ok(None),
@@ -158,8 +156,7 @@ fn read_model(alloc: Global, content: &Json) -> Result<Option<Value>, AllocError
     match content {
         Json::String(text) => {
             let name = Text::from_text(alloc, text.as_str())?;
-            let value = Value::model(alloc, name)?;
-            Ok(Some(value))
+            Ok(Some(Value::model(name)))
         }
         _ => Ok(None),
     }

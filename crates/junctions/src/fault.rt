@@ -2,14 +2,17 @@ ghost use Rattle.std.specs.Prelude.{◌≡◌};
 ghost use Rattle.junctions.specs.declared.fault.LayFault.TheVariants.{NoMemory};
 
 use std::alloc::{AllocError, AllocFailed};
+use thiserror::Error;
 use trace_base::Place;
 
 /// Why tokens have no junction lists marked.
-#[derive(Debug, Drop)]
+#[derive(Debug, Drop, Error)]
 pub enum LayFault {
     /// The token of this place stands at or left of the column of a list in which a bracket, IF, LET
     /// or binder is still open.
+    #[error("left of an open list at {0}")]
     LeftOfList(Place),
+    #[error("out of memory")]
     NoMemory,
 }
 

@@ -13,11 +13,11 @@ use tla_values::{Value, ValueFault};
 use trace_base::NoMemory;
 
 /// The set of these values, or none where it is past the limits of values.
-fn set_of(alloc: Global, values: Vec<Value>) -> Result<Option<Value>, NoMemory>
+fn set_of(values: Vec<Value>) -> Result<Option<Value>, NoMemory>
     ensures { IfOk result (Finds (IsSetOf values.items)) }
 {
     Value::laws();
-    match Value::make_set(alloc, values) {
+    match Value::make_set(values) {
         Ok(value) => Ok(Some(value)),
         Err(ValueFault::NoMemory) => Err(AllocError),
         Err(ValueFault::KeyTwice) => Ok(None),
@@ -35,11 +35,11 @@ pub fn literal_value(alloc: Global, literal: &Literal) -> Result<Option<Value>, 
 {
     match literal {
         Literal::Number(number) => Ok(Some(Value::int(*number))),
-        Literal::Str(text) => Ok(Some(Value::string(alloc, text.copy()?)?)),
+        Literal::Str(text) => Ok(Some(Value::string(text.copy()?))),
         Literal::Truth(truth) => Ok(Some(Value::boolean(*truth))),
-        Literal::Model(name) => Ok(Some(Value::model(alloc, name.copy()?)?)),
+        Literal::Model(name) => Ok(Some(Value::model(name.copy()?))),
         Literal::Set(members) => match member_values(alloc, members)? {
-            Some(values) => set_of(alloc, values),
+            Some(values) => set_of(values),
             None => Ok(None),
         },
     }

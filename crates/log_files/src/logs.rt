@@ -6,10 +6,12 @@ use crate::placing::log_of;
 use log_lines::{Refusal, SpecNames, line_laws};
 use path_updates::Log;
 use std::alloc::Global;
+use thiserror::Error;
 use trace_base::NoMemory;
 
 /// Which file is refused, from 1, and why.
-#[derive(Clone, Copy, Debug, Drop)]
+#[derive(Clone, Copy, Debug, Drop, Error)]
+#[error("{refusal} of log {file}")]
 pub struct LogRefusal {
     pub file: u32,
     pub refusal: Refusal,

@@ -4,3 +4,4 @@ pub mod Lines
 pub mod Files
 pub mod Laws
 pub mod Walks
+pub mod FaultCodes

@@ -8,6 +8,7 @@ use crate::position::Position;
 use crate::reading::read_line;
 use path_updates::{Line, LineList, Sees};
 use std::alloc::Global;
+use thiserror::Error;
 use trace_base::NoMemory;
 
 /// What the lines of one file say: what is seen at first, where its first line tells of that, and
@@ -19,7 +20,8 @@ pub struct FileLines {
 }
 
 /// Why a file is refused, and at which line of it, from 1.
-#[derive(Clone, Copy, Debug, Drop)]
+#[derive(Clone, Copy, Debug, Drop, Error)]
+#[error("{kind} at line {line}")]
 pub struct Refusal {
     pub kind: LogKind,
     pub line: u32,

@@ -1,7 +1,7 @@
-ghost use Rattle.std.specs.Prelude.{◌≡◌, IfOk, is_some};
+ghost use Rattle.std.specs.Prelude.{◌≡◌, ◌≤◌, IfOk, is_some, length};
 ghost use Rattle.std.specs.List.{list_all};
 ghost use Rattle.serde_json.specs.View.{items_view, view};
-ghost use Rattle.json_values.specs.Reads.{Finds};
+ghost use Rattle.json_values.specs.Reads.{Finds, ReadsEach};
 ghost use Rattle.line_shapes.specs.Parts.{see_of, update_of};
 ghost use Rattle.line_shapes.specs.Seen.{path_seen, see_seen, update_seen};
 ghost use Rattle.log_lines.specs.Values.{EachItem, ItemReads, PathReads, SeeReads, UpdateReads, is_known_see, is_known_update};
@@ -27,7 +27,18 @@ fn read_path<N: SpecNames>(
     ensures { IfOk result (Finds (PathReads (N.setting names.now) (path_seen raw.now))) }
 {
     let variable = names.variable(raw.name, guess).unwrap_or(VarId(0));
-    match read_keys(alloc, raw.keys)? {
+    match raw.keys {
+        [] => Ok(Some(Path::whole(variable))),
+        keys => keyed_path(alloc, variable, keys),
+    }
+}
+
+/// The path of a variable with the values of the keys, or none where one of them is no value.
+fn keyed_path(alloc: Global, variable: VarId, keys: &[Json]) -> Result<Option<Path>, NoMemory>
+    requires { length keys.now ≤ 32 }
+    ensures { IfOk result (Finds (λ path. (path.variable ≡ variable) × ReadsEach (items_view keys.now) path.keys)) }
+{
+    match read_keys(alloc, keys)? {
         Some(keys) => {
             let path = Path::new(alloc, variable, keys)?;
             Ok(Some(path))

@@ -1,7 +1,7 @@
 ghost use Rattle.std.specs.Prelude.{◌≡◌, ◌∷◌, IfOk, []};
 
 use std::alloc::{AllocError, Global};
-use tla_values::{EvalKind, OpFault, Value};
+use tla_values::{EvalKind, OpFault, THE_TERM, Value};
 use trace_base::Text;
 use value_ops::{interval, merge, product, record_set, single};
 
@@ -16,7 +16,7 @@ fn ints(alloc: Global, numbers: &[i64]) -> Result<Vec<Value>, AllocError> {
 /// The set of these integers; where there is no memory for it, an integer.
 fn set(alloc: Global, numbers: &[i64]) -> Value {
     match ints(alloc, numbers) {
-        Ok(members) => Value::make_set(alloc, members).unwrap_or(Value::int(0)),
+        Ok(members) => Value::make_set(members).unwrap_or(Value::int(0)),
         Err(_) => Value::int(0),
     }
 }
@@ -33,10 +33,7 @@ fn pair_of_sets(alloc: Global, a: Value, b: Value) -> Result<Value, OpFault> {
     let mut members = Vec::new(alloc);
     members.push(a).map_err(AllocError::from)?;
     members.push(b).map_err(AllocError::from)?;
-    match Value::make_set(alloc, members) {
-        Ok(set) => Ok(set),
-        Err(_) => Err(OpFault::NoMemory),
-    }
+    Ok(Value::make_set(members)?)
 }
 
 fn refuses(answer: Result<Value, OpFault>, kind: EvalKind, operand: u8) -> bool {
@@ -95,11 +92,15 @@ fn tuples_have_limits(alloc: Global) -> Result<bool, OpFault> {
     let other = interval(alloc, &int(1), &int(250))?;
     let one = set(alloc, &[1]);
     let all = product_of_two(alloc, most, other.copy()?)?;
-    let large = refuses(product_of_two(alloc, more, other), EvalKind::TooLarge, 255);
+    let large = refuses(
+        product_of_two(alloc, more, other),
+        EvalKind::TooLarge,
+        THE_TERM,
+    );
     let deep = refuses(
         product_of_two(alloc, one, nested(alloc, 32)?),
         EvalKind::TooDeep,
-        255,
+        THE_TERM,
     );
     Ok(all.len() == 100_000 && large && deep)
 }
@@ -137,8 +138,8 @@ fn records(alloc: Global, of_b: Value, of_a: Value) -> Result<Value, OpFault> {
 
 /// The record with these values of b and of a.
 fn record(alloc: Global, of_b: i64, of_a: i64) -> Result<Value, OpFault> {
-    let b = Value::string(alloc, Text::from_text(alloc, "b")?)?;
-    let a = Value::string(alloc, Text::from_text(alloc, "a")?)?;
+    let b = Value::string(Text::from_text(alloc, "b")?);
+    let a = Value::string(Text::from_text(alloc, "a")?);
     let b = single(alloc, &b, &int(of_b))?;
     let a = single(alloc, &a, &int(of_a))?;
     merge(alloc, &b, &a)
@@ -169,7 +170,7 @@ fn one(alloc: Global, a: Value) -> Result<Vec<Value>, AllocError>
 
 /// One name over `{1, 2}` has two records.
 fn records_of_one(alloc: Global) -> Result<bool, OpFault> {
-    let a = Value::string(alloc, Text::from_text(alloc, "a")?)?;
+    let a = Value::string(Text::from_text(alloc, "a")?);
     let low = single(alloc, &a, &int(1))?;
     let high = single(alloc, &a, &int(2))?;
     let names = one_name(alloc, "a")?;

@@ -1,5 +1,6 @@
 pub mod Paths
 pub mod PathCodes
+pub mod PathNodes
 pub mod UpdateCodes
 pub mod LineCodes
 pub mod Changes

@@ -1,7 +1,5 @@
 -- For the prover: values and paths, told apart as data of numbers.
-use Rattle.std.specs.Prelude.{ℕ, List, [], Option, None, Some, refl}
-use Rattle.std.specs.declared.alloc.Global.{Global}
-use Rattle.std.specs.declared.boxed.Box.{Box}
+use Rattle.std.specs.Prelude.{ℕ, List, refl}
 use Rattle.std.specs.Coded.{Coded, code_by, coded×, coded_ℕ, coded_list}
 use Rattle.tla_values.specs.Data.{Val}
 use Rattle.tla_values.specs.Tree.{val_code}
@@ -12,8 +10,3 @@ values_code = coded_list val_code
 
 abbrev pub path_code : Coded KeyPath
 path_code = code_by (ℕ × List Val) (coded× coded_ℕ values_code) (λ p. (p.variable.0, p.keys)) (λ c. record { variable = record { 0 = c.0 }; keys = c.1 }) (λ _. refl)
-
--- the keys that are kept apart, where there are any
-abbrev pub keys_at : Option (Box (List Val) Global) → List Val
-keys_at None = []
-keys_at (Some keys) = keys.value

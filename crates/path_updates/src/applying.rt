@@ -191,7 +191,7 @@ fn add_to(alloc: Global, set: &Value, new: &Value) -> Result<Option<Value>, Allo
     ensures { IsSet set.now → IfOk result (Finds (Does (Add new.now) set.now)) }
 {
     let members = members_with(alloc, set.members(), new)?;
-    make_set(alloc, members)
+    make_set(members)
 }
 
 /// A copy of the members with one more behind them.
@@ -220,7 +220,7 @@ fn remove_from(alloc: Global, set: &Value, old: &Value) -> Result<Option<Value>,
     ensures { Member old.now set.now → IfOk result (Finds (Does (Remove old.now) set.now)) }
 {
     let members = members_without(alloc, set.members(), old)?;
-    make_set(alloc, members)
+    make_set(members)
 }
 
 /// A copy of the other members.
@@ -245,11 +245,11 @@ fn push_other(others: &mut Vec<Value>, member: &Value, old: &Value) -> Result<()
 }
 
 /// The set of these values, or none where it is past the limits.
-fn make_set(alloc: Global, members: Vec<Value>) -> Result<Option<Value>, AllocError>
+fn make_set(members: Vec<Value>) -> Result<Option<Value>, AllocError>
     ensures { IfOk result (Finds (IsSetOf members.items)) }
 {
     Value::laws();
-    match Value::make_set(alloc, members) {
+    match Value::make_set(members) {
         Ok(value) => Ok(Some(value)),
         Err(ValueFault::NoMemory) => Err(AllocError),
         Err(ValueFault::KeyTwice) => Ok(None),

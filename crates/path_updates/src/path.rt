@@ -9,25 +9,42 @@ use trace_base::NoMemory;
 /// A variable, and the keys that lead from its value to what stands at the path: at most 32. Most paths are whole variables, which take no room for keys.
 #[derive(Drop)]
 pub struct Path {
-    variable: VarId,
-    keys: Option<Box<Keys>>,
+    node: PathNode,
+}
+
+/// A variable alone, or with the keys behind it. As one enum they take less room than side by side, and each item of each line has them.
+#[derive(Drop)]
+enum PathNode {
+    Whole(VarId),
+    Inner(VarId, Box<Keys>),
 }
 
 impl Model for Path {
     ghost use Rattle.std.specs.Prelude.{◌≤◌, length};
     ghost use Rattle.path_updates.specs.Paths.{KeyPath};
-    ghost use Rattle.path_updates.specs.PathCodes.{keys_at, path_code};
+    ghost use Rattle.path_updates.specs.PathCodes.{path_code};
+    ghost use Rattle.path_updates.specs.PathNodes.{path_at};
 
     ghost Value = { KeyPath };
 
     ghost coded = { path_code };
 
-    ghost view = { λ p. record { variable = p.variable; keys = keys_at p.keys } };
+    ghost view = { λ p. path_at p.node };
 
-    ghost invariant = { λ p. length (keys_at p.keys) ≤ 32 };
+    ghost invariant = { λ p. length (path_at p.node).keys ≤ 32 };
 }
 
 impl Path {
+    /// The path of a whole variable.
+    pub fn whole(variable: VarId) -> Path
+        ensures variable { result.variable ≡ variable }
+        ensures keys { result.keys ≡ [] }
+    {
+        Path {
+            node: PathNode::Whole(variable),
+        }
+    }
+
     /// The path of a variable with these keys, the outermost first.
     pub fn new(alloc: Global, variable: VarId, keys: Keys) -> Result<Path, NoMemory>
         requires { length keys ≤ 32 }
@@ -36,22 +53,21 @@ impl Path {
         ensures whole { keys ≡ [] → IsOk result }
     {
         if keys.items().is_empty() {
-            return Ok(Path {
-                variable,
-                keys: None,
-            });
+            return Ok(Path::whole(variable));
         }
         let keys = Box::new(alloc, keys)?;
         Ok(Path {
-            variable,
-            keys: Some(keys),
+            node: PathNode::Inner(variable, keys),
         })
     }
 
     pub fn variable(&self) -> VarId
         ensures { result ≡ self.now.variable }
     {
-        self.variable
+        match &self.node {
+            PathNode::Whole(variable) => *variable,
+            PathNode::Inner(variable, _) => *variable,
+        }
     }
 
     /// The keys, the outermost first.
@@ -59,9 +75,9 @@ impl Path {
         ensures keys { result.now ≡ self.now.keys }
         ensures few { length result.now ≤ 32 }
     {
-        match &self.keys {
-            Some(keys) => keys.items(),
-            None => &[],
+        match &self.node {
+            PathNode::Whole(_) => &[],
+            PathNode::Inner(_, keys) => keys.items(),
         }
     }
 }

@@ -4,6 +4,7 @@ use Rattle.tla_ast.specs.Spellings.{kind_in, words}
 use Rattle.run_words.specs.Names.{IsModule, IsName}
 use Rattle.run_words.specs.Words.{JobMeets, OptionsMeet}
 use Rattle.run_words.specs.declared.job.Job.{Job}
+use Rattle.run_words.proofs.ModuleLaws.{module_in}
 use Rattle.ring_files.specs.Ring.{ring_job}
 
 ring_named : IsName (codes "Ring")
@@ -11,7 +12,7 @@ unfolding kind_in words
 ring_named = refl
 
 ring_path : IsModule (codes "Ring.tla")
-ring_path = record { name = codes "Ring"; named = ring_named; folder = []; parts = refl; whole = inl refl }
+ring_path = module_in [] (codes "Ring") (inl refl) ring_named
 
 ring_meets : JobMeets ring_job
 ring_meets = record {

@@ -4,15 +4,19 @@ ghost use Rattle.run_stages.specs.Stops.{IsUnreadBy};
 
 use run_texts::{missing_text, too_long_text};
 use std::alloc::{AllocError, AllocFailed, Global};
+use thiserror::Error;
 use trace_base::{NoMemory, ReadFault, Text};
 
 /// Why not all texts of a job are accepted.
-#[derive(Drop)]
+#[derive(Debug, Drop, Error)]
 pub enum Stop {
     /// A file is missing or too long, or a text is refused: the report.
+    #[error("{0}")]
     Refused(String),
     /// A read of the file of this name failed.
+    #[error("a read of {} failed", .0.as_str())]
     Device(Text),
+    #[error("out of memory")]
     NoMemory,
 }
 

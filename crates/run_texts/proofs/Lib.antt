@@ -1,2 +1,3 @@
 mod OrderLaw
 mod SpelledLaw
+mod QuoteLemmas

@@ -3,7 +3,7 @@ use Rattle.std.specs.Prelude.{ℕ, zero, suc, List, [], ◌∷◌, ◌++◌, cod
 use Rattle.trace_base.specs.declared.place.Place.{Place}
 use Rattle.trace_base.specs.declared.place.LineAt.{LineAt}
 use Rattle.tla_values.specs.declared.fault.EvalKind.{EvalKind}
-use Rattle.tla_values.specs.declared.fault.EvalKind.TheVariants as eval
+use Rattle.tla_values.specs.FaultCodes.{eval_code}
 use Rattle.tla_core.specs.States.{Values}
 use Rattle.tla_core.specs.declared.state.Shown.{Shown}
 use Rattle.state_layers.specs.declared.answer.Answer.{Answer}
@@ -27,29 +27,9 @@ pub record Named : Type 0 where
 abbrev pub named : Labels → Named
 named l = record { files = l.files.now; logs = l.logs.now; variables = l.variables.now; unchecked = l.unchecked.now; lines = l.lines; limit = l.limit }
 
--- the code and the name of what went wrong in an evaluation
-abbrev pub kind_text : EvalKind → List ℕ
-kind_text eval.NotBoolean = codes "E1 NotBoolean"
-kind_text eval.NotInteger = codes "E2 NotInteger"
-kind_text eval.NotSet = codes "E3 NotSet"
-kind_text eval.NotFunction = codes "E4 NotFunction"
-kind_text eval.NotSequence = codes "E5 NotSequence"
-kind_text eval.OutsideDomain = codes "E6 OutsideDomain"
-kind_text eval.Overflow = codes "E7 Overflow"
-kind_text eval.BadDivisor = codes "E8 BadDivisor"
-kind_text eval.BadPower = codes "E9 BadPower"
-kind_text eval.NoChoice = codes "E10 NoChoice"
-kind_text eval.NoCase = codes "E11 NoCase"
-kind_text eval.EmptySequence = codes "E12 EmptySequence"
-kind_text eval.BadRange = codes "E13 BadRange"
-kind_text eval.TooLarge = codes "E14 TooLarge"
-kind_text eval.TooDeep = codes "E15 TooDeep"
-kind_text eval.Nested = codes "E16 Nested"
-kind_text eval.NotFinite = codes "E17 NotFinite"
-
 -- what went wrong in an evaluation, and where
 abbrev pub fault_text : List (List ℕ) → EvalKind → Place → List ℕ
-fault_text files kind at = kind_text kind ++ at_place files at
+fault_text files kind at = eval_code kind ++ at_place files at
 
 -- which layer: after how many lines and silent steps
 abbrev pub layer_text : ℕ → ℕ → List ℕ

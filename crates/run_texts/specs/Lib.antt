@@ -12,3 +12,4 @@ pub mod Answers
 pub mod GivenStates
 pub mod Verdicts
 pub mod Smoke
+pub mod Quoting

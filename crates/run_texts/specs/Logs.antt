@@ -4,6 +4,7 @@ use Rattle.std.specs.Fmt.{signed_decimal}
 use Rattle.line_shapes.specs.Keys.{key_text}
 use Rattle.log_lines.specs.declared.kind.LogKind.{LogKind}
 use Rattle.log_lines.specs.declared.kind.LogKind.TheVariants as log
+use Rattle.log_lines.specs.FaultCodes.{log_code}
 use Rattle.log_lines.specs.declared.file.Refusal.{Refusal}
 use Rattle.run_texts.specs.Places.{detail, found_needed, refused}
 
@@ -20,21 +21,23 @@ clocks_text before now = codes " clocks " ++ signed_decimal before ++ codes " an
 
 -- a line of the log is refused for this
 abbrev pub kind_refusal : List ℕ → LogKind → ℕ → List ℕ
-kind_refusal name log.NotJson line = refused (codes "O1 NotJson") (at_line name line)
-kind_refusal name log.NotObject line = refused (codes "O2 NotObject") (at_line name line)
-kind_refusal name (log.BadField key) line = refused (codes "O3 BadField") (detail (key_text key) ++ at_line name line)
-kind_refusal name log.UnknownVariable line = refused (codes "O4 UnknownVariable") (at_line name line)
-kind_refusal name log.UnknownEvent line = refused (codes "O5 UnknownEvent") (at_line name line)
+kind_refusal name log.NotJson line = refused (log_code log.NotJson) (at_line name line)
+kind_refusal name log.NotObject line = refused (log_code log.NotObject) (at_line name line)
+kind_refusal name (log.BadField key) line =
+    refused (log_code (log.BadField key)) (detail (key_text key) ++ at_line name line)
+kind_refusal name log.UnknownVariable line = refused (log_code log.UnknownVariable) (at_line name line)
+kind_refusal name log.UnknownEvent line = refused (log_code log.UnknownEvent) (at_line name line)
 kind_refusal name (log.WrongArgs found needed) line =
-    refused (codes "O6 WrongArgs") (found_needed found needed ++ at_line name line)
-kind_refusal name (log.BadValue key) line = refused (codes "O7 BadValue") (detail (key_text key) ++ at_line name line)
-kind_refusal name log.InitNotFirst line = refused (codes "O8 InitNotFirst") (at_line name line)
-kind_refusal name log.NoClock line = refused (codes "O9 NoClock") (at_line name line)
+    refused (log_code (log.WrongArgs found needed)) (found_needed found needed ++ at_line name line)
+kind_refusal name (log.BadValue key) line =
+    refused (log_code (log.BadValue key)) (detail (key_text key) ++ at_line name line)
+kind_refusal name log.InitNotFirst line = refused (log_code log.InitNotFirst) (at_line name line)
+kind_refusal name log.NoClock line = refused (log_code log.NoClock) (at_line name line)
 kind_refusal name (log.ClockBack before now) line =
-    refused (codes "O10 ClockBack") (at_line name line ++ clocks_text before now)
-kind_refusal name log.LineTooLong line = refused (codes "O11 LineTooLong") (at_line name line)
-kind_refusal name log.EventNotFixed line = refused (codes "O12 EventNotFixed") (at_line name line)
-kind_refusal name log.TooManyLines line = refused (codes "O13 TooManyLines") (at_line name line)
+    refused (log_code (log.ClockBack before now)) (at_line name line ++ clocks_text before now)
+kind_refusal name log.LineTooLong line = refused (log_code log.LineTooLong) (at_line name line)
+kind_refusal name log.EventNotFixed line = refused (log_code log.EventNotFixed) (at_line name line)
+kind_refusal name log.TooManyLines line = refused (log_code log.TooManyLines) (at_line name line)
 
 abbrev pub log_refusal : List ℕ → Refusal → List ℕ
 log_refusal name refusal = kind_refusal name refusal.kind refusal.line

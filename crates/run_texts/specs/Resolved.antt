@@ -4,6 +4,7 @@ use Rattle.tla_terms.specs.declared.level.Level.{Level}
 use Rattle.tla_terms.specs.declared.level.Level.TheVariants as level
 use Rattle.tla_levels.specs.declared.fault.ResolveFault.{ResolveFault}
 use Rattle.tla_levels.specs.declared.fault.ResolveFault.TheVariants as resolve
+use Rattle.tla_levels.specs.FaultCodes.{resolve_code}
 use Rattle.run_texts.specs.Places.{at_place, detail, found_needed, refused}
 
 -- levels as numbers
@@ -20,15 +21,18 @@ found_allowed found allowed =
 -- a program is refused; nothing is written where memory is wanting
 abbrev pub names_refusal : List (List ℕ) → ResolveFault → List ℕ
 names_refusal files (resolve.UnknownName name at) =
-    refused (codes "V1 UnknownName") (detail name ++ at_place files at)
+    refused (resolve_code (resolve.UnknownName name at)) (detail name ++ at_place files at)
 names_refusal files (resolve.WrongArity name found needed at) =
-    refused (codes "V2 WrongArity") (detail name ++ found_needed found needed ++ at_place files at)
+    refused (resolve_code (resolve.WrongArity name found needed at)) (detail name ++ found_needed found needed ++ at_place files at)
 names_refusal files (resolve.LevelTooHigh found allowed at) =
-    refused (codes "V3 LevelTooHigh") (found_allowed found allowed ++ at_place files at)
-names_refusal files (resolve.PrimedArgument at) = refused (codes "V4 PrimedArgument") (at_place files at)
-names_refusal files (resolve.NoValue name at) = refused (codes "V5 NoValue") (detail name ++ at_place files at)
-names_refusal files (resolve.NotTheShape at) = refused (codes "V6 NotTheShape") (at_place files at)
-names_refusal files (resolve.Recursion name at) = refused (codes "V7 Recursion") (detail name ++ at_place files at)
-names_refusal files (resolve.TooManyVariables at) = refused (codes "V8 TooManyVariables") (at_place files at)
-names_refusal files (resolve.NoOperator name) = refused (codes "V9 NoOperator") (detail name)
+    refused (resolve_code (resolve.LevelTooHigh found allowed at)) (found_allowed found allowed ++ at_place files at)
+names_refusal files (resolve.PrimedArgument at) = refused (resolve_code (resolve.PrimedArgument at)) (at_place files at)
+names_refusal files (resolve.NoValue name at) =
+    refused (resolve_code (resolve.NoValue name at)) (detail name ++ at_place files at)
+names_refusal files (resolve.NotTheShape at) = refused (resolve_code (resolve.NotTheShape at)) (at_place files at)
+names_refusal files (resolve.Recursion name at) =
+    refused (resolve_code (resolve.Recursion name at)) (detail name ++ at_place files at)
+names_refusal files (resolve.TooManyVariables at) =
+    refused (resolve_code (resolve.TooManyVariables at)) (at_place files at)
+names_refusal files (resolve.NoOperator name) = refused (resolve_code (resolve.NoOperator name)) (detail name)
 names_refusal files resolve.NoMemory = []

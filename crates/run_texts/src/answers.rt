@@ -1,7 +1,7 @@
 ghost use Rattle.std.specs.Prelude.{◌≡◌, ◌++◌, IfOk, OnOk, codes, decimal, string_bytes};
 ghost use Rattle.run_texts.specs.Places.{at_place};
 ghost use Rattle.run_texts.specs.States.{states_text};
-ghost use Rattle.run_texts.specs.Answers.{named, kind_text, log_name, fault_text, layer_text, unchecked_text, next_text, explained_text, not_explained_text, step_fault_text, answer_text};
+ghost use Rattle.run_texts.specs.Answers.{named, log_name, fault_text, layer_text, unchecked_text, next_text, explained_text, not_explained_text, step_fault_text, answer_text};
 
 use crate::labels::Labels;
 use crate::logs::push_line;
@@ -144,7 +144,7 @@ pub(crate) fn faulted(
     ensures { IfOk result (λ t. string_bytes t ≡ front.now ++ fault_text files.now kind at ++ back.now) }
 {
     let mut text = String::from_str(alloc, front)?;
-    text.push_str(kind_text(kind))?;
+    text.push_str(kind.code())?;
     push_at(&mut text, files, at)?;
     text.push_str(back)?;
     Ok(text)
@@ -198,29 +198,4 @@ fn push_layer(text: &mut String, after: u32, silent: u32) -> Result<(), NoMemory
     ensures { OnOk result (string_bytes text.new ≡ string_bytes text.old ++ layer_text after silent) }
 {
     write!(text, " after={after} silent={silent}\n")
-}
-
-/// The code and the name of what went wrong in an evaluation.
-fn kind_text(kind: EvalKind) -> &'static str
-    ensures { result.now ≡ kind_text kind }
-{
-    match kind {
-        EvalKind::NotBoolean => "E1 NotBoolean",
-        EvalKind::NotInteger => "E2 NotInteger",
-        EvalKind::NotSet => "E3 NotSet",
-        EvalKind::NotFunction => "E4 NotFunction",
-        EvalKind::NotSequence => "E5 NotSequence",
-        EvalKind::OutsideDomain => "E6 OutsideDomain",
-        EvalKind::Overflow => "E7 Overflow",
-        EvalKind::BadDivisor => "E8 BadDivisor",
-        EvalKind::BadPower => "E9 BadPower",
-        EvalKind::NoChoice => "E10 NoChoice",
-        EvalKind::NoCase => "E11 NoCase",
-        EvalKind::EmptySequence => "E12 EmptySequence",
-        EvalKind::BadRange => "E13 BadRange",
-        EvalKind::TooLarge => "E14 TooLarge",
-        EvalKind::TooDeep => "E15 TooDeep",
-        EvalKind::Nested => "E16 Nested",
-        EvalKind::NotFinite => "E17 NotFinite",
-    }
 }

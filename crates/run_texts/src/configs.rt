@@ -16,11 +16,9 @@ pub fn config_refusal(
     ensures { IfOk result (λ t. string_bytes t ≡ config_refusal files.now kind.now at) }
 {
     match kind {
-        ConfigKind::Syntax => refused_at(alloc, files, "G1 Syntax", at),
-        ConfigKind::Unsupported(keyword) => {
-            refused_detail(alloc, files, "G2 Unsupported", keyword.as_str(), at)
+        ConfigKind::Syntax | ConfigKind::NoBehaviour => refused_at(alloc, files, kind.code(), at),
+        ConfigKind::Unsupported(told) | ConfigKind::Twice(told) => {
+            refused_detail(alloc, files, kind.code(), told.as_str(), at)
         }
-        ConfigKind::Twice(word) => refused_detail(alloc, files, "G3 Twice", word.as_str(), at),
-        ConfigKind::NoBehaviour => refused_at(alloc, files, "G4 NoBehaviour", at),
     }
 }

@@ -16,13 +16,9 @@ pub fn form_refusal(
     ensures { IfOk result (λ t. string_bytes t ≡ form_refusal files.now variables.now fault) }
 {
     match fault {
-        FormFault::PrimeTooEarly(variable, at) => {
+        FormFault::PrimeTooEarly(variable, at) | FormFault::NotFixed(variable, at) => {
             let name = name_at(variables, variable.0 as usize);
-            refused_detail(alloc, files, "A1 PrimeTooEarly", name, at)
-        }
-        FormFault::NotFixed(variable, at) => {
-            let name = name_at(variables, variable.0 as usize);
-            refused_detail(alloc, files, "A2 NotFixed", name, at)
+            refused_detail(alloc, files, fault.code(), name, at)
         }
         FormFault::NoMemory => String::from_str(alloc, ""),
     }

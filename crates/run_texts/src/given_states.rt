@@ -11,11 +11,12 @@ pub fn states_refusal(alloc: Global, name: &str, refused: &StateRefusal) -> Resu
     ensures { IfOk result (λ t. string_bytes t ≡ states_refusal name.now refused.now) }
 {
     let line = refused.line;
-    match &refused.kind {
-        StateKind::NotJson => refused_line(alloc, "X1 NotJson", name, line),
-        StateKind::BadField(key) => refused_told(alloc, "X2 BadField", key.as_str(), name, line),
-        StateKind::UnknownVariable => refused_line(alloc, "X3 UnknownVariable", name, line),
-        StateKind::MissingVariable => refused_line(alloc, "X4 MissingVariable", name, line),
-        StateKind::BadValue => refused_line(alloc, "X5 BadValue", name, line),
+    let kind = &refused.kind;
+    match kind {
+        StateKind::BadField(key) => refused_told(alloc, kind.code(), key.as_str(), name, line),
+        StateKind::NotJson
+        | StateKind::UnknownVariable
+        | StateKind::MissingVariable
+        | StateKind::BadValue => refused_line(alloc, kind.code(), name, line),
     }
 }

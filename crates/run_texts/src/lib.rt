@@ -12,6 +12,7 @@ mod logs;
 mod modules;
 mod order;
 mod places;
+mod quoting;
 mod resolved;
 mod smoke;
 mod spelled;

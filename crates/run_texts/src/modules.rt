@@ -1,6 +1,6 @@
 ghost use Rattle.std.specs.Prelude.{◌≡◌, ◌++◌, IfOk, OnOk, codes, string_bytes};
 ghost use Rattle.run_texts.specs.Places.{place_text, at_place, detail, refused};
-ghost use Rattle.run_texts.specs.Modules.{read_refusal, lex_text, parse_refusal, names_text, earlier_text, module_refusal};
+ghost use Rattle.run_texts.specs.Modules.{read_refusal, parse_refusal, names_text, earlier_text, module_refusal};
 
 use crate::files::{device_text, missing_text, too_long_text};
 use crate::places::{
@@ -8,7 +8,6 @@ use crate::places::{
 };
 use crate::spelled::foreign_text;
 use std::alloc::Global;
-use tla_ast::LexKind;
 use tla_exprs::ParseFault;
 use tla_modules::LoadWhy;
 use trace_base::{Names, NoMemory, Place, ReadFault};
@@ -19,16 +18,15 @@ pub fn module_refusal(alloc: Global, files: &Names, why: &LoadWhy) -> Result<Str
 {
     match why {
         LoadWhy::Read(name, fault) => read_refusal(alloc, name.as_str(), *fault),
-        LoadWhy::Lex(kind, at) => refused_at(alloc, files, lex_text(*kind), *at),
-        LoadWhy::Lay(at) => refused_at(alloc, files, "J1 LeftOfList", *at),
+        LoadWhy::Lex(_, at) | LoadWhy::Lay(at) => refused_at(alloc, files, why.code(), *at),
         LoadWhy::Parse(fault) => parse_refusal(alloc, files, fault),
-        LoadWhy::Cycle(names) => cycle_refusal(alloc, names),
-        LoadWhy::TooMany(name) => refused_alone(alloc, "M6 TooManyModules", name.as_str()),
+        LoadWhy::Cycle(names) => cycle_refusal(alloc, why.code(), names),
+        LoadWhy::TooMany(name) => refused_alone(alloc, why.code(), name.as_str()),
         LoadWhy::Twice(name, at, earlier) => {
-            twice_refusal(alloc, files, name.as_str(), *at, *earlier)
+            twice_refusal(alloc, files, why.code(), name.as_str(), *at, *earlier)
         }
         LoadWhy::WrongName(name, at) => {
-            refused_detail(alloc, files, "M8 WrongName", name.as_str(), *at)
+            refused_detail(alloc, files, why.code(), name.as_str(), *at)
         }
     }
 }
@@ -45,30 +43,19 @@ fn read_refusal(alloc: Global, name: &str, fault: ReadFault) -> Result<String, N
     }
 }
 
-/// The code and the name of why a text has no tokens.
-fn lex_text(kind: LexKind) -> &'static str
-    ensures { result.now ≡ lex_text kind }
-{
-    match kind {
-        LexKind::NotUtf8 => "L1 NotUtf8",
-        LexKind::BadCharacter => "L2 BadCharacter",
-        LexKind::OpenString => "L3 OpenString",
-        LexKind::OpenComment => "L4 OpenComment",
-        LexKind::NumberTooLarge => "L5 NumberTooLarge",
-        LexKind::TooManyTokens => "L6 TooManyTokens",
-    }
-}
-
 /// The line for tokens that are no module.
 fn parse_refusal(alloc: Global, files: &Names, fault: &ParseFault) -> Result<String, NoMemory>
     ensures { IfOk result (λ t. string_bytes t ≡ parse_refusal files.now fault.now) }
 {
     match fault {
-        ParseFault::Expected(at) => refused_at(alloc, files, "P1 Expected", *at),
-        ParseFault::Conflict(first, second) => conflict_refusal(alloc, files, *first, *second),
-        ParseFault::TooNested(at) => refused_at(alloc, files, "P3 TooNested", *at),
+        ParseFault::Expected(at) | ParseFault::TooNested(at) => {
+            refused_at(alloc, files, fault.code(), *at)
+        }
+        ParseFault::Conflict(first, second) => {
+            conflict_refusal(alloc, files, fault.code(), *first, *second)
+        }
         ParseFault::OutOfProfile(token, at) => {
-            refused_detail(alloc, files, "P4 OutOfProfile", foreign_text(*token), *at)
+            refused_detail(alloc, files, fault.code(), foreign_text(*token), *at)
         }
         ParseFault::NoMemory => String::from_str(alloc, ""),
     }
@@ -78,12 +65,13 @@ fn parse_refusal(alloc: Global, files: &Names, fault: &ParseFault) -> Result<Str
 fn conflict_refusal(
     alloc: Global,
     files: &Names,
+    what: &str,
     first: Place,
     second: Place,
 ) -> Result<String, NoMemory>
-    ensures { IfOk result (λ t. string_bytes t ≡ refused (codes "P2 Conflict") (at_place files.now first ++ codes " and " ++ place_text files.now second)) }
+    ensures { IfOk result (λ t. string_bytes t ≡ refused what.now (at_place files.now first ++ codes " and " ++ place_text files.now second)) }
 {
-    let mut text = refusal(alloc, "P2 Conflict")?;
+    let mut text = refusal(alloc, what)?;
     push_at(&mut text, files, first)?;
     push_and(&mut text, files, second)?;
     text.push_str("\n")?;
@@ -99,10 +87,10 @@ fn push_and(text: &mut String, files: &Names, at: Place) -> Result<(), NoMemory>
 }
 
 /// The line for a module that extends itself.
-fn cycle_refusal(alloc: Global, names: &Names) -> Result<String, NoMemory>
-    ensures { IfOk result (λ t. string_bytes t ≡ refused (codes "M5 Cycle") (names_text names.now)) }
+fn cycle_refusal(alloc: Global, what: &str, names: &Names) -> Result<String, NoMemory>
+    ensures { IfOk result (λ t. string_bytes t ≡ refused what.now (names_text names.now)) }
 {
-    let mut text = refusal(alloc, "M5 Cycle")?;
+    let mut text = refusal(alloc, what)?;
     push_names(&mut text, names)?;
     text.push_str("\n")?;
     Ok(text)
@@ -122,13 +110,14 @@ fn push_names(text: &mut String, names: &Names) -> Result<(), NoMemory>
 fn twice_refusal(
     alloc: Global,
     files: &Names,
+    what: &str,
     name: &str,
     at: Place,
     earlier: Option<Place>,
 ) -> Result<String, NoMemory>
-    ensures { IfOk result (λ t. string_bytes t ≡ refused (codes "M7 Twice") (detail name.now ++ at_place files.now at ++ earlier_text files.now earlier)) }
+    ensures { IfOk result (λ t. string_bytes t ≡ refused what.now (detail name.now ++ at_place files.now at ++ earlier_text files.now earlier)) }
 {
-    let mut text = refusal(alloc, "M7 Twice")?;
+    let mut text = refusal(alloc, what)?;
     push_detail(&mut text, name)?;
     push_at(&mut text, files, at)?;
     push_earlier(&mut text, files, earlier)?;

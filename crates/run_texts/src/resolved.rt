@@ -1,4 +1,4 @@
-ghost use Rattle.std.specs.Prelude.{◌≡◌, ◌++◌, IfOk, OnOk, codes, string_bytes};
+ghost use Rattle.std.specs.Prelude.{◌≡◌, ◌++◌, IfOk, OnOk, string_bytes};
 ghost use Rattle.run_texts.specs.Places.{at_place, detail, found_needed, refused};
 ghost use Rattle.run_texts.specs.Resolved.{level_number, found_allowed, names_refusal};
 
@@ -15,25 +15,29 @@ pub fn names_refusal(alloc: Global, files: &Names, fault: &ResolveFault) -> Resu
     ensures { IfOk result (λ t. string_bytes t ≡ names_refusal files.now fault.now) }
 {
     match fault {
-        ResolveFault::UnknownName(name, at) => {
-            refused_detail(alloc, files, "V1 UnknownName", name.as_str(), *at)
+        ResolveFault::UnknownName(name, at)
+        | ResolveFault::NoValue(name, at)
+        | ResolveFault::Recursion(name, at) => {
+            refused_detail(alloc, files, fault.code(), name.as_str(), *at)
         }
         ResolveFault::WrongArity(name, found, needed, at) => {
-            arity_refusal(alloc, files, name.as_str(), *found, *needed, *at)
+            arity_refusal(
+                alloc,
+                files,
+                fault.code(),
+                name.as_str(),
+                *found,
+                *needed,
+                *at,
+            )
         }
         ResolveFault::LevelTooHigh(found, allowed, at) => {
-            level_refusal(alloc, files, *found, *allowed, *at)
+            level_refusal(alloc, files, fault.code(), *found, *allowed, *at)
         }
-        ResolveFault::PrimedArgument(at) => refused_at(alloc, files, "V4 PrimedArgument", *at),
-        ResolveFault::NoValue(name, at) => {
-            refused_detail(alloc, files, "V5 NoValue", name.as_str(), *at)
-        }
-        ResolveFault::NotTheShape(at) => refused_at(alloc, files, "V6 NotTheShape", *at),
-        ResolveFault::Recursion(name, at) => {
-            refused_detail(alloc, files, "V7 Recursion", name.as_str(), *at)
-        }
-        ResolveFault::TooManyVariables(at) => refused_at(alloc, files, "V8 TooManyVariables", *at),
-        ResolveFault::NoOperator(name) => refused_alone(alloc, "V9 NoOperator", name.as_str()),
+        ResolveFault::PrimedArgument(at)
+        | ResolveFault::NotTheShape(at)
+        | ResolveFault::TooManyVariables(at) => refused_at(alloc, files, fault.code(), *at),
+        ResolveFault::NoOperator(name) => refused_alone(alloc, fault.code(), name.as_str()),
         ResolveFault::NoMemory => String::from_str(alloc, ""),
     }
 }
@@ -42,14 +46,15 @@ pub fn names_refusal(alloc: Global, files: &Names, fault: &ResolveFault) -> Resu
 fn arity_refusal(
     alloc: Global,
     files: &Names,
+    what: &str,
     name: &str,
     found: usize,
     needed: usize,
     at: Place,
 ) -> Result<String, NoMemory>
-    ensures { IfOk result (λ t. string_bytes t ≡ refused (codes "V2 WrongArity") (detail name.now ++ found_needed found needed ++ at_place files.now at)) }
+    ensures { IfOk result (λ t. string_bytes t ≡ refused what.now (detail name.now ++ found_needed found needed ++ at_place files.now at)) }
 {
-    let mut text = refusal(alloc, "V2 WrongArity")?;
+    let mut text = refusal(alloc, what)?;
     push_detail(&mut text, name)?;
     push_found_needed(&mut text, found, needed)?;
     push_at(&mut text, files, at)?;
@@ -61,13 +66,14 @@ fn arity_refusal(
 fn level_refusal(
     alloc: Global,
     files: &Names,
+    what: &str,
     found: Level,
     allowed: Level,
     at: Place,
 ) -> Result<String, NoMemory>
-    ensures { IfOk result (λ t. string_bytes t ≡ refused (codes "V3 LevelTooHigh") (found_allowed found allowed ++ at_place files.now at)) }
+    ensures { IfOk result (λ t. string_bytes t ≡ refused what.now (found_allowed found allowed ++ at_place files.now at)) }
 {
-    let mut text = refusal(alloc, "V3 LevelTooHigh")?;
+    let mut text = refusal(alloc, what)?;
     push_levels(&mut text, found, allowed)?;
     push_at(&mut text, files, at)?;
     text.push_str("\n")?;

@@ -1,12 +1,10 @@
 ghost use Rattle.std.specs.Prelude.{◌≡◌, ◌++◌, OnOk, slice_get, string_bytes};
-ghost use Rattle.serde_json.specs.Data.{string};
-ghost use Rattle.serde_json.specs.Written.{compact_text};
 ghost use Rattle.tla_core.specs.declared.state.Mark.TheVariants as mark;
 ghost use Rattle.run_texts.specs.States.{in_order, value_text, field_text, more_text, fields_text, state_text, before_text, behind_text, states_text, faulty_text};
 
 use crate::places::name_at;
+use crate::quoting::push_quoted;
 use json_values::push_json;
-use serde_json::Value as Json;
 use std::alloc::Global;
 use tla_core::{Behaviour, Mark, Shown, State};
 use trace_base::{LineAt, Names, NoMemory};
@@ -133,15 +131,6 @@ fn push_field(
     push_quoted(alloc, text, name_at(names, number))?;
     text.push_str(":")?;
     push_value(alloc, text, number, state)
-}
-
-/// Adds the text in quotes, with what JSON escapes.
-fn push_quoted(alloc: Global, text: &mut String, inner: &str) -> Result<(), NoMemory>
-    ensures { OnOk result (string_bytes text.new ≡ string_bytes text.old ++ compact_text (string inner.now)) }
-{
-    let json = Json::String(String::from_str(alloc, inner)?);
-    let quoted = json.to_string(alloc)?;
-    text.push_str(quoted.as_str())
 }
 
 fn push_value(

@@ -1,10 +1,8 @@
-pub mod Choices
 pub mod Faults
 pub mod JobLaws
 pub mod Lines
 pub mod Looks
 pub mod ModuleLaws
-pub mod NameLaws
 pub mod NumberLaws
 pub mod ReadLaws
 pub mod Readings

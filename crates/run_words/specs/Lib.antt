@@ -1,7 +1,6 @@
 pub mod Job
 pub mod Line
 pub mod Names
-pub mod NameTests
 pub mod Parsers
 pub mod Values
 pub mod Words

@@ -8,9 +8,9 @@ ghost use Rattle.run_words.specs.Values.{IsOperator, IsValue, NumberFrom, IsStut
 use crate::command::Setting;
 use crate::job::Options;
 use crate::line::values;
-use crate::name::is_name;
 use crate::number::number;
 use clap::ArgMatches;
+use tla_ast::is_name;
 
 /// An option stands more than once.
 #[derive(Clone, Copy, Debug, Drop)]

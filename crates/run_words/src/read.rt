@@ -168,7 +168,7 @@ fn files<'a, 'b>(words: &'b [&'a str]) -> Option<(&'a str, &'b [&'a str])>
     if logs.len() > 64 {
         return None;
     }
-    if !is_module(path.as_bytes()) {
+    if !is_module(path) {
         return None;
     }
     Some((*path, logs))

@@ -8,7 +8,8 @@ ghost use Rattle.run_words.specs.Words.{JobMeets, MeetsRules, OptionsMeet};
 
 use crate::job::{Job, Options, Words};
 use crate::line::is_given;
-use crate::name::{is_module, is_name};
+use crate::name::is_module;
+use tla_ast::is_name;
 use trace_base::Text;
 
 impl Words {
@@ -33,7 +34,7 @@ impl Words {
 fn job_meets(job: &Job) -> bool
     ensures { IsTrue result ↔ JobMeets job.now }
 {
-    if !is_module(job.module.as_str().as_bytes()) {
+    if !is_module(job.module.as_str()) {
         return false;
     }
     let logs = job.logs.items();

@@ -5,3 +5,4 @@ pub mod Files
 pub mod Laws
 pub mod Seen
 pub mod Walks
+pub mod FaultCodes

@@ -1,15 +1,36 @@
+ghost use Rattle.std.specs.Prelude.{◌≡◌};
+ghost use Rattle.state_files.specs.FaultCodes.{state_code};
+
+use thiserror::Error;
 use tla_core::Shown;
 use trace_base::Text;
 
 /// Why a line of a file of states is refused, in the order in which it is tested.
-#[derive(Debug, Drop)]
+#[derive(Debug, Drop, Error)]
+#[error("{}", self.code())]
 pub enum StateKind {
     NotJson,
     /// The first key at which the line is not as it should be.
+    #[error("{} {}", self.code(), .0.as_str())]
     BadField(Text),
     UnknownVariable,
     MissingVariable,
     BadValue,
+}
+
+impl StateKind {
+    /// The code and the name of the refusal.
+    pub fn code(&self) -> &'static str
+        ensures { result.now ≡ state_code self.now }
+    {
+        match self {
+            StateKind::NotJson => "X1 NotJson",
+            StateKind::BadField(_) => "X2 BadField",
+            StateKind::UnknownVariable => "X3 UnknownVariable",
+            StateKind::MissingVariable => "X4 MissingVariable",
+            StateKind::BadValue => "X5 BadValue",
+        }
+    }
 }
 
 /// What comes of a line.

@@ -4,15 +4,19 @@ ghost use Rattle.state_layers.specs.Gives.{Gives, Tells, IsReached};
 
 use crate::member::Member;
 use std::alloc::{AllocError, Global};
+use thiserror::Error;
 use tla_core::Fault;
 use trace_base::{LineAt, Place};
 
 /// Why steps are not listed, or an assumption is not told of: an evaluation faults, there are more
 /// steps than was asked for, or memory is wanting.
-#[derive(Drop)]
+#[derive(Debug, Drop, Error)]
 pub enum StepFault {
+    #[error("{0}")]
     Eval(Fault),
+    #[error("more steps than were asked for")]
     TooMany,
+    #[error("out of memory")]
     NoMemory,
 }
 

@@ -1,6 +1,8 @@
 -- The different states among more and more places.
-use Rattle.std.proofs.Common.{◌≡◌, inl, inr, refl, sym, ◌∙◌, ap, subst, ℕ, List, [], ◌∷◌, ◌++◌, length, map, arith, Bool, true, false}
-use Rattle.std.specs.Prelude.{Contains, Option, Some, None, ◌+◌, ◌<◌, take, drop, get_or, if◌then◌else◌}
+use Rattle.std.proofs.Common.{◌≡◌, inl, inr, refl, sym, ◌∙◌, ap, subst, ℕ, List, [], ◌∷◌, ◌++◌, length, map, arith, Bool, true, false, Result, Ok, Err, IfOk}
+use Rattle.std.specs.Prelude.{Contains, Option, Some, None, Vec, ◌+◌, ◌<◌, take, drop, get_or, if◌then◌else◌}
+use Rattle.std.specs.declared.alloc.Global.{Global}
+use Rattle.std.specs.declared.alloc.AllocError.{AllocError}
 use Rattle.std.specs.List.{list_any}
 use Rattle.std.specs.Cmp.Lexicographic.{lists_equiv}
 use Rattle.std.proofs.lemmas.List.{take_more, take-append-drop}
@@ -126,3 +128,9 @@ module _ (found : List (List (Option Val))) (i : ℕ) (p : List (Option Val)) (e
     },
     m,
   )
+
+-- the one state that places are
+pub sole : (r : Result (Vec Values Global) AllocError) (p : List (Option Val)) (s : Values) → map Some s ≡ p
+    → IfOk r (λ list. list.items ≡ s ∷ []) → IfOk r (λ list. IsList (IsAmong (p ∷ [])) list.items)
+sole (Ok list) p s e h = subst (IsList (IsAmong (p ∷ []))) (sym h) (added [] p [] begins (s ∷ []) s e refl)
+sole (Err x) p s e h = tt

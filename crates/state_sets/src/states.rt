@@ -1,5 +1,6 @@
-ghost use Rattle.std.specs.Prelude.{◌≡◌, IfOk, OnOk};
+ghost use Rattle.std.specs.Prelude.{◌≡◌, ◌∷◌, [], IfOk, OnOk};
 ghost use Rattle.indexmap.specs.IndexSet.{insert_key};
+ghost use Rattle.tla_core.specs.Sets.{IsList};
 ghost use Rattle.tla_core.specs.StateOrder.{state_eq};
 ghost use Rattle.state_layers.specs.Gives.{Gives};
 ghost use Rattle.state_sets.specs.Among.{Adds, IsAmong};
@@ -11,6 +12,34 @@ use tla_core::{Partial, State};
 
 /// The states that places are, each once, unless there are more than `bound`. Places of which one is empty are no state.
 pub fn states_of(alloc: Global, found: &[Partial], bound: u32) -> Result<Vec<State>, StepFault>
+    ensures { Gives (IsAmong found.now) (λ t f. ⊥) (λ t. Unit {0}) bound result }
+{
+    match found {
+        [only] => Ok(state_of(alloc, only)?),
+        _ => different_states(alloc, found, bound),
+    }
+}
+
+/// The state that the places are, if none of them is empty.
+fn state_of(alloc: Global, places: &Partial) -> Result<Vec<State>, AllocError>
+    ensures { IfOk result (λ list. IsList (IsAmong (places.now ∷ [])) list.items) }
+{
+    match places.whole(alloc)? {
+        Some(state) => one_state(alloc, state),
+        None => Ok(Vec::new(alloc)),
+    }
+}
+
+/// The state alone.
+fn one_state(alloc: Global, state: State) -> Result<Vec<State>, AllocError>
+    ensures { IfOk result (λ list. list.items ≡ state ∷ []) }
+{
+    let mut states = Vec::new(alloc);
+    states.push(state)?;
+    Ok(states)
+}
+
+fn different_states(alloc: Global, found: &[Partial], bound: u32) -> Result<Vec<State>, StepFault>
     ensures { Gives (IsAmong found.now) (λ t f. ⊥) (λ t. Unit {0}) bound result }
 {
     let mut states = IndexSet::new(alloc);

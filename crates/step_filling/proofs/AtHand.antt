@@ -1,71 +1,56 @@
 -- Sets that are known to be listed, and what is filled where a value is seen.
-use Rattle.std.proofs.Common.{◌≡◌, ◌↔◌, inl, inr, refl, ap, sym, ◌∙◌, subst, ℕ, zero, suc, ◌+◌, ◌≤◌, ◌<◌, max, ℤ, pos, Bool, true, false, List, [], ◌∷◌, length, get_or, Option, Some, None, arith}
-use Rattle.std.specs.Prelude.{◌+ℤ◌, ◌≤ℤ◌, ◌<ℤ◌, FitsSigned, IsTrue, Contains, Ok, slice_set}
-use Rattle.std.specs.Int.{w64}
-use Rattle.std.proofs.lemmas.Int.{ints}
+use Rattle.std.proofs.Common.{◌≡◌, ◌↔◌, inl, inr, refl, ap, sym, ◌∙◌, subst, ℕ, ◌<◌, List, [], ◌∷◌, length, get_or, Some}
+use Rattle.std.specs.Prelude.{Contains, Ok, slice_set}
 use Rattle.std.proofs.lemmas.List.Elements.{All-get_or}
 use Rattle.trace_base.specs.declared.place.Place.{Place}
 use Rattle.tla_values.specs.Ascending.{cons_cases, head_in, none_in}
-use Rattle.tla_values.specs.Data.{Val, set, integer, Vals, vals_of, members, vals_depth}
-use Rattle.tla_values.specs.IsValue.{IsValue, IsCanonical, AreCanonical, IsOrdered, max_members}
-use Rattle.tla_values.specs.SetLaws.{members-vals_of}
-use Rattle.tla_values.specs.SetOperations.{InInterval, IsSetWith}
+use Rattle.tla_values.specs.Data.{Val}
+use Rattle.tla_values.specs.IsValue.{IsValue}
+use Rattle.tla_values.specs.SetOperations.{IsSetWith}
 use Rattle.tla_values.specs.Sets.{Member}
-use Rattle.value_ops.specs.Listed.{ints_from}
-use Rattle.value_ops.proofs.Intervals.{ascending_ints, interval_is, length-ints}
-use Rattle.eval_sets.specs.DescribedSets.{Described, Interval, Listed}
-use Rattle.eval_sets.specs.Membership.{Belongs}
-use Rattle.eval_sets.proofs.Collecting.{interval_listed}
+use Rattle.eval_sets.specs.DescribedSets.{Described, Nat, Int, Strings, Booleans, SeqOf, PowerOf, Interval, Functions, Records, Product, Union, Inter, Minus, Listed}
+use Rattle.eval_sets.specs.Membership.{Belongs, IsMember}
+use Rattle.eval_sets.proofs.Collecting.{lists_its_members}
+use Rattle.set_bounds.specs.Bounds.{IsListedWithin}
 use Rattle.tla_eval.specs.Contexts.{Places}
+use Rattle.tla_eval.specs.Sets.{list_at}
 use Rattle.path_updates.specs.Changes.{LeadsTo}
 use Rattle.path_updates.specs.declared.update.See.{See}
 use Rattle.step_filling.specs.Fillings.{Allows, FillsMembers, IsAtHand, OneIf, SeenIn}
 
-pub value_at_hand : (s : Val) → IsValue s → IsAtHand (Listed s)
-value_at_hand s h at = (s, refl, h, λ v. (λ m. m, λ m. m))
+-- a set that is listed for sure is listed wherever it stands
+listed_at : (S : Described) (n l : ℕ) (w : IsListedWithin S n l) (at : Place) → list_at at S (Ok w.listed)
+listed_at Nat n l w at = w.lists
+listed_at Int n l w at = w.lists
+listed_at Strings n l w at = w.lists
+listed_at Booleans n l w at = w.lists
+listed_at (SeqOf d) n l w at = w.lists
+listed_at (PowerOf d) n l w at = w.lists
+listed_at (Interval y z) n l w at = w.lists
+listed_at (Functions a d) n l w at = w.lists
+listed_at (Records fs) n l w at = w.lists
+listed_at (Product ps) n l w at = w.lists
+listed_at (Union c d) n l w at = w.lists
+listed_at (Inter c d) n l w at = w.lists
+listed_at (Minus c d) n l w at = w.lists
+listed_at (Listed s) n l w at = ap Ok (w.itself s refl)
 
--- the set of integers one after the other
-
-canonical_ints : (y : ℤ) (n : ℕ) (low high : ℤ) → FitsSigned w64 low → FitsSigned w64 high → low ≤ℤ y → (y +ℤ pos n) ≤ℤ (high +ℤ pos 1) → AreCanonical (vals_of (ints_from y n))
-canonical_ints y zero low high f g a b = tt
-canonical_ints y (suc n) low high f g a b = (omega (arith, ints, a, b, f, g), canonical_ints (y +ℤ pos 1) n low high f g (omega (arith, ints, a)) (omega (arith, ints, b)))
-
-ints_are_flat : (y : ℤ) (n : ℕ) → vals_depth (vals_of (ints_from y n)) ≡ 0
-ints_are_flat y zero = refl
-ints_are_flat y (suc n) = ap (λ d. max 0 d) (ints_are_flat (y +ℤ pos 1) n)
-
-ordered_ints : (y : ℤ) (n : ℕ) → n ≤ max_members → IsOrdered (members (vals_of (ints_from y n)))
-ordered_ints y n few = rw (members-vals_of (ints_from y n)) (record { ascending = ascending_ints y n; few = omega (arith, few, length-ints y n) })
-
-abbrev set_of_ints : ℤ → ℕ → Val
-set_of_ints y n = set (vals_of (ints_from y n))
-
-is_set_of_ints : (y z : ℤ) (n : ℕ) → FitsSigned w64 y → FitsSigned w64 z → n ≤ max_members → y +ℤ pos n ≡ z +ℤ pos 1 → IsSetWith (InInterval y z) (set_of_ints y n)
-is_set_of_ints y z n f g few e = record {
-  valid = record {
-    canonical = (ordered_ints y n few, canonical_ints y n y z f g (omega (arith, ints)) (omega (arith, ints, e)));
-    shallow = omega (arith, ints_are_flat y n);
-  };
-  is_set = tt;
-  same = λ v. subst (λ (vs : List Val). Contains vs v ↔ InInterval y z v) (sym (members-vals_of (ints_from y n))) (interval_is y z n e v);
-}
-
-pub interval_at_hand : (y z : ℤ) (n : ℕ) → FitsSigned w64 y → FitsSigned w64 z → n ≤ max_members → y +ℤ pos n ≡ z +ℤ pos 1 → IsAtHand (Interval y z)
-interval_at_hand y z n f g few e at =
-    let s : IsSetWith (InInterval y z) (set_of_ints y n) = is_set_of_ints y z n f g few e in
-    (set_of_ints y n, interval_listed y z (Ok (set_of_ints y n)) f g s, s.valid, s.same)
+pub at_hand : (S : Described) (n l : ℕ) → IsListedWithin S n l → IsAtHand S
+at_hand S n l w at =
+    let s : IsSetWith (IsMember S) w.listed = lists_its_members S w.listed w.lists in
+    (w.listed, listed_at S n l w at, s.valid, λ v p. (λ m. ((s.same v).0 m).1, λ b. (s.same v).1 (p, b)))
 
 -- What is filled where a value is seen of the variable: that value alone may be a member that all that is seen allows.
-pub seen_filled : (sees : List See) (x : ℕ) (S : Described) (at : Place) (p : Places) (w : Val) (qs : List Places) → IsAtHand S → ((v : Val) → SeenIn sees x v → v ≡ w)
+pub seen_filled : (sees : List See) (x : ℕ) (S : Described) (at : Place) (p : Places) (w : Val) (qs : List Places) → IsAtHand S → IsValue w → ((v : Val) → SeenIn sees x v → v ≡ w)
     → OneIf (Belongs S w × SeenIn sees x w) (slice_set p x (Some w)) qs → FillsMembers sees x S at p qs
-seen_filled sees x S at p w qs hand whole one =
+seen_filled sees x S at p w qs hand valid whole one =
     let h = hand at in
     (h.0, h.1, h.2, λ q. (forth q one, back q one))
   where
     forth : (q : Places) → OneIf (Belongs S w × SeenIn sees x w) (slice_set p x (Some w)) qs → Contains qs q
         → (v : Val) × Member v ((hand at).0) × SeenIn sees x v × (q ≡ slice_set p x (Some v))
     forth q (inl a) m = elim (cons_cases (slice_set p x (Some w)) [] q (subst (λ (us : List Places). Contains us q) a.1 m)) [
-      | inl e ↦ (w, ((hand at).3 w).1 a.0.0, a.0.1, sym e)
+      | inl e ↦ (w, ((hand at).3 w valid).1 a.0.0, a.0.1, sym e)
       | inr n ↦ absurd (none_in q n)
     ]
     forth q (inr a) m = absurd (none_in q (subst (λ (us : List Places). Contains us q) a.1 m))
@@ -77,7 +62,8 @@ seen_filled sees x S at p w qs hand whole one =
         subst (λ (us : List Places). Contains us q) (sym a.1) (subst (λ (u : Places). Contains (slice_set p x (Some w) ∷ []) u) same (head_in (slice_set p x (Some w)) []))
     back q (inr a) r =
         let e : r.0 ≡ w = whole r.0 r.2 in
-        absurd (a.0 (subst (λ (v : Val). Belongs S v) e (((hand at).3 r.0).0 r.1), subst (λ (v : Val). SeenIn sees x v) e r.2))
+        let member : Member w ((hand at).0) = subst (λ (v : Val). Member v ((hand at).0)) e r.1 in
+        absurd (a.0 (((hand at).3 w valid).0 member, subst (λ (v : Val). SeenIn sees x v) e r.2))
 
 -- what is seen of the whole variable
 pub whole_allows : (see : See) (x : ℕ) → see.path.variable.0 ≡ x → see.path.keys ≡ [] → (v : Val) → Allows see x v → v ≡ see.value

@@ -55,6 +55,6 @@ Chooses sees x S at p qs =
 abbrev pub FailsToChoose : ℕ → Described → Place → Places → EvalFault → Type 0
 FailsToChoose x S at p f = Stops (λ r. IsEmpty p x × list_at at S r) f
 
--- There is a value that the set is listed as, wherever it stands, and its members are what belongs to the set.
+-- There is a value that the set is listed as, wherever it stands, and its members are the values that belong to the set.
 abbrev pub IsAtHand : Described → Type 0
-IsAtHand S = (at : Place) → (listed : Val) × list_at at S (Ok listed) × IsValue listed × ((v : Val) → Member v listed ↔ Belongs S v)
+IsAtHand S = (at : Place) → (listed : Val) × list_at at S (Ok listed) × IsValue listed × ((v : Val) → IsValue v → (Member v listed ↔ Belongs S v))

@@ -1,9 +1,7 @@
 //! One of the values of a set for a variable.
 
-ghost use Rattle.std.specs.Prelude.{◌≡◌, ◌<◌, ◌≤◌, ◌≤ℤ◌, ◌+ℤ◌, pos, IfErr, IfOk, IfSome, IsTrue, Some, length, slice_set};
+ghost use Rattle.std.specs.Prelude.{◌≡◌, ◌<◌, IfErr, IfOk, IfSome, IsTrue, Some, length, slice_set};
 ghost use Rattle.tla_values.specs.Data.{Val};
-ghost use Rattle.tla_values.specs.IsValue.{max_members};
-ghost use Rattle.eval_sets.specs.DescribedSets.{Interval};
 ghost use Rattle.eval_sets.specs.Membership.{Belongs};
 ghost use Rattle.eval_sets.specs.Soundness.{IsSound};
 ghost use Rattle.tla_eval.specs.Sets.{list_at};
@@ -11,16 +9,14 @@ ghost use Rattle.eval_parts.specs.Scenes.{Stops};
 ghost use Rattle.step_filling.specs.Fillings.{Allows, AreFilled, Chooses, FailsToChoose, FillsMembers, IsAtHand, OneIf, SeenIn};
 
 use crate::filling::{add_filled, one_if};
-use eval_sets::{Described, DescribedNode, member};
+use eval_sets::{Described, member};
 use path_updates::See;
+use set_bounds::bounds_of;
 use std::alloc::{AllocError, Global};
 use tla_core::{Partial, VarId};
 use tla_eval::{EvalFault, list_at};
 use tla_values::Value;
 use trace_base::Place;
-
-/// How many members a set may have.
-const MAX_MEMBERS: i64 = 100_000;
 
 /// The places with a member of the set, which stands at the place, as the variable's value: themselves where it has one already, none where its
 /// value is no member, and where it has no value, for each member those filled further, if what is seen of the variable stands in the member.
@@ -59,6 +55,7 @@ fn listed_members(
 {
     if let Some(value) = seen_whole(sees, number) {
         if is_at_hand(&set) {
+            value.is_value();
             return Ok(fill_seen(alloc, sees, places, number, &set, value)?);
         }
     }
@@ -111,41 +108,14 @@ fn is_whole(see: &See, number: VarId) -> bool
     see.path.keys().is_empty()
 }
 
-/// Whether the set is known to be one that can be listed: a value, or as many integers as a set may have.
+/// Whether the set is known to be one that can be listed.
 fn is_at_hand(set: &Described) -> bool
+    requires { IsSound set.now }
     ensures { IsTrue result → IsAtHand set.now }
 {
-    match &set.node {
-        DescribedNode::Listed(all) => {
-            all.is_value();
-            true
-        }
-        DescribedNode::Interval(first, last) => are_few(*first, *last),
-        _ => false,
-    }
-}
-
-/// Whether there are integers from the first to the last, and no more than a set may have.
-fn are_few(first: i64, last: i64) -> bool
-    ensures { IsTrue result → IsAtHand (Interval first last) }
-{
-    if first > last {
-        return false;
-    }
-    match count_between(first, last) {
+    match bounds_of(set) {
         Some(_) => true,
         None => false,
-    }
-}
-
-/// How many integers there are from the first to the last, unless they are more than a set may have.
-fn count_between(first: i64, last: i64) -> Option<u32>
-    requires { first ≤ℤ last }
-    ensures { IfSome result (λ n. (n ≤ max_members) × (first +ℤ pos n ≡ last +ℤ pos 1)) }
-{
-    match last.checked_sub(first) {
-        Some(more) if more < MAX_MEMBERS => Some(more as u32 + 1),
-        _ => None,
     }
 }
 

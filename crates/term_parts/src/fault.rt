@@ -2,15 +2,18 @@ ghost use Rattle.std.specs.Prelude.{◌≡◌};
 ghost use Rattle.term_parts.specs.FaultOrder.{is_before, number_of, standing, earlier, held};
 ghost use Rattle.term_parts.specs.Limits.{is_above, limit};
 
+use thiserror::Error;
 use tla_terms::Level;
 use trace_base::Place;
 
 /// What is wrong with the levels in a text.
-#[derive(Clone, Copy, Debug, Drop, PartialEq, Eq)]
+#[derive(Clone, Copy, Debug, Drop, PartialEq, Eq, Error)]
 pub enum LevelFault {
     /// The level of a part, the highest that it may have, and the place of the term that has the part.
+    #[error("too high a level at {2}")]
     TooHigh(Level, Level, Place),
     /// The place of an argument whose parameter stands under a prime.
+    #[error("an argument is primed at {0}")]
     PrimedArgument(Place),
 }
 

@@ -3,3 +3,4 @@ pub mod Reads
 pub mod Outcomes
 pub mod Holds
 pub mod Fails
+pub mod FaultCodes

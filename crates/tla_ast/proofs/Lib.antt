@@ -4,3 +4,7 @@ pub mod Unique
 pub mod Cuts
 pub mod LexedEnds
 mod Pushes
+mod Listed
+pub mod Tables
+pub mod Choices
+pub mod NameLaws

@@ -1,3 +1,4 @@
+pub mod FaultCodes
 pub mod Begun
 pub mod Fits
 pub mod Grammar
@@ -7,6 +8,8 @@ pub mod LitCodes
 pub mod Literals
 pub mod Lits
 pub mod Modules
+pub mod NameTests
+pub mod Names
 pub mod Nests
 pub mod Opens
 pub mod OperatorCodes
@@ -14,9 +17,11 @@ pub mod Precedence
 pub mod Shallower
 pub mod Shapes
 pub mod Spellings
+pub mod Tables
 pub mod Tokens
 pub mod TreeCodes
 pub mod TreeFalls
+pub mod TreeLists
 pub mod TreeSizes
 pub mod TreeViews
 pub mod Trees

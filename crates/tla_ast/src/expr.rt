@@ -1,6 +1,7 @@
 //! Syntax trees of expressions.
 
-ghost use Rattle.std.specs.Prelude.{◌≡◌, IfOk, OnErr, OnOk};
+ghost use Rattle.std.specs.Prelude.{◌≡◌, ◌↔◌, ◌<◌, length, IfOk, OnErr, OnOk, IsSome, option_copied, slice_get};
+ghost use Rattle.tla_ast.specs.TreeLists.{trees_list, operands_list, steps_list, bounds_list, fields_list, changes_list, arms_list, definitions_list};
 ghost use Rattle.tla_ast.specs.Trees.{First, MoreArms, MoreBounds, MoreChanges, MoreDefinitions, MoreFields, MoreSteps, MoreTrees, Next, NoArms, NoBounds, NoChanges, NoDefinitions, NoFields, NoSteps, NoTrees};
 ghost use Rattle.tla_ast.specs.TreeViews.{are_none, steps_are_none, node_view, step_view, trees_of, steps_of, bounds_of, fields_of, changes_of, arms_of, definitions_of, operands_of};
 
@@ -450,6 +451,21 @@ impl Exprs {
         items.is_empty()
     }
 
+    /// How many expressions there are.
+    pub fn len(&self) -> usize
+        ensures { result ≡ length (trees_list self.now) }
+    {
+        self.items.len()
+    }
+
+    /// The expression of that index, from 0.
+    pub fn get(&self, i: usize) -> Option<&Expr>
+        ensures item { option_copied result ≡ slice_get (trees_list self.now) i }
+        ensures within { IsSome result ↔ (i < length (trees_list self.now)) }
+    {
+        self.items.get(i)
+    }
+
     /// The items in their order.
     pub fn items(&self) -> &[Expr]
         ensures { trees_of result.now ≡ self.now }
@@ -485,6 +501,21 @@ impl Steps {
         items.is_empty()
     }
 
+    /// How many steps there are.
+    pub fn len(&self) -> usize
+        ensures { result ≡ length (steps_list self.now) }
+    {
+        self.items.len()
+    }
+
+    /// The step of that index, from 0.
+    pub fn get(&self, i: usize) -> Option<&StepAt>
+        ensures item { option_copied result ≡ slice_get (steps_list self.now) i }
+        ensures within { IsSome result ↔ (i < length (steps_list self.now)) }
+    {
+        self.items.get(i)
+    }
+
     /// The items in their order.
     pub fn items(&self) -> &[StepAt]
         ensures { steps_of result.now ≡ self.now }
@@ -510,6 +541,21 @@ impl Bounds {
     {
         self.items.push(item)?;
         Ok(())
+    }
+
+    /// How many bounds there are.
+    pub fn len(&self) -> usize
+        ensures { result ≡ length (bounds_list self.now) }
+    {
+        self.items.len()
+    }
+
+    /// The bound of that index, from 0.
+    pub fn get(&self, i: usize) -> Option<&Bound>
+        ensures item { option_copied result ≡ slice_get (bounds_list self.now) i }
+        ensures within { IsSome result ↔ (i < length (bounds_list self.now)) }
+    {
+        self.items.get(i)
     }
 
     /// The items in their order.
@@ -539,6 +585,21 @@ impl Fields {
         Ok(())
     }
 
+    /// How many fields there are.
+    pub fn len(&self) -> usize
+        ensures { result ≡ length (fields_list self.now) }
+    {
+        self.items.len()
+    }
+
+    /// The field of that index, from 0.
+    pub fn get(&self, i: usize) -> Option<&Field>
+        ensures item { option_copied result ≡ slice_get (fields_list self.now) i }
+        ensures within { IsSome result ↔ (i < length (fields_list self.now)) }
+    {
+        self.items.get(i)
+    }
+
     /// The items in their order.
     pub fn items(&self) -> &[Field]
         ensures { fields_of result.now ≡ self.now }
@@ -564,6 +625,21 @@ impl Changes {
     {
         self.items.push(item)?;
         Ok(())
+    }
+
+    /// How many changes there are.
+    pub fn len(&self) -> usize
+        ensures { result ≡ length (changes_list self.now) }
+    {
+        self.items.len()
+    }
+
+    /// The change of that index, from 0.
+    pub fn get(&self, i: usize) -> Option<&Change>
+        ensures item { option_copied result ≡ slice_get (changes_list self.now) i }
+        ensures within { IsSome result ↔ (i < length (changes_list self.now)) }
+    {
+        self.items.get(i)
     }
 
     /// The items in their order.
@@ -593,6 +669,21 @@ impl Arms {
         Ok(())
     }
 
+    /// How many arms there are.
+    pub fn len(&self) -> usize
+        ensures { result ≡ length (arms_list self.now) }
+    {
+        self.items.len()
+    }
+
+    /// The arm of that index, from 0.
+    pub fn get(&self, i: usize) -> Option<&Arm>
+        ensures item { option_copied result ≡ slice_get (arms_list self.now) i }
+        ensures within { IsSome result ↔ (i < length (arms_list self.now)) }
+    {
+        self.items.get(i)
+    }
+
     /// The items in their order.
     pub fn items(&self) -> &[Arm]
         ensures { arms_of result.now ≡ self.now }
@@ -618,6 +709,21 @@ impl Definitions {
     {
         self.items.push(item)?;
         Ok(())
+    }
+
+    /// How many definitions there are.
+    pub fn len(&self) -> usize
+        ensures { result ≡ length (definitions_list self.now) }
+    {
+        self.items.len()
+    }
+
+    /// The definition of that index, from 0.
+    pub fn get(&self, i: usize) -> Option<&Definition>
+        ensures item { option_copied result ≡ slice_get (definitions_list self.now) i }
+        ensures within { IsSome result ↔ (i < length (definitions_list self.now)) }
+    {
+        self.items.get(i)
     }
 
     /// The items in their order.
@@ -668,6 +774,27 @@ impl Operands {
     {
         let Operands { first, others } = self;
         (Box::into_inner(first), others)
+    }
+
+    /// How many operands there are.
+    pub fn len(&self) -> usize
+        ensures { result ≡ length (operands_list self.now) }
+    {
+        self.others.len() + 1
+    }
+
+    /// The operand of that index, from 0.
+    pub fn get(&self, i: usize) -> Option<&Expr>
+        ensures item { option_copied result ≡ slice_get (operands_list self.now) i }
+        ensures within { IsSome result ↔ (i < length (operands_list self.now)) }
+    {
+        if i == 0 {
+            return Some(&self.first);
+        }
+        match self.others.get(i - 1) {
+            Some(other) => Some(&other.value),
+            None => None,
+        }
     }
 
     /// The first operand, and those behind it.

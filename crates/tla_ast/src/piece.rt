@@ -1,11 +1,15 @@
 //! The pieces that a text is cut into.
 
+ghost use Rattle.std.specs.Prelude.{◌≡◌};
+ghost use Rattle.tla_ast.specs.FaultCodes.{lex_code};
 ghost use Rattle.tla_ast.specs.Tokens.{OneOutcome, SomeOutcome};
 
 use crate::token::Kind;
+use thiserror::Error;
 
 /// Why a text has no tokens.
-#[derive(Clone, Copy, Debug, Drop, PartialEq, Eq)]
+#[derive(Clone, Copy, Debug, Drop, PartialEq, Eq, Error)]
+#[error("{}", self.code())]
 pub enum LexKind {
     /// The text is no UTF-8. It stands at the first byte behind the longest front that is.
     NotUtf8,
@@ -19,6 +23,22 @@ pub enum LexKind {
     NumberTooLarge,
     /// More than 200,000 tokens; it stands at the first beyond them.
     TooManyTokens,
+}
+
+impl LexKind {
+    /// The code and the name of the refusal.
+    pub fn code(&self) -> &'static str
+        ensures { result.now ≡ lex_code self.now }
+    {
+        match self {
+            LexKind::NotUtf8 => "L1 NotUtf8",
+            LexKind::BadCharacter => "L2 BadCharacter",
+            LexKind::OpenString => "L3 OpenString",
+            LexKind::OpenComment => "L4 OpenComment",
+            LexKind::NumberTooLarge => "L5 NumberTooLarge",
+            LexKind::TooManyTokens => "L6 TooManyTokens",
+        }
+    }
 }
 
 /// What one piece of a text is.

@@ -5,3 +5,4 @@ pub mod Marks
 pub mod Reads
 pub mod Statements
 pub mod Steps
+pub mod FaultCodes

@@ -3,7 +3,7 @@
 ghost use Rattle.std.specs.Prelude.{◌≡◌, ◌∷◌, [], length};
 ghost use Rattle.tla_values.specs.FunctionOperations.{GivesSequence};
 ghost use Rattle.tla_values.specs.Functions.{HasKeyTwice};
-ghost use Rattle.value_ops.specs.Refusals.{refusal_of};
+ghost use Rattle.tla_values.specs.Refusals.{refusal_of};
 ghost use Rattle.tla_eval.specs.Answers.{Tells, placed};
 ghost use Rattle.tla_eval.specs.Functions.{KeyOf};
 ghost use Rattle.tla_eval.specs.Meanings.{FunctionOfAll, SetOfAll};
@@ -11,14 +11,14 @@ ghost use Rattle.tla_eval.specs.Outcomes.{Operated};
 
 use crate::fault::EvalFault;
 use std::alloc::Global;
-use tla_values::{EvalKind, Value, ValueFault};
+use tla_values::{OpFault, Value, ValueFault};
 use trace_base::Place;
 
 /// The set of these values.
-pub fn set_of(alloc: Global, at: Place, values: Vec<Value>) -> Result<Value, EvalFault>
+pub fn set_of(at: Place, values: Vec<Value>) -> Result<Value, EvalFault>
     ensures { Tells result (SetOfAll at values.items) }
 {
-    match Value::make_set(alloc, values) {
+    match Value::make_set(values) {
         Ok(set) => Ok(set),
         Err(fault) => Err(fault_at(at, fault)),
     }
@@ -71,9 +71,8 @@ fn only(values: Vec<Value>) -> Value
 fn fault_at(at: Place, fault: ValueFault) -> EvalFault
     ensures { result ≡ placed (λ n. at) (refusal_of fault) }
 {
-    match fault {
-        ValueFault::TooLarge => EvalFault::Refused(EvalKind::TooLarge, at),
-        ValueFault::TooDeep => EvalFault::Refused(EvalKind::TooDeep, at),
-        ValueFault::KeyTwice | ValueFault::NoMemory => EvalFault::NoMemory,
+    match OpFault::from(fault) {
+        OpFault::Refused(kind, _) => EvalFault::Refused(kind, at),
+        OpFault::NoMemory => EvalFault::NoMemory,
     }
 }

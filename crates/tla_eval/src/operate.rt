@@ -1,6 +1,7 @@
 //! The operators whose operands are all evaluated first, on the values of their operands.
 
 ghost use Rattle.std.specs.Prelude.{◌≡◌, ◌<◌, [], ◌∷◌, Some, length, slice_get, true};
+ghost use Rattle.tla_values.specs.FunctionOperations.{GivesHead};
 ghost use Rattle.tla_values.specs.Integers.{int_operands};
 ghost use Rattle.tla_terms.specs.declared.standard.StandardOperator.TheVariants.{Append, SubSeq};
 ghost use Rattle.tla_eval.specs.Answers.{Tells, arity, is_operation, is_operation_on_one, is_standard_operation, placed_answer};
@@ -159,13 +160,23 @@ fn answer_on_one(alloc: Global, operator: StandardOperator, value: &Value) -> Re
 {
     match operator {
         StandardOperator::Len => value_ops::len_of(value),
-        StandardOperator::Head => value_ops::head(value),
+        StandardOperator::Head => head_answer(value),
         StandardOperator::Tail => value_ops::tail(alloc, value),
         StandardOperator::IsFiniteSet => is_finite_set(value),
         StandardOperator::Cardinality => value_ops::cardinality(value),
         StandardOperator::Append => unreachable!(),
         StandardOperator::SubSeq => unreachable!(),
         StandardOperator::Seq => unreachable!(),
+    }
+}
+
+/// `Head(s)`.
+fn head_answer(sequence: &Value) -> Result<Value, OpFault>
+    ensures { GivesHead sequence.now result }
+{
+    match value_ops::head(sequence) {
+        Ok(first) => Ok(first.copy()?),
+        Err(fault) => Err(fault),
     }
 }
 

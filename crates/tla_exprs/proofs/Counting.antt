@@ -3,7 +3,8 @@ use Rattle.std.proofs.Common.{◌≡◌, ℕ, ◌+◌, ◌≤◌, Bool, List, []
 use Rattle.tla_ast.specs.declared.laid.Laid.{Laid}
 use Rattle.reader_model.specs.declared.frame.Frame.{Frame}
 use Rattle.reader_model.specs.declared.frame.Mode.{Mode}
-use Rattle.tla_exprs.specs.Nesting.{AreOpen, of_frames, of_mode, unfinished}
+use Rattle.open_rows.specs.Unfinished.{of_frames, of_mode, unfinished}
+use Rattle.tla_exprs.specs.Nesting.{AreOpen}
 use Rattle.reader_model.specs.OpenFits.{in_mode}
 use Rattle.reader_model.proofs.FittingEnds.{first_mode}
 use Rattle.tla_exprs.proofs.ReadingModes.{mode_ended}

@@ -11,21 +11,22 @@ use Rattle.tla_ast.specs.Laid.{next_of}
 use Rattle.tla_ast.specs.declared.expr.Definition.{Definition}
 use Rattle.tla_ast.specs.declared.laid.Laid.{Laid}
 use Rattle.tla_ast.specs.Trees.{Tree}
-use Rattle.tla_exprs.specs.Does.{Does}
+use Rattle.open_rows.specs.Does.{Does}
 use Rattle.tla_exprs.specs.Ended.{IsRead}
-use Rattle.tla_exprs.specs.Nesting.{deepest, unfinished}
+use Rattle.open_rows.specs.Unfinished.{unfinished}
+use Rattle.tla_exprs.specs.Nesting.{deepest}
 use Rattle.tla_exprs.specs.Refused.{ShallowIn, IsRefusedAt, Refuses, ShallowUpTo, place_of, refusal_of, refusal_before, refusal_of_kind}
 use Rattle.reader_model.proofs.Paths.{Path}
 use Rattle.tla_exprs.proofs.ShallowRuns.{shallow_on, shallow_there}
 use Rattle.reader_model.specs.Machine.{Stepped, Reads, Stops, Clashes, Ends, EndsDefinition, StopsAt, after, run, step}
 use Rattle.tla_exprs.specs.declared.fault.ParseFault.{ParseFault}
 use Rattle.tla_exprs.specs.declared.fault.ParseFault.TheVariants as faults
-use Rattle.tla_exprs.specs.Kept.{kept_step, kept_run}
+use Rattle.token_steps.specs.Kept.{kept_step, kept_run}
 use Rattle.reader_model.specs.declared.frame.Frame.{Frame}
 use Rattle.reader_model.specs.declared.frame.Mode.{Mode}
 use Rattle.tla_exprs.specs.declared.reader.Ended.TheVariants as ended
-use Rattle.tla_exprs.specs.declared.stepped.Stepped as code
-use Rattle.tla_exprs.specs.declared.stepped.Stepped.TheVariants as codes
+use Rattle.open_rows.specs.declared.stepped.Stepped as code
+use Rattle.open_rows.specs.declared.stepped.Stepped.TheVariants as codes
 
 next_index : (i : ℕ) → suc i ≡ i + 1
 next_index i = omega arith

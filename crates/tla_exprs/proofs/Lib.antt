@@ -1,10 +1,6 @@
 pub mod Ahead
 pub mod Counting
-pub mod JoinedChains
-pub mod KeptCloses
-pub mod KeptFollows
 pub mod KeptRuns
-pub mod NamedFields
 pub mod OpenCounts
 pub mod ReadLaws
 pub mod ReadingBrackets
@@ -17,6 +13,5 @@ pub mod ReadingScopes
 pub mod ReadingStarts
 pub mod ReadingWords
 pub mod RefusedSo
-pub mod SameDoes
 pub mod ShallowRuns
 pub mod UnendedTexts

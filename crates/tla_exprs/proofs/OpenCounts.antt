@@ -3,7 +3,8 @@ use Rattle.std.proofs.Common.{◌≡◌, ℕ, ◌≤◌, Bool, List, [], ◌∷�
 use Rattle.std.proofs.lemmas.List.{append-nil}
 use Rattle.tla_ast.specs.declared.laid.Laid.{Laid}
 use Rattle.reader_model.specs.Machine.{StopsAt, run}
-use Rattle.tla_exprs.specs.Nesting.{AreOpen, IsShallow, AreShallow, deepest, unfinished}
+use Rattle.open_rows.specs.Unfinished.{unfinished}
+use Rattle.tla_exprs.specs.Nesting.{AreOpen, IsShallow, AreShallow, deepest}
 use Rattle.tla_exprs.specs.Refused.{ShallowIn}
 use Rattle.reader_model.specs.declared.frame.Frame.{Frame}
 use Rattle.reader_model.specs.declared.frame.Mode.{Mode}

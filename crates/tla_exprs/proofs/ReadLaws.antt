@@ -6,7 +6,7 @@ use Rattle.tla_ast.specs.declared.token.Kind.TheVariants as kinds
 use Rattle.tla_ast.specs.Fits.{Fits, Spells}
 use Rattle.tla_ast.specs.Grammar.{◌⨟◌, token, DefinitionRest}
 use Rattle.tla_ast.specs.Trees.{Tree}
-use Rattle.tla_exprs.specs.Kept.{kept_run}
+use Rattle.token_steps.specs.Kept.{kept_run}
 use Rattle.tla_exprs.specs.Ended.{IsRead}
 use Rattle.reader_model.specs.declared.frame.Mode.{Mode}
 use Rattle.reader_model.specs.declared.frame.Mode.TheVariants as mode

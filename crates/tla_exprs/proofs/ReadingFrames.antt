@@ -19,7 +19,7 @@ use Rattle.reader_model.specs.declared.frame.Frame.{Frame}
 use Rattle.reader_model.specs.declared.frame.Frame.TheVariants as frame
 use Rattle.reader_model.specs.declared.frame.Mode.TheVariants as mode
 use Rattle.reader_model.specs.Machine.{is_subscript}
-use Rattle.tla_exprs.specs.Nesting.{of_binder, of_frames}
+use Rattle.open_rows.specs.Unfinished.{of_binder, of_frames}
 use Rattle.reader_model.specs.OpenFits.{FrameStands, in_frame, IsOperand, FrameFits, Outermost}
 use Rattle.reader_model.specs.OpenRows.{FrameText}
 use Rattle.reader_model.proofs.Edges.{operand_left}

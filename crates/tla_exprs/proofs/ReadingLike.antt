@@ -12,7 +12,7 @@ use Rattle.reader_model.specs.declared.frame.Binder.TheVariants as binders
 use Rattle.reader_model.specs.declared.frame.Frame.{Frame}
 use Rattle.reader_model.specs.declared.frame.Frame.TheVariants as frame
 use Rattle.reader_model.specs.declared.frame.Mode.TheVariants as mode
-use Rattle.tla_exprs.specs.Nesting.{of_frames}
+use Rattle.open_rows.specs.Unfinished.{of_frames}
 use Rattle.reader_model.specs.OpenFits.{Open, in_binder, in_mode, Top, ScopeFits, BinderFits, Outermost}
 use Rattle.tla_exprs.proofs.ReadingScopes.{ScopeStands, BinderStands}
 use Rattle.tla_exprs.proofs.ReadingStarts.{Inner, Ready, is_ready, enter}

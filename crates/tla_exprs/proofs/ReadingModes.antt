@@ -24,7 +24,7 @@ use Rattle.reader_model.specs.declared.frame.Frame.TheVariants as frame
 use Rattle.reader_model.specs.declared.frame.Mode.{Mode}
 use Rattle.reader_model.specs.declared.frame.Mode.TheVariants as mode
 use Rattle.reader_model.specs.Machine.{Reads, Stops}
-use Rattle.tla_exprs.specs.Nesting.{of_mode, unfinished}
+use Rattle.open_rows.specs.Unfinished.{of_mode, unfinished}
 use Rattle.reader_model.specs.OpenFits.{ModeStands, in_mode, ModeFits, Outermost}
 use Rattle.reader_model.specs.OpenRows.{ModeText}
 use Rattle.reader_model.proofs.Edges.{operand_left}

@@ -13,7 +13,7 @@ use Rattle.tla_ast.specs.Trees.{NoTrees, MoreTrees, Operands, First, Next}
 use Rattle.reader_model.specs.declared.frame.Frame.{Frame}
 use Rattle.reader_model.specs.declared.frame.Frame.TheVariants as frame
 use Rattle.reader_model.specs.declared.frame.Mode.TheVariants as mode
-use Rattle.tla_exprs.specs.Nesting.{of_frame, of_frames}
+use Rattle.open_rows.specs.Unfinished.{of_frame, of_frames}
 use Rattle.reader_model.specs.OpenFits.{FrameStands, FramesStand, Open, in_frame, FrameFits, FramesFit, Outermost}
 use Rattle.reader_model.specs.OpenRows.{FrameText, FramesText}
 use Rattle.reader_model.proofs.FittingEnds.{first_mode}

@@ -17,7 +17,7 @@ use Rattle.reader_model.specs.declared.frame.Scope.TheVariants as scopes
 use Rattle.tla_exprs.specs.declared.reader.Ended.{Ended}
 use Rattle.tla_exprs.specs.declared.reader.Ended.TheVariants as ended
 use Rattle.tla_exprs.specs.Ended.{IsRead, index_of}
-use Rattle.tla_exprs.specs.Kept.{kept_run}
+use Rattle.token_steps.specs.Kept.{kept_run}
 use Rattle.reader_model.specs.LawsOfRefusals.{RanFits, ClashedMeets}
 use Rattle.reader_model.specs.Machine.{Outcome, Stepped, Reads, Stops, Clashes, Ends, EndsDefinition, step, StopsAt, ClashesAt, EndsAt, EndsDefinitionAt, after, run}
 use Rattle.reader_model.specs.Meeting.{Meets}

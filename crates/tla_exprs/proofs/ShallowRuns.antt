@@ -2,7 +2,8 @@
 use Rattle.std.proofs.Common.{◌≤◌, List, [], ◌∷◌, ◌++◌, sym, subst}
 use Rattle.tla_ast.specs.declared.laid.Laid.{Laid}
 use Rattle.reader_model.specs.Machine.{Stepped, Reads, Stops, Clashes, Ends, EndsDefinition, step}
-use Rattle.tla_exprs.specs.Nesting.{deepest, unfinished}
+use Rattle.open_rows.specs.Unfinished.{unfinished}
+use Rattle.tla_exprs.specs.Nesting.{deepest}
 use Rattle.tla_exprs.specs.Refused.{ShallowBehind, ShallowIn}
 use Rattle.reader_model.specs.declared.frame.Frame.{Frame}
 use Rattle.reader_model.specs.declared.frame.Mode.{Mode}

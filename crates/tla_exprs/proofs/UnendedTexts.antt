@@ -21,7 +21,7 @@ use Rattle.reader_model.specs.declared.frame.Frame.{Frame}
 use Rattle.reader_model.specs.declared.frame.Frame.TheVariants as frame
 use Rattle.reader_model.specs.declared.frame.Mode.TheVariants as mode
 use Rattle.reader_model.specs.Beginnings.{DefinitionText}
-use Rattle.tla_exprs.specs.Kept.{kept_run}
+use Rattle.token_steps.specs.Kept.{kept_run}
 use Rattle.reader_model.specs.LawsOfTrees.{EndsText}
 use Rattle.reader_model.specs.Machine.{Outcome, StopsAt, ClashesAt, EndsAt, EndsDefinitionAt, closes, after, run}
 use Rattle.tla_exprs.specs.Refused.{Refuses}

@@ -2,7 +2,7 @@
 use Rattle.std.specs.Prelude.{◌≡◌, ℕ, ◌<◌, List, [], length, drop}
 use Rattle.tla_ast.specs.declared.laid.Laid.{Laid}
 use Rattle.reader_model.specs.Machine.{EndsAt, EndsDefinitionAt}
-use Rattle.tla_exprs.specs.Kept.{kept_run}
+use Rattle.token_steps.specs.Kept.{kept_run}
 use Rattle.tla_exprs.specs.Refused.{ShallowUpTo}
 use Rattle.reader_model.specs.declared.frame.Mode.{Mode}
 use Rattle.tla_exprs.specs.declared.reader.Ended.{Ended}

@@ -1,9 +1,6 @@
-pub mod Does
 pub mod Ended
-pub mod FieldNames
-pub mod Kept
 pub mod Nesting
-pub mod Passes
 pub mod Refusals
 pub mod Refused
 pub mod Unended
+pub mod FaultCodes

@@ -8,8 +8,9 @@ use Rattle.tla_ast.specs.declared.token.Kind.TheVariants as kinds
 use Rattle.tla_ast.specs.declared.token.Token.{Token}
 use Rattle.tla_ast.specs.Laid.{next_of}
 use Rattle.reader_model.specs.Machine.{Stepped, Reads, Stops, Clashes, Ends, EndsDefinition, StopsAt, ClashesAt, run, step}
-use Rattle.tla_exprs.specs.Nesting.{deepest, unfinished}
-use Rattle.tla_exprs.specs.Kept.{kept_run}
+use Rattle.open_rows.specs.Unfinished.{unfinished}
+use Rattle.tla_exprs.specs.Nesting.{deepest}
+use Rattle.token_steps.specs.Kept.{kept_run}
 use Rattle.tla_exprs.specs.declared.fault.ParseFault.{ParseFault}
 use Rattle.tla_exprs.specs.declared.fault.ParseFault.TheVariants.{Expected, Conflict, TooNested, OutOfProfile, NoMemory}
 use Rattle.reader_model.specs.declared.frame.Frame.{Frame}

@@ -1,27 +1,26 @@
 //! The reader of expressions and of definitions.
 
+ghost use Rattle.open_rows.specs.Does.{frames_in};
+ghost use Rattle.open_rows.specs.Unfinished.{unfinished};
 ghost use Rattle.reader_model.specs.Beginnings.{BegunDefinition, FittingBegun, FittingBegunDefinition};
 ghost use Rattle.std.specs.Prelude.{◌≡◌, ◌<◌, IfOk, IfErr, drop, length, nat_lt};
 ghost use Rattle.tla_ast.specs.Begun.{Begun};
 ghost use Rattle.tla_ast.specs.Fits.{Fits, Spells};
 ghost use Rattle.tla_ast.specs.Grammar.{◌⨟◌, DefinitionRest, token};
 ghost use Rattle.tla_ast.specs.declared.token.Kind.TheVariants as kinds;
-ghost use Rattle.tla_exprs.specs.Does.{frames_in};
 ghost use Rattle.tla_exprs.specs.Ended.{IsRead};
-ghost use Rattle.tla_exprs.specs.Nesting.{Shallow, ShallowDefinition, deepest, unfinished};
+ghost use Rattle.tla_exprs.specs.Nesting.{Shallow, ShallowDefinition, deepest};
 ghost use Rattle.tla_exprs.specs.Refusals.{GoesAsFar, IsRefused};
 ghost use Rattle.tla_exprs.specs.Refused.{Refuses};
 ghost use Rattle.tla_exprs.specs.Unended.{EndedDefinition, EndedText, IsUnended};
 
 use crate::fault::ParseFault;
-use crate::nesting::unfinished_at;
 use crate::refusing::{fault_at, place_of};
-use crate::stack::Stack;
-use crate::stepped::Stepped;
-use crate::steps::step;
+use open_rows::{Stack, Stepped, unfinished_at};
 use reader_model::{Mode, Scope};
 use std::alloc::Global;
 use tla_ast::{Definition, Expr, Laid};
+use token_steps::step;
 
 /// How many unfinished constructs a token may stand inside.
 const DEEPEST: u64 = 100;

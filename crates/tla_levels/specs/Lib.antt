@@ -4,3 +4,4 @@ pub mod Refusals
 pub mod Resolved
 pub mod Standing
 pub mod UnitLevels
+pub mod FaultCodes

@@ -1,32 +1,64 @@
 ghost use Rattle.std.specs.Prelude.{◌≡◌};
+ghost use Rattle.tla_levels.specs.FaultCodes.{resolve_code};
 ghost use Rattle.tla_levels.specs.Refusals.{of_level, of_name};
 
 use term_parts::LevelFault;
+use thiserror::Error;
 use tla_names::NameFault;
 use tla_terms::Level;
 use trace_base::{NoMemory, Place, Text};
 
 /// Why a program with its configuration is no specification.
-#[derive(Debug, Drop)]
+#[derive(Debug, Drop, Error)]
 pub enum ResolveFault {
     /// The place of the 65th variable.
+    #[error("{} at {}", self.code(), .0)]
     TooManyVariables(Place),
+    #[error("{} {} at {}", self.code(), .0.as_str(), .1)]
     UnknownName(Text, Place),
     /// A name, how many arguments it has there, and how many it takes.
+    #[error("{} {} at {}", self.code(), .0.as_str(), .3)]
     WrongArity(Text, usize, usize, Place),
     /// A definition that uses itself, at its name.
+    #[error("{} {} at {}", self.code(), .0.as_str(), .1)]
     Recursion(Text, Place),
     /// A constant for which the configuration gives nothing, where it is declared.
+    #[error("{} {} at {}", self.code(), .0.as_str(), .1)]
     NoValue(Text, Place),
     /// The level of a part, the highest that it may have, and the place of the term that has the part.
+    #[error("{} at {}", self.code(), .2)]
     LevelTooHigh(Level, Level, Place),
     /// The place of an argument whose parameter stands under a prime.
+    #[error("{} at {}", self.code(), .0)]
     PrimedArgument(Place),
     /// A name behind INIT, NEXT, SPECIFICATION or `--silent` that no definition without parameters has.
+    #[error("{} {}", self.code(), .0.as_str())]
     NoOperator(Text),
     /// The definition behind SPECIFICATION, whose body is no conjunction that gives Init and Next.
+    #[error("{} at {}", self.code(), .0)]
     NotTheShape(Place),
+    #[error("out of memory")]
     NoMemory,
+}
+
+impl ResolveFault {
+    /// The code and the name of the refusal.
+    pub fn code(&self) -> &'static str
+        ensures { result.now ≡ resolve_code self.now }
+    {
+        match self {
+            ResolveFault::UnknownName(_, _) => "V1 UnknownName",
+            ResolveFault::WrongArity(_, _, _, _) => "V2 WrongArity",
+            ResolveFault::LevelTooHigh(_, _, _) => "V3 LevelTooHigh",
+            ResolveFault::PrimedArgument(_) => "V4 PrimedArgument",
+            ResolveFault::NoValue(_, _) => "V5 NoValue",
+            ResolveFault::NotTheShape(_) => "V6 NotTheShape",
+            ResolveFault::Recursion(_, _) => "V7 Recursion",
+            ResolveFault::TooManyVariables(_) => "V8 TooManyVariables",
+            ResolveFault::NoOperator(_) => "V9 NoOperator",
+            ResolveFault::NoMemory => "",
+        }
+    }
 }
 
 impl From<NoMemory> for ResolveFault {

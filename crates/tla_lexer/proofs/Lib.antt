@@ -1,4 +1,3 @@
-pub mod Tables
 pub mod InComments
 pub mod Quotes
 pub mod Fronts

@@ -7,24 +7,12 @@ use Rattle.trace_base.specs.declared.place.Place.{Place}
 use Rattle.tla_ast.specs.declared.token.Kind.{Kind}
 use Rattle.tla_ast.specs.declared.token.Kind.TheVariants.{End}
 use Rattle.tla_ast.specs.declared.token.Token.{Token}
-use Rattle.tla_ast.specs.Spellings.{Spelling, words, runs, signs}
 use Rattle.tla_ast.specs.Shapes.{after_quote, is_blank, is_digit, is_word_start, is_base, opens_comment, begins_four}
 use Rattle.tla_ast.specs.Tokens.{Outcome, LexedFrom, Tokens, token_at}
 use Rattle.tla_lexer.specs.declared.fault.LexFault.{LexFault}
 use Rattle.tla_lexer.specs.declared.fault.LexFault.TheVariants.{Refused, NoMemory}
 use Rattle.tla_lexer.specs.declared.strings.Quoted.{Quoted}
 use Rattle.tla_lexer.specs.declared.strings.Quoted.TheVariants.{Closed, Broken}
-use Rattle.tla_lexer.specs.declared.spellings.Table.{Table}
-use Rattle.tla_lexer.specs.declared.spellings.Table.TheVariants.{Words, Runs, Signs}
-
-abbrev pub entry_of : Option (Bor (List ℕ) × Kind) → Option Spelling
-entry_of None = None
-entry_of (Some p) = Some (record { bytes = p.0.now; kind = p.1 })
-
-abbrev pub table_of : Table → List Spelling
-table_of Words = words
-table_of Runs = runs
-table_of Signs = signs
 
 -- the bytes are the end of a text of UTF-8
 abbrev pub InUtf8 : List ℕ → Type 0

@@ -1,38 +1,16 @@
 //! The classes of bytes, and runs of them.
 
 ghost use Rattle.std.specs.Prelude.{◌≡◌, ◌≤◌, ◌&&◌, ◌==◌, length};
-ghost use Rattle.std.specs.List.{list_any, prefix_len};
-ghost use Rattle.tla_ast.specs.Shapes.{is_blank, is_digit, is_letter, is_word_start, is_word, is_base, is_dash, is_equal, in_line, begins_fair, begins_four, opens_comment};
+ghost use Rattle.std.specs.List.{prefix_len};
+ghost use Rattle.tla_ast.specs.Shapes.{is_blank, is_digit, is_letter, is_word, is_base, is_dash, is_equal, in_line, begins_four, opens_comment};
 ghost use Rattle.tla_ast.specs.Tokens.{is_space};
+
+use tla_ast::{is_digit, is_letter, is_word};
 
 pub fn is_blank(b: u8) -> bool
     ensures { result ≡ is_blank b }
 {
     b == b' ' || b == b'\t' || b == b'\n' || b == b'\r' || b == 12
-}
-
-pub fn is_digit(b: u8) -> bool
-    ensures { result ≡ is_digit b }
-{
-    48 <= b && b < 58
-}
-
-pub fn is_letter(b: u8) -> bool
-    ensures { result ≡ is_letter b }
-{
-    (65 <= b && b < 91) || (97 <= b && b < 123)
-}
-
-pub fn is_word_start(b: u8) -> bool
-    ensures { result ≡ is_word_start b }
-{
-    is_letter(b) || b == b'_'
-}
-
-pub fn is_word(b: u8) -> bool
-    ensures { result ≡ is_word b }
-{
-    is_word_start(b) || is_digit(b)
 }
 
 /// b, o or h in either case.
@@ -98,22 +76,6 @@ pub fn spaces(text: &[u8]) -> usize
     text.iter()
         .take_while(|b| **b == b' ' || **b == b'\t')
         .count()
-}
-
-pub fn has_letter(word: &[u8]) -> bool
-    ensures { result ≡ list_any is_letter word.now }
-{
-    word.iter().any(|b| is_letter(*b))
-}
-
-/// Whether `WF_` or `SF_` begins the text.
-pub fn begins_fair(text: &[u8]) -> bool
-    ensures { result ≡ begins_fair text.now }
-{
-    match text {
-        [a, b, c, ..] => (*a == b'W' || *a == b'S') && *b == b'F' && *c == b'_',
-        _ => false,
-    }
 }
 
 /// Whether this byte four times begins the text.

@@ -4,13 +4,16 @@ ghost use Rattle.std.specs.Prelude.{◌≡◌};
 ghost use Rattle.tla_lexer.specs.declared.fault.LexFault.TheVariants.{NoMemory};
 
 use std::alloc::{AllocError, AllocFailed};
+use thiserror::Error;
 use tla_ast::LexKind;
 use trace_base::Place;
 
 /// Why a text has no tokens, and where; or memory was wanting.
-#[derive(Clone, Copy, Debug, Drop, PartialEq, Eq)]
+#[derive(Clone, Copy, Debug, Drop, PartialEq, Eq, Error)]
 pub enum LexFault {
+    #[error("{0} at {1}")]
     Refused(LexKind, Place),
+    #[error("out of memory")]
     NoMemory,
 }
 

@@ -7,7 +7,6 @@ mod fault;
 mod lexer;
 mod piece;
 mod places;
-mod spellings;
 mod start;
 mod strings;
 

@@ -7,10 +7,12 @@ ghost use Rattle.tla_lexer.specs.Lexer.{InUtf8, IsOther, IsPlain, begins_base};
 
 use crate::bytes;
 use crate::comments::comment_end;
-use crate::spellings::{Table, kind_of};
 use crate::strings::{Quoted, text_of, unquote};
 use std::alloc::{AllocError, Global};
-use tla_ast::{Kind, LexKind, Shape, Symbol};
+use tla_ast::{
+    Kind, LexKind, Shape, Symbol, Table, begins_fair, has_letter, is_digit, is_letter,
+    is_word_start, kind_of,
+};
 
 /// The number that digits spell.
 fn number(digits: &[u8]) -> Shape
@@ -36,7 +38,7 @@ fn named(alloc: Global, word: &[u8]) -> Result<Shape, AllocError>
     match kind_of(Table::Words, word) {
         Some(kind) => Ok(Shape::Spelled(kind)),
         None => {
-            if bytes::has_letter(word) {
+            if has_letter(word) {
                 Ok(Shape::Spelled(Kind::Name(text_of(alloc, word)?)))
             } else {
                 Ok(Shape::Bad(LexKind::BadCharacter))
@@ -51,7 +53,7 @@ fn word(alloc: Global, text: &[u8]) -> Result<(Shape, usize), AllocError>
     requires first { is_word_start (slice_index text.now 0) ≡ true }
     ensures { IfOk result (λ found. IsPiece text.now found.1 found.0) }
 {
-    if bytes::begins_fair(text) {
+    if begins_fair(text) {
         return Ok((Shape::Spelled(Kind::Fair), 3));
     }
     let size = bytes::words(text);
@@ -80,7 +82,7 @@ fn begins_base(text: &[u8]) -> bool
     ensures { result ≡ begins_base text.now }
 {
     match text {
-        [_, c, d, ..] => bytes::is_base(*c) && bytes::is_digit(*d),
+        [_, c, d, ..] => bytes::is_base(*c) && is_digit(*d),
         _ => false,
     }
 }
@@ -119,7 +121,7 @@ fn backslash(text: &[u8]) -> (Shape, usize)
     if second == b'/' {
         return (Shape::Spelled(Kind::Symbol(Symbol::Or)), 2);
     }
-    if bytes::is_letter(second) {
+    if is_letter(second) {
         return run(text);
     }
     (Shape::Spelled(Kind::Symbol(Symbol::Difference)), 1)
@@ -176,11 +178,11 @@ pub fn piece(alloc: Global, text: &[u8]) -> Result<(Shape, usize), AllocError>
     if bytes::is_blank(first) {
         return Ok((Shape::Blank, 1));
     }
-    if bytes::is_digit(first) {
+    if is_digit(first) {
         let size = bytes::digits(text);
         return Ok((number(&text[..size]), size));
     }
-    if bytes::is_word_start(first) {
+    if is_word_start(first) {
         return word(alloc, text);
     }
     if first == b'"' {

@@ -6,13 +6,14 @@ ghost use Rattle.tla_ast.specs.Shapes.{is_dash};
 ghost use Rattle.tla_ast.specs.Tokens.{begins_word, begins_heading, begins_module, module_start};
 
 use crate::bytes;
+use tla_ast::is_word;
 
 /// Whether a letter, a digit or `_` begins the text.
 fn begins_word(text: &[u8]) -> bool
     ensures { result ≡ begins_word text.now }
 {
     match text {
-        [b, ..] => bytes::is_word(*b),
+        [b, ..] => is_word(*b),
         _ => false,
     }
 }

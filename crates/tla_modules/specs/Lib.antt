@@ -6,3 +6,4 @@ pub mod Paths
 pub mod Refusals
 pub mod Standard
 pub mod Twice
+pub mod FaultCodes

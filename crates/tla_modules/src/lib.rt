@@ -13,3 +13,4 @@ mod twice;
 
 pub use fault::{LoadFault, LoadWhy};
 pub use loading::load;
+pub use path::parts_of;

@@ -21,10 +21,10 @@ pub fn boxed(alloc: Global, term: Term) -> Result<Box<Term>, NoMemory>
     Ok(Box::new(alloc, term)?)
 }
 
-pub fn known_text(alloc: Global, text: &Text) -> Result<TermNode, NoMemory>
+pub fn known_text(text: &Text) -> Result<TermNode, NoMemory>
     ensures { IfOk result (λ n. node_view n ≡ Known (string text.now)) }
 {
-    Ok(TermNode::Known(Value::string(alloc, text.copy()?)?))
+    Ok(TermNode::Known(Value::string(text.copy()?)))
 }
 
 pub fn builtin_set(set: BuiltinSet) -> NamedSet

@@ -140,7 +140,7 @@ fn resolve_row(alloc: Global, walk: &mut Walk<'_>, tree: &Expr) -> Result<TermNo
 {
     match &tree.node {
         Node::Number(number) => Ok(TermNode::Known(Value::int(*number))),
-        Node::Str(text) => Ok(known_text(alloc, text)?),
+        Node::Str(text) => Ok(known_text(text)?),
         Node::Truth(truth) => Ok(TermNode::Known(Value::boolean(*truth))),
         Node::Builtin(set) => Ok(TermNode::Named(builtin_set(*set))),
         Node::Name(name) => use_of(alloc, walk, name, tree.at),

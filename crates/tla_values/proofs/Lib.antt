@@ -4,5 +4,6 @@ pub mod Comparing
 pub mod Entries
 pub mod SetLemmas
 pub mod FunctionLemmas
+pub mod MakingLaws
 pub mod SequenceLemmas
 pub mod Hashing

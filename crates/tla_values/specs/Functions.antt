@@ -94,3 +94,19 @@ OneValueAtKey = (f key v w : Val) → IsValue f → HasPair f key v → HasPair 
 -- a key is in the domain of a function where it has a value there
 abbrev pub DomainByPairs : Type 0
 DomainByPairs = (f key : Val) → InDomain key f ↔ ((v : Val) × HasPair f key v)
+
+-- a key of a value, and what it has there, are values
+abbrev pub PairsAreValues : Type 0
+PairsAreValues = (f key v : Val) → IsValue f → HasPair f key v → IsValue key × IsValue v
+
+-- each key and each value of the pairs is a value
+abbrev pub OfValues : List (Val × Val) → Type 0
+OfValues pairs = (key v : Val) → Contains pairs (key, v) → IsValue key × IsValue v
+
+-- Of pairs no key of which comes twice: there is one function with them, where they are pairs of values, no
+-- more than a function may have, and not too deep; and where they are too many, or too deep, there is none.
+pub record FunctionAnswers (pairs : List (Val × Val)) : Type 0 where
+  pub made : OfValues pairs → ¬ HasKeyTwice pairs → length pairs ≤ max_members → depth (function (pairs_of pairs)) ≤ max_depth → (f : Val) × IsFunctionOf pairs f
+  pub one : (f g : Val) → IsFunctionOf pairs f → IsFunctionOf pairs g → f ≡ g
+  pub not_large : (f : Val) → ¬ HasKeyTwice pairs → IsFunctionOf pairs f → max_members < length pairs → ⊥
+  pub not_deep : (f : Val) → IsFunctionOf pairs f → max_depth < depth (function (pairs_of pairs)) → ⊥

@@ -13,6 +13,8 @@ pub mod Functions
 pub mod FunctionLaws
 pub mod HashInput
 pub mod Integers
+pub mod Refusals
 pub mod SetOperations
 pub mod FunctionOperations
+pub mod FaultCodes
 pub mod Products

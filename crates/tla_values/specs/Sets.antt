@@ -69,3 +69,7 @@ pub record SetAnswers (xs : List Val) : Type 0 where
   pub not_large : (s : Val) → IsSetOf xs s → IsTooLarge xs → ⊥
   pub not_deep : (s : Val) → IsSetOf xs s → IsTooDeep xs → ⊥
   pub not_both : IsTooLarge xs → IsTooDeep xs → ⊥
+
+-- what is a member of a value is a value
+abbrev pub MembersAreValues : Type 0
+MembersAreValues = (s v : Val) → IsValue s → Member v s → IsValue v

@@ -3,25 +3,26 @@ ghost use Rattle.std.specs.Cmp.{partial_equiv_from_equiv};
 ghost use Rattle.std.specs.Cmp.Lexicographic.{slice_cmp};
 ghost use Rattle.std.specs.List.Sorted.{IsBinarySearchResult, IsSearchInRange};
 ghost use Rattle.std.specs.Option.{option_map};
-ghost use Rattle.tla_values.specs.Data.{model, string, integer, truth, function, int_of, bool_of, text_of, Val};
-ghost use Rattle.tla_values.specs.Functions.{Applies, DomainByPairs, FunctionsByPairs, IsSequence, OneValueAtKey, keys_in, pairs_in, sequence_of, values_in};
+ghost use Rattle.tla_values.specs.Data.{model, string, integer, truth, function, depth, int_of, bool_of, text_of, Val};
+ghost use Rattle.tla_values.specs.Functions.{Applies, DomainByPairs, FunctionAnswers, FunctionsByPairs, IsSequence, OneValueAtKey, PairsAreValues, keys_in, pairs_in, sequence_of, values_in};
 ghost use Rattle.tla_values.specs.IsValue.{IsValue};
 ghost use Rattle.tla_values.specs.Kind.{kind_of};
 ghost use Rattle.tla_values.specs.Order.{val_cmp, val_eq, kind_rank};
 ghost use Rattle.tla_values.specs.OrderLaws.{val_total, val_order, val_eq_equiv, val_same};
-ghost use Rattle.tla_values.specs.Sets.{Member, SetAnswers, SetsByMembers, count_of, items_of};
+ghost use Rattle.tla_values.specs.Sets.{Member, MembersAreValues, SetAnswers, SetsByMembers, count_of, items_of};
 ghost use Rattle.tla_values.specs.View.{entries_view, entry_cmp};
 
 use std::alloc::{AllocError, Global};
 use std::cmp::Ordering;
 use std::marker::Model;
+use thiserror::Error;
 use trace_base::Text;
 
 mod hash;
 mod making;
 
 /// What a value is, in the order in which values of unlike kinds stand.
-#[derive(Clone, Copy, Debug, Drop, PartialEq, Eq)]
+#[derive(Clone, Copy, Debug, Drop, PartialEq, Eq, PartialOrd, Ord)]
 pub enum ValueKind {
     Model,
     Bool,
@@ -32,14 +33,18 @@ pub enum ValueKind {
 }
 
 /// Why there is no such set or function, in the order in which it is tested.
-#[derive(Clone, Copy, Debug, Drop, PartialEq, Eq)]
+#[derive(Clone, Copy, Debug, Drop, PartialEq, Eq, Error)]
 pub enum ValueFault {
     /// A function is given one key twice.
+    #[error("a key stands twice")]
     KeyTwice,
     /// More than 100,000 different members, or pairs.
+    #[error("more than 100,000 members")]
     TooLarge,
     /// More than 32 levels.
+    #[error("more than 32 levels")]
     TooDeep,
+    #[error("out of memory")]
     NoMemory,
 }
 
@@ -59,7 +64,7 @@ impl From<AllocError> for ValueFault {
 /// A sequence of length n is the function with the domain `1..n`, and a record the function on its
 /// field names. `levels` is the depth of the value.
 #[cycle(value)]
-#[derive(Drop)]
+#[derive(Debug, Drop)]
 pub struct Value {
     node: Node,
     levels: u8,
@@ -67,7 +72,7 @@ pub struct Value {
 
 /// A value by its kind. The members of a set, and the pairs of a function, stand in ascending order.
 #[cycle(value)]
-#[derive(Drop)]
+#[derive(Debug, Drop)]
 enum Node {
     Model(Text),
     Bool(bool),
@@ -79,7 +84,7 @@ enum Node {
 
 /// A pair of a function: what it is applied to, and its value there.
 #[cycle(value)]
-#[derive(Drop)]
+#[derive(Debug, Drop)]
 struct Entry {
     key: Value,
     value: Value,
@@ -125,27 +130,25 @@ impl Value {
         }
     }
 
-    pub fn string(alloc: Global, text: Text) -> Result<Value, AllocError>
-        ensures { IfOk result (λ v. v ≡ string text) }
+    pub fn string(text: Text) -> Value
+        ensures { result ≡ string text }
     {
-        let _ = alloc;
-        let _ = text.as_str();
-        Ok(Value {
+        text.is_text();
+        Value {
             node: Node::String(text),
             levels: 0,
-        })
+        }
     }
 
     /// The model value of this name.
-    pub fn model(alloc: Global, name: Text) -> Result<Value, AllocError>
-        ensures { IfOk result (λ v. v ≡ model name) }
+    pub fn model(name: Text) -> Value
+        ensures { result ≡ model name }
     {
-        let _ = alloc;
-        let _ = name.as_str();
-        Ok(Value {
+        name.is_text();
+        Value {
             node: Node::Model(name),
             levels: 0,
-        })
+        }
     }
 
     pub fn kind(&self) -> ValueKind
@@ -197,6 +200,13 @@ impl Value {
         ensures { IsValue self.now }
     {
         let _ = &self.node;
+    }
+
+    /// How deep sets and functions stand inside each other in it.
+    pub fn levels(&self) -> u8
+        ensures { result ≡ depth self.now }
+    {
+        self.levels
     }
 
     /// How many members a set, or pairs a function, has, and 0 for all else.
@@ -332,6 +342,13 @@ impl Value {
         ensures one_value { OneValueAtKey }
         ensures domain { DomainByPairs }
         ensures set_answers { (xs : List Val) → SetAnswers xs }
+    {}
+
+    /// What making a function answers, and that what stands in a value is a value.
+    pub fn making_laws()
+        ensures function_answers { (pairs : List (Val × Val)) → FunctionAnswers pairs }
+        ensures members { MembersAreValues }
+        ensures pairs { PairsAreValues }
     {}
 
     /// Whether both are one value.

@@ -1,18 +1,24 @@
 ghost use Rattle.std.specs.Prelude.{◌≡◌, ◌≤◌, List, ℕ, Option, None, length, IfOk, OnOk, OnErr, IsErrOf};
 ghost use Rattle.trace_base.specs.Device.{File, Rose, Opens, Lacks, Takes, Appended, AppendedPart};
 
+use thiserror::Error;
+
 /// A read or a write that failed.
-#[derive(Clone, Copy, Debug, Drop, PartialEq, Eq)]
+#[derive(Clone, Copy, Debug, Drop, PartialEq, Eq, Error)]
+#[error("the device failed")]
 pub struct Failed;
 
 /// Why a file was not opened.
-#[derive(Clone, Copy, Debug, Drop, PartialEq, Eq)]
+#[derive(Clone, Copy, Debug, Drop, PartialEq, Eq, Error)]
 pub enum OpenFault {
     /// There is no file of that name.
+    #[error("no such file")]
     Missing,
     /// The file was not opened, for another cause.
+    #[error("the file was not opened")]
     Failed,
     /// Want of memory, as the host tells.
+    #[error("out of memory")]
     NoMemory,
 }
 

@@ -3,20 +3,25 @@ ghost use Rattle.trace_base.specs.Device.{Rose, Lacks, IsWhole, IsLonger};
 
 use crate::device::{Files, OpenFault};
 use std::alloc::Global;
+use thiserror::Error;
 
 /// How many bytes are asked for at a time.
 const ROOM: usize = 16_384;
 
 /// Why a file was not read.
-#[derive(Clone, Copy, Debug, Drop, PartialEq, Eq)]
+#[derive(Clone, Copy, Debug, Drop, PartialEq, Eq, Error)]
 pub enum ReadFault {
     /// There is no file of that name.
+    #[error("no such file")]
     Missing,
     /// It was not opened, or a read failed.
+    #[error("the device failed")]
     Failed,
     /// It has more bytes than the limit.
+    #[error("the file is too long")]
     TooLong,
     /// Want of memory.
+    #[error("out of memory")]
     NoMemory,
 }
 

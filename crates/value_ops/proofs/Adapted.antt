@@ -27,7 +27,7 @@ use Rattle.value_ops.specs.NoSet.{no_set_from}
 use Rattle.value_ops.proofs.Choosing.{as_many, key_of_zip}
 use Rattle.value_ops.proofs.Intervals.{ascending_ints, in_ints, length-ints}
 use Rattle.value_ops.proofs.Listing.{ascending_different}
-use Rattle.value_ops.proofs.Made.{member_inner}
+use Rattle.value_ops.proofs.Made.{member_inner, sorted_none}
 use Rattle.value_ops.proofs.Taking.{few_items}
 use Rattle.value_ops.proofs.Walking.{first_drop}
 use Rattle.value_ops.proofs.Ways.{of_a_part, value_of_zip, length-chosen}
@@ -69,8 +69,35 @@ domain_is ks vs f key l o = (
   λ h. let w = key_in (zip ks vs) key (subst (λ (js : List Val). Contains js key) (sym (firsts-zip ks vs l)) h) in in_keys (pairs_in f) (key, w.0) ((o.same key w.0).1 w.1),
 )
 
+at_value : (ps : List (Val × Val)) (v : Val) → Contains (map (λ p. p.1) ps) v → (key : Val) × Contains ps (key, v)
+at_value [] v g = absurd (none_in v g)
+at_value (r ∷ rs) v g = elim (cons_cases r.1 (map (λ s. s.1) rs) v g) [
+  | inl e ↦ (r.0, subst (λ (w : Val). Contains (r ∷ rs) (r.0, w)) e (head_in r rs))
+  | inr i ↦ let w = at_value rs v i in (w.0, tail_in r rs (w.0, v) w.1)
+]
+
+-- the members of a value ascend
+items_ascending : (d : Val) → IsValue d → IsStrictlySortedBy val_cmp (items_of d)
+items_ascending (set vs) p = p.canonical.0.ascending
+items_ascending (model s) p = sorted_none val_cmp
+items_ascending (truth s) p = sorted_none val_cmp
+items_ascending (integer s) p = sorted_none val_cmp
+items_ascending (string s) p = sorted_none val_cmp
+items_ascending (function s) p = sorted_none val_cmp
+
+-- a function on the members of d
+pub function_choice : (d c : Val) → IsValue d → (f : Val) → InFunctionSet d c f → IsChoice (items_of d) (replicate (length (items_of d)) c) f
+function_choice d c p f (valid, is_function, domain, range) =
+    let ks : keys_in f ≡ items_of d = ascending_unique val_cmp val_total (keys_in f) (items_of d) (keys_ordered f valid is_function).ascending (items_ascending d p) domain in
+    let l : length (values_in f) ≡ length (items_of d) = halves_length (pairs_in f) ∙ ap (λ js. length js) ks in
+    let pairs : zip (items_of d) (values_in f) ≡ pairs_in f = ap (λ js. zip js (values_in f)) (sym ks) ∙ zip_halves (pairs_in f) in (
+      values_in f,
+      subst (λ n. AreOneOfEach (values_in f) (replicate n c)) l (all_of_one (values_in f) c (λ v g. let w = at_value (pairs_in f) v g in range w.0 v w.1)),
+      record { valid = valid; is_function = is_function; same = λ key v. subst (λ (ps : List (Val × Val)). Contains (pairs_in f) (key, v) ↔ Contains ps (key, v)) (sym pairs) (λ g. g, λ g. g) },
+    )
+
 pub in_function_set : (d c f : Val) → IsValue d → IsSet d → IsValue c → IsSet c → IsChoice (items_of d) (replicate (length (items_of d)) c) f ↔ InFunctionSet d c f
-in_function_set d c f p h q k = (there, back)
+in_function_set d c f p h q k = (there, function_choice d c p f)
   where
     there : IsChoice (items_of d) (replicate (length (items_of d)) c) f → InFunctionSet d c f
     there (vs, one, o) =
@@ -82,23 +109,6 @@ in_function_set d c f p h q k = (there, back)
               let w = of_a_part (replicate (length (items_of d)) c) vs v one (value_of_zip (items_of d) vs (key, v) ((o.same key v).0 g)) in
               subst (λ (s : Val). Member v s) (sym (in_replicate (length (items_of d)) c w.0 w.1)) w.2,
         )
-
-    back : InFunctionSet d c f → IsChoice (items_of d) (replicate (length (items_of d)) c) f
-    back (valid, is_function, domain, range) =
-        let ks : keys_in f ≡ items_of d = ascending_unique val_cmp val_total (keys_in f) (items_of d) (keys_ordered f valid is_function).ascending (ordered d p h).ascending domain in
-        let l : length (values_in f) ≡ length (items_of d) = halves_length (pairs_in f) ∙ ap (λ js. length js) ks in
-        let pairs : zip (items_of d) (values_in f) ≡ pairs_in f = ap (λ js. zip js (values_in f)) (sym ks) ∙ zip_halves (pairs_in f) in (
-          values_in f,
-          subst (λ n. AreOneOfEach (values_in f) (replicate n c)) l (all_of_one (values_in f) c (λ v g. let w = at_value (pairs_in f) v g in range w.0 v w.1)),
-          record { valid = valid; is_function = is_function; same = λ key v. subst (λ (ps : List (Val × Val)). Contains (pairs_in f) (key, v) ↔ Contains ps (key, v)) (sym pairs) (λ g. g, λ g. g) },
-        )
-      where
-        at_value : (ps : List (Val × Val)) (v : Val) → Contains (map (λ p. p.1) ps) v → (key : Val) × Contains ps (key, v)
-        at_value [] v g = absurd (none_in v g)
-        at_value (r ∷ rs) v g = elim (cons_cases r.1 (map (λ s. s.1) rs) v g) [
-          | inl e ↦ (r.0, subst (λ (w : Val). Contains (r ∷ rs) (r.0, w)) e (head_in r rs))
-          | inr i ↦ let w = at_value rs v i in (w.0, tail_in r rs (w.0, v) w.1)
-        ]
 
 -- of several sets, each has its own key
 pub on_all_sets : (n : ℕ) (ps : List Val) (Q : Result Val OpFault → Type 0) (r : Result Val OpFault) → no_set_from n ps ≡ None → Q r → OnAllSets n ps Q r

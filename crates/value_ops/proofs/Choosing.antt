@@ -11,7 +11,8 @@ use Rattle.tla_values.specs.FunctionLaws.{in_keys}
 use Rattle.tla_values.specs.Products.{AreOneOfEach}
 use Rattle.tla_values.specs.SetOperations.{AreDifferent}
 use Rattle.tla_values.specs.Sets.{items_of}
-use Rattle.value_ops.specs.Choices.{ways, choice}
+use Rattle.value_ops.specs.Choices.{choice}
+use Rattle.value_ops.specs.Counts.{ways}
 
 -- what stands at two places of a list in which nothing stands twice
 pub get_same : {X : Type 0} (xs : List X) (i j : ℕ) (d : X) → AreDifferent xs → i < length xs → j < length xs → get_or xs i d ≡ get_or xs j d → i ≡ j

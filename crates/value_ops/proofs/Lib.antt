@@ -11,5 +11,7 @@ pub mod Ways
 pub mod Taking
 pub mod Adapted
 pub mod Subsets
-pub mod Joining
+pub mod Counting
+pub mod Deep
+pub mod OtherKeys
 pub mod Shallow

@@ -18,10 +18,10 @@ use Rattle.tla_values.specs.declared.value.ValueFault.TheVariants.{KeyTwice, Too
 use Rattle.tla_values.specs.declared.fault.EvalKind.TheVariants.{NotBoolean, NotInteger, NotSet, NotFunction, NotSequence, OutsideDomain, Overflow, BadDivisor, BadPower, NoChoice, NoCase, EmptySequence, BadRange, TooLarge, TooDeep, Nested, NotFinite}
 use Rattle.tla_values.specs.declared.fault.OpFault.{OpFault}
 use Rattle.tla_values.specs.declared.fault.OpFault.TheVariants.{Refused, NoMemory}
-use Rattle.value_ops.specs.Refusals.{refusal_of}
+use Rattle.tla_values.specs.Refusals.{refusal_of}
 
 -- a value in a list as deep as the list
-deepest_in : (vs : List Val) (n : ℕ) → suc n ≤ vals_depth (vals_of vs) → (v : Val) × Contains vs v × (suc n ≤ depth v)
+pub deepest_in : (vs : List Val) (n : ℕ) → suc n ≤ vals_depth (vals_of vs) → (v : Val) × Contains vs v × (suc n ≤ depth v)
 deepest_in [] n h = absurd (omega arith)
 deepest_in (v ∷ vs) n h = elim (either (depth v) (vals_depth (vals_of vs)) n h) [
   | inl l ↦ (v, head_in v vs, l)

@@ -20,7 +20,7 @@ use Rattle.tla_values.specs.FunctionLaws.{key_cmp, key_total, keys_ascending, ke
 use Rattle.tla_values.specs.declared.value.ValueFault.{ValueFault}
 use Rattle.tla_values.specs.declared.value.ValueFault.TheVariants.{KeyTwice, TooLarge as LargeValue, TooDeep as DeepValue, NoMemory as NoRoom}
 use Rattle.value_ops.specs.Choices.{AreNumbered, ArePairs, IsInner}
-use Rattle.value_ops.specs.Refusals.{refusal_of}
+use Rattle.tla_values.specs.Refusals.{refusal_of}
 
 -- ascending lists
 all_from : {X : Type 0} (P : X → Type 0) (xs : List X) → ((w : X) → Contains xs w → P w) → AllByRecursion P xs

@@ -17,7 +17,7 @@ use Rattle.tla_values.specs.declared.value.ValueFault.TheVariants.{KeyTwice, Too
 use Rattle.tla_values.specs.declared.fault.EvalKind.TheVariants.{NotBoolean, NotInteger, NotSet, NotFunction, NotSequence, OutsideDomain, Overflow, BadDivisor, BadPower, NoChoice, NoCase, EmptySequence, BadRange, TooLarge, TooDeep, Nested, NotFinite}
 use Rattle.tla_values.specs.declared.fault.OpFault.{OpFault}
 use Rattle.tla_values.specs.declared.fault.OpFault.TheVariants.{Refused, NoMemory}
-use Rattle.value_ops.specs.Refusals.{refusal_of}
+use Rattle.tla_values.specs.Refusals.{refusal_of}
 use Rattle.value_ops.specs.Among.{among}
 use Rattle.value_ops.specs.Changes.{replaced}
 use Rattle.value_ops.proofs.Merging.{contains_has, has_contains}

@@ -1,17 +1,17 @@
 -- From a list of values to their sequence, and the values of a part.
 use Rattle.std.proofs.Common.{◌≡◌, inl, inr, ℕ, zero, suc, ◌+◌, ◌<◌, ◌≤◌, List, [], ◌∷◌, ◌++◌, length, map, take, drop, Result, Err, ap, sym, ◌∙◌, subst, refl, arith, None, Some}
 use Rattle.std.specs.List.{slice_get}
-use Rattle.std.proofs.lemmas.List.{take_more}
+use Rattle.std.proofs.lemmas.List.{take_all, take_more}
 use Rattle.std.proofs.lemmas.Option.{slice_get_within, get_or_from_slice_get, slice_get_cases}
 use Rattle.tla_values.specs.Data.{Val}
-use Rattle.tla_values.specs.Functions.{IsSequence, MakesSequence, values_in}
+use Rattle.tla_values.specs.Functions.{IsSequence, MakesSequence, keys_in, values_in}
 use Rattle.tla_values.specs.FunctionOperations.{GivesSequence, GivesRest}
 use Rattle.tla_values.specs.Data.{model, truth, integer, string, set, function, entries}
 use Rattle.tla_values.specs.Sets.{count_of}
 use Rattle.tla_values.specs.declared.value.ValueFault.{ValueFault}
 use Rattle.tla_values.specs.declared.value.ValueFault.TheVariants.{KeyTwice, TooLarge as LargeValue, TooDeep as DeepValue, NoMemory as NoRoom}
 use Rattle.tla_values.specs.declared.fault.OpFault.{OpFault}
-use Rattle.value_ops.specs.Refusals.{refusal_of}
+use Rattle.tla_values.specs.Refusals.{refusal_of}
 
 pub refuses_sequence : (vs : List Val) (f : ValueFault) → MakesSequence vs (Err f) → GivesSequence vs (Err (refusal_of f))
 refuses_sequence vs KeyTwice m = absurd m
@@ -42,9 +42,28 @@ part_none xs from i h e = elim (slice_get_cases xs i).1 [
   | inr g ↦ absurd (omega (arith, g.0))
 ]
 
+pub take_none : (xs : List Val) (i : ℕ) → slice_get xs i ≡ None → take (i + 1) xs ≡ take i xs
+take_none xs i e = elim (slice_get_cases xs i).1 [
+  | inl g ↦ let f : None ≡ Some g.0 = sym e ∙ g.2 in cc
+  | inr g ↦ take_all (i + 1) xs (omega (arith, g.0)) ∙ sym (take_all i xs (omega (arith, g.0)))
+]
+
 length-map : (ps : List (Val × Val)) → length (map (λ p. p.1) ps) ≡ length ps
 length-map [] = refl
 length-map (p ∷ ps) = ap suc (length-map ps)
+
+length-keys : (ps : List (Val × Val)) → length (map (λ p. p.0) ps) ≡ length ps
+length-keys [] = refl
+length-keys (p ∷ ps) = ap suc (length-keys ps)
+
+-- a function has as many keys as pairs, and all else has none
+pub count_keys : (f : Val) → length (keys_in f) ≤ count_of f
+count_keys (function ps) = omega (arith, length-keys (entries ps))
+count_keys (model s) = omega arith
+count_keys (truth s) = omega arith
+count_keys (integer s) = omega arith
+count_keys (string s) = omega arith
+count_keys (set s) = omega arith
 
 -- a sequence has as many values as pairs
 pub count_is : (s : Val) → IsSequence s → count_of s ≡ length (values_in s)

@@ -18,7 +18,7 @@ use Rattle.tla_values.specs.declared.value.ValueFault.{ValueFault}
 use Rattle.tla_values.specs.declared.value.ValueFault.TheVariants.{KeyTwice, TooLarge as LargeValue, TooDeep as DeepValue, NoMemory as NoRoom}
 use Rattle.value_ops.specs.Among.{among}
 use Rattle.value_ops.specs.Choices.{AreNumbered, IsInner}
-use Rattle.value_ops.specs.Refusals.{refusal_of}
+use Rattle.tla_values.specs.Refusals.{refusal_of}
 use Rattle.value_ops.specs.Subsets.{AreMembers, IsSubsetOf, subset}
 use Rattle.value_ops.specs.Walk.{when}
 use Rattle.value_ops.proofs.Choosing.{quotient_below, digits_below, low_digit, high_digits, same_digits}
@@ -203,7 +203,7 @@ same_subset xs j k s a h g m n = subset_same xs j k (ascending_different val_cmp
 is_subset : (a : Val) (k : ℕ) (s : Val) → IsSubsetOf (items_of a) k s → InPowerset a s
 is_subset a k s o = (o.valid, o.is_set, λ w h. subset_in (items_of a) k w ((o.same w).0 h))
 
-numbered_subset : (a s : Val) → InPowerset a s → (k : ℕ) × (k < 2 ^ length (items_of a)) × IsSubsetOf (items_of a) k s
+pub numbered_subset : (a s : Val) → InPowerset a s → (k : ℕ) × (k < 2 ^ length (items_of a)) × IsSubsetOf (items_of a) k s
 numbered_subset a s p =
     let passes = among (items_of s) in (
       number passes (items_of a),
@@ -218,7 +218,7 @@ numbered_subset a s p =
       },
     )
 
-one_subset : (xs : List Val) (k : ℕ) (s t : Val) → IsSubsetOf xs k s → IsSubsetOf xs k t → s ≡ t
+pub one_subset : (xs : List Val) (k : ℕ) (s t : Val) → IsSubsetOf xs k s → IsSubsetOf xs k t → s ≡ t
 one_subset xs k s t m n = same_members s t m.valid n.valid m.is_set n.is_set (λ v. (λ h. (n.same v).1 ((m.same v).0 h), λ h. (m.same v).1 ((n.same v).0 h)))
 
 pub all_subsets : (a : Val) (vs : List Val) → AreNumbered (IsSubsetOf (items_of a)) (2 ^ length (items_of a)) vs → (s : Val) → Contains vs s ↔ InPowerset a s

@@ -8,7 +8,8 @@ use Rattle.tla_values.specs.Data.{Val, model, truth, integer, string, set, funct
 use Rattle.tla_values.specs.IsValue.{IsValue}
 use Rattle.tla_values.specs.Ascending.{cons_cases, head_in, none_in}
 use Rattle.tla_values.specs.Sets.{items_of}
-use Rattle.value_ops.specs.Choices.{AreNumbered, choice, ways}
+use Rattle.value_ops.specs.Choices.{AreNumbered, choice}
+use Rattle.value_ops.specs.Counts.{ways}
 use Rattle.value_ops.proofs.Choosing.{some_left, quotient_below}
 use Rattle.value_ops.proofs.Walking.{first_drop}
 

@@ -13,7 +13,8 @@ use Rattle.tla_values.specs.SetOperations.{AreDifferent, AreTooMany}
 use Rattle.tla_values.specs.Functions.{IsFunctionOf}
 use Rattle.tla_values.specs.FunctionLaws.{functions_by_pairs}
 use Rattle.tla_values.specs.Products.{AreOneOfEach}
-use Rattle.value_ops.specs.Choices.{AreNumbered, ArePairs, AreKeysAndParts, IsChoice, IsChoiceOf, choice, ways}
+use Rattle.value_ops.specs.Choices.{AreNumbered, ArePairs, AreKeysAndParts, IsChoice, IsChoiceOf, choice}
+use Rattle.value_ops.specs.Counts.{ways}
 use Rattle.value_ops.proofs.Choosing.{choice_each, way_of, way_same, as_many, key_of_zip, beside_same}
 use Rattle.value_ops.proofs.Listing.{ascending_different}
 use Rattle.value_ops.proofs.Made.{function_exists, member_inner, numbered_as, numbered_too_many}
@@ -60,7 +61,7 @@ same_way keys parts a j k f h g m n =
     (beside_same keys (choice parts j) (choice parts k) a.different (length-chosen keys parts (choice parts j) a (choice_each parts j h)) (length-chosen keys parts (choice parts k) a (choice_each parts k g))
     (λ r i. (n.same r.0 r.1).0 ((m.same r.0 r.1).1 i)))
 
-one_function : (ps : List (Val × Val)) (f g : Val) → IsFunctionOf ps f → IsFunctionOf ps g → f ≡ g
+pub one_function : (ps : List (Val × Val)) (f g : Val) → IsFunctionOf ps f → IsFunctionOf ps g → f ≡ g
 one_function ps f g m n = functions_by_pairs f g m.valid n.valid m.is_function n.is_function (λ key v. (λ h. (n.same key v).1 ((m.same key v).0 h), λ h. (m.same key v).1 ((n.same key v).0 h)))
 
 -- the functions of all ways

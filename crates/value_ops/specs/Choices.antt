@@ -1,6 +1,6 @@
 -- One member of each of several sets at once, in all ways, which are numbered from 0: for helpers of the
 -- large sets.
-use Rattle.std.specs.Prelude.{ℕ, ◌≡◌, ◌*◌, ◌/◌, ◌%◌, ◌<◌, ◌≤◌, List, [], ◌∷◌, length, map, Contains}
+use Rattle.std.specs.Prelude.{ℕ, ◌≡◌, ◌⊎◌, ◌/◌, ◌%◌, ◌<◌, ◌≤◌, List, [], ◌∷◌, length, map, Contains}
 use Rattle.std.specs.List.{zip}
 use Rattle.std.proofs.Common.{get_or}
 use Rattle.tla_values.specs.Data.{Val, depth}
@@ -9,11 +9,6 @@ use Rattle.tla_values.specs.Sets.{IsSet, items_of}
 use Rattle.tla_values.specs.Functions.{IsFunctionOf}
 use Rattle.tla_values.specs.SetOperations.{AreDifferent}
 use Rattle.tla_values.specs.Products.{AreOneOfEach}
-
--- in how many ways there is one member of each part
-abbrev pub ways : List Val → ℕ
-ways [] = 1
-ways (p ∷ ps) = length (items_of p) * ways ps
 
 -- the members in the way of this number
 abbrev pub choice : List Val → ℕ → List Val
@@ -46,6 +41,14 @@ pub record AreKeysAndParts (keys parts : List Val) : Type 0 where
   pub inner : (k : Val) → Contains keys k → IsInner k
   pub valid : (p : Val) → Contains parts p → IsValue p
   pub sets : (p : Val) → Contains parts p → IsSet p
+
+-- one of the values is so deep
+abbrev pub HasDeep : ℕ → List Val → Type 0
+HasDeep levels vs = (v : Val) × Contains vs v × (levels ≤ depth v)
+
+-- a key is 31 deep, or a part 32 and hence a member of it 31: a function with it is 32 deep
+abbrev pub AreDeep : List Val → List Val → Type 0
+AreDeep keys parts = HasDeep 31 keys ⊎ HasDeep 32 parts
 
 -- pairs of a function: no key comes twice, they are few, and all may stand in another value
 pub record ArePairs (pairs : List (Val × Val)) : Type 0 where

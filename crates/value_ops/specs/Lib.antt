@@ -1,9 +1,9 @@
 pub mod Checked
-pub mod Refusals
 pub mod Walk
 pub mod Changes
 pub mod Among
 pub mod Listed
+pub mod Counts
 pub mod Choices
 pub mod Subsets
 pub mod PartList

@@ -1,4 +1,6 @@
-ghost use Rattle.std.specs.Prelude.{◌≡◌, ◌++◌, Contains, IfOk, MatchResult, OnOk, [], ◌∷◌, if◌then◌else◌, map};
+ghost use Rattle.std.specs.Prelude.{◌≡◌, ◌++◌, Contains, IfOk, MatchResult, OnOk, [], ◌∷◌, map};
+ghost use Rattle.std.specs.List.Sorted.{IsStrictlySortedBy};
+ghost use Rattle.std.specs.Result.{result_map_both};
 ghost use Rattle.tla_values.specs.FunctionOperations.{
   AppliesAt,
   Excepts,
@@ -9,17 +11,16 @@ ghost use Rattle.tla_values.specs.FunctionOperations.{
   MapsOne,
   Merges,
 };
-ghost use Rattle.tla_values.specs.Functions.{HasKeyTwice, InDomain, IsFunction, keys_in, pairs_in};
-ghost use Rattle.tla_values.specs.Order.{val_eq};
+ghost use Rattle.tla_values.specs.Functions.{HasKeyTwice, InDomain, IsFunction, keys_in};
+ghost use Rattle.tla_values.specs.Order.{val_cmp};
 ghost use Rattle.tla_values.specs.declared.fault.EvalKind.TheVariants.{NotFunction};
 ghost use Rattle.tla_values.specs.declared.fault.OpFault.TheVariants.{Refused};
 ghost use Rattle.value_ops.specs.Among.{among};
-ghost use Rattle.value_ops.specs.Changes.{joined, replaced};
+ghost use Rattle.value_ops.specs.Changes.{outside, replaced};
 
 use crate::THE_TERM;
-use crate::sets::{refusal, set_from};
+use crate::sets::set_from;
 use std::alloc::{AllocError, Global};
-use std::cmp::Ordering;
 use tla_values::{EvalKind, OpFault, Value, ValueKind};
 
 /// `DOMAIN f`.
@@ -28,16 +29,16 @@ pub fn domain(alloc: Global, f: &Value) -> Result<Value, OpFault>
 {
     expect_function(f, 0)?;
     let keys = keys_of(alloc, f)?;
-    set_from(alloc, keys)
+    set_from(keys)
 }
 
-/// `f[key]`.
-pub fn apply_at(f: &Value, key: &Value) -> Result<Value, OpFault>
-    ensures { AppliesAt f.now key.now result }
+/// `f[key]`, which stands in `f`.
+pub fn apply_at<'a>(f: &'a Value, key: &Value) -> Result<&'a Value, OpFault>
+    ensures { AppliesAt f.now key.now (result_map_both (λ v. v.now) (λ e. e) result) }
 {
     expect_function(f, 0)?;
     match f.apply(key) {
-        Some(value) => Ok(value.copy()?),
+        Some(value) => Ok(value),
         None => Err(OpFault::Refused(EvalKind::OutsideDomain, THE_TERM)),
     }
 }
@@ -59,9 +60,9 @@ pub fn merge(alloc: Global, f: &Value, g: &Value) -> Result<Value, OpFault>
     g.is_value();
     expect_function(f, 0)?;
     expect_function(g, 1)?;
-    let ours = f.pairs(alloc)?;
+    let mut pairs = f.pairs(alloc)?;
     let theirs = g.pairs(alloc)?;
-    let pairs = join(alloc, ours.as_slice(), theirs.as_slice())?;
+    push_outside(&mut pairs, f, theirs)?;
     function_from(alloc, pairs)
 }
 
@@ -71,17 +72,18 @@ pub fn except_one(alloc: Global, f: &Value, key: &Value, new: Value) -> Result<V
 {
     expect_function(f, 0)?;
     if is_in_domain(f, key) {
-        return excepted(alloc, f, key, &new);
+        return excepted(alloc, f, key, new);
     }
     kept(f)
 }
 
-fn excepted(alloc: Global, f: &Value, key: &Value, new: &Value) -> Result<Value, OpFault>
+fn excepted(alloc: Global, f: &Value, key: &Value, new: Value) -> Result<Value, OpFault>
     requires { InDomain key.now f.now }
-    ensures { GivesFunction (InExcept f.now key.now new.now) result }
+    ensures { GivesFunction (InExcept f.now key.now new) result }
 {
     f.is_value();
-    let pairs = replace(alloc, f, key, new)?;
+    let mut pairs = f.pairs(alloc)?;
+    replace(&mut pairs, key, new);
     function_from(alloc, pairs)
 }
 
@@ -108,7 +110,7 @@ fn function_from(alloc: Global, pairs: Vec<(Value, Value)>) -> Result<Value, OpF
 {
     match Value::make_function(alloc, pairs) {
         Ok(function) => Ok(function),
-        Err(fault) => Err(refusal(fault)),
+        Err(fault) => Err(OpFault::from(fault)),
     }
 }
 
@@ -116,9 +118,13 @@ fn function_from(alloc: Global, pairs: Vec<(Value, Value)>) -> Result<Value, OpF
 fn keys_of(alloc: Global, f: &Value) -> Result<Vec<Value>, AllocError>
     ensures { IfOk result (λ keys. keys.items ≡ keys_in f.now) }
 {
-    let mut keys = Vec::new(alloc);
-    for (key, _value) in f.pairs(alloc)? {
-        keys.push(key)?;
+    let count = f.len();
+    let mut keys = Vec::with_capacity(alloc, count)?;
+    for i in 0..count {
+        let key = f.key_at(i)?;
+        if let Some(key) = key {
+            keys.push(key)?;
+        }
     }
     Ok(keys)
 }
@@ -136,48 +142,31 @@ pub(crate) fn push_pair(
     Ok(())
 }
 
-/// The pairs of both lists in ascending order, those of the first where both have the key.
-fn join(
-    alloc: Global,
-    fs: &[(Value, Value)],
-    gs: &[(Value, Value)],
-) -> Result<Vec<(Value, Value)>, AllocError>
-    ensures { IfOk result (λ pairs. pairs.items ≡ joined fs.now gs.now) }
-{
-    let mut all = Vec::new(alloc);
-    let mut i: usize = 0;
-    let mut j: usize = 0;
-    while i < fs.len() && j < gs.len() {
-        let f = &fs[i];
-        let g = &gs[j];
-        match f.0.cmp(&g.0) {
-            Ordering::Less => {
-                push_pair(&mut all, &f.0, &f.1)?;
-                i += 1;
-            }
-            Ordering::Equal => {
-                push_pair(&mut all, &f.0, &f.1)?;
-                i += 1;
-                j += 1;
-            }
-            Ordering::Greater => {
-                push_pair(&mut all, &g.0, &g.1)?;
-                j += 1;
-            }
-        }
-    }
-    push_pairs(&mut all, &fs[i..])?;
-    push_pairs(&mut all, &gs[j..])?;
-    Ok(all)
-}
-
-/// Adds a copy of each pair.
-fn push_pairs(pairs: &mut Vec<(Value, Value)>, more: &[(Value, Value)]) -> Result<(), AllocError>
-    ensures { OnOk result (pairs.new.items ≡ pairs.old.items ++ more.now) }
+/// Adds those of the pairs whose key is not in the domain of the function.
+fn push_outside(
+    pairs: &mut Vec<(Value, Value)>,
+    f: &Value,
+    more: Vec<(Value, Value)>,
+) -> Result<(), AllocError>
+    ensures { OnOk result (pairs.new.items ≡ pairs.old.items ++ outside (keys_in f.now) more.items) }
 {
     for pair in more {
-        push_pair(pairs, &pair.0, &pair.1)?;
+        push_if_outside(pairs, f, pair)?;
     }
+    Ok(())
+}
+
+fn push_if_outside(
+    pairs: &mut Vec<(Value, Value)>,
+    f: &Value,
+    pair: (Value, Value),
+) -> Result<(), AllocError>
+    ensures { OnOk result (pairs.new.items ≡ pairs.old.items ++ outside (keys_in f.now) (pair ∷ [])) }
+{
+    if is_in_domain(f, &pair.0) {
+        return Ok(());
+    }
+    pairs.push(pair)?;
     Ok(())
 }
 
@@ -188,29 +177,16 @@ fn is_in_domain(f: &Value, key: &Value) -> bool
     f.apply(key).is_some()
 }
 
-/// A copy of the pairs, with another value at the key.
-fn replace(
-    alloc: Global,
-    f: &Value,
-    key: &Value,
-    new: &Value,
-) -> Result<Vec<(Value, Value)>, AllocError>
-    ensures { IfOk result (λ pairs. pairs.items ≡ map (replaced key.now new.now) (pairs_in f.now)) }
+/// Puts another value beside the key, which comes once at most.
+fn replace(pairs: &mut Vec<(Value, Value)>, key: &Value, new: Value)
+    requires { IsStrictlySortedBy val_cmp (map (λ p. p.0) pairs.old.items) }
+    ensures { pairs.new.items ≡ map (replaced key.now new) pairs.old.items }
 {
-    let mut pairs = Vec::new(alloc);
-    for (at, old) in f.pairs(alloc)? {
-        let value = instead(&at, key, new, old)?;
-        pairs.push((at, value))?;
+    for i in 0..pairs.len() {
+        let pair = &mut pairs[i];
+        if &pair.0 == key {
+            pair.1 = new;
+            return;
+        }
     }
-    Ok(pairs)
-}
-
-/// The value of a pair, or a copy of the new one if it has the key.
-fn instead(at: &Value, key: &Value, new: &Value, old: Value) -> Result<Value, AllocError>
-    ensures { IfOk result (λ v. v ≡ (if val_eq at.now key.now then new.now else old)) }
-{
-    if at == key {
-        return new.copy();
-    }
-    Ok(old)
 }

@@ -12,9 +12,9 @@ mod sets;
 pub use functions::{apply_at, domain, except_one, merge, single};
 pub use integers::{add, at_most, div, division_law, less, modulo, mul, negate, power, sub};
 pub use listings::{big_union, interval};
-pub use products::{depth_law, function_set, powerset, product, record_set, records, tuples};
+pub use products::{
+    count_law, depth_law, function_set, powerset, product, record_set, records, tuples,
+};
 pub use sequences::{append, concat, head, len_of, subseq, tail};
 pub use sets::{cardinality, intersect, minus, union};
-
-/// In a fault, the number that stands for the whole term in place of an operand.
-const THE_TERM: u8 = 255;
+pub use tla_values::{EvalKind, OpFault, THE_TERM};

@@ -27,20 +27,20 @@ pub fn big_union(alloc: Global, a: &Value) -> Result<Value, OpFault>
         return Err(OpFault::Refused(EvalKind::NotSet, 0));
     }
     let all = all_members(alloc, a.members())?;
-    set_from(alloc, all)
+    set_from(all)
 }
 
 fn between(alloc: Global, first: i64, last: i64) -> Result<Value, OpFault>
     ensures { GivesSet (InInterval first last) result }
 {
     if first > last {
-        return set_from(alloc, Vec::new(alloc));
+        return set_from(Vec::new(alloc));
     }
     let Some(count) = count_between(first, last) else {
         return Err(OpFault::Refused(EvalKind::TooLarge, THE_TERM));
     };
     let members = integers(alloc, first, count)?;
-    set_from(alloc, members)
+    set_from(members)
 }
 
 /// How many integers there are from the first to the last, unless they are more than a set may have.

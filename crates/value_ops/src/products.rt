@@ -1,4 +1,4 @@
-ghost use Rattle.std.specs.Prelude.{◌≡◌, ◌++◌, ◌<◌, ◌≤◌, ◌^◌, [], ◌∷◌, Contains, IfOk, MatchOption, MatchResult, OnOk, get_or, length, map};
+ghost use Rattle.std.specs.Prelude.{◌≡◌, ◌++◌, ◌<◌, ◌≤◌, ◌^◌, [], ◌∷◌, Contains, IfOk, MatchBool, MatchOption, MatchResult, OnOk, get_or, length, map};
 ghost use Rattle.std.specs.List.{zip};
 ghost use Rattle.tla_values.specs.Data.{Val, string};
 ghost use Rattle.tla_values.specs.FunctionOperations.{GivesValue};
@@ -18,12 +18,21 @@ ghost use Rattle.tla_values.specs.SetOperations.{AreDifferent, GivesSet, ListsSu
 ghost use Rattle.tla_values.specs.Sets.{IsSetOf, items_of};
 ghost use Rattle.tla_values.specs.declared.fault.OpFault.TheVariants.{NoMemory};
 ghost use Rattle.value_ops.specs.Choices.{
+  AreDeep,
   AreKeysAndParts,
   AreNumbered,
   ArePairs,
+  HasDeep,
   IsChoice,
   IsChoiceOf,
   choice,
+};
+ghost use Rattle.value_ops.specs.Counts.{
+  FunctionsAreCounted,
+  RecordsAreCounted,
+  SubsetsAreCounted,
+  SubsetsAreFew,
+  TuplesAreCounted,
   ways,
 };
 ghost use Rattle.tla_values.specs.IsValue.{IsValue};
@@ -34,13 +43,16 @@ ghost use Rattle.value_ops.specs.Subsets.{AreMembers, IsSubsetOf, subset};
 use crate::THE_TERM;
 use crate::functions::push_pair;
 use crate::listings::integers;
-use crate::sets::{expect_set, push_if, refusal, set_from};
+use crate::sets::{expect_set, push_if, set_from};
 use std::alloc::{AllocError, Global};
 use tla_values::{EvalKind, OpFault, Value};
 use trace_base::Text;
 
 /// How many members a set may have.
 const MAX_MEMBERS: usize = 100_000;
+
+/// How deep a value may be.
+const MAX_DEPTH: u8 = 32;
 
 /// The sets of which functions have their values: the same set for so many keys, or one for each key.
 #[derive(Clone, Copy, Drop)]
@@ -60,8 +72,12 @@ pub fn powerset(alloc: Global, a: &Value) -> Result<Value, OpFault>
     if members.len() > 16 {
         return Err(OpFault::Refused(EvalKind::TooLarge, THE_TERM));
     }
+    // It is a subset of itself, and the deepest.
+    if a.levels() >= MAX_DEPTH {
+        return Err(OpFault::Refused(EvalKind::TooDeep, THE_TERM));
+    }
     let subsets = all_subsets(alloc, members, 1 << members.len())?;
-    set_from(alloc, subsets)
+    set_from(subsets)
 }
 
 /// The sets of some of the members, of which there are `count`.
@@ -73,7 +89,7 @@ fn all_subsets(alloc: Global, members: &[Value], count: usize) -> Result<Vec<Val
     let mut subsets = Vec::new(alloc);
     for number in 0..count {
         let some = some_of(alloc, members, number)?;
-        let subset = subset_from(alloc, some)?;
+        let subset = subset_from(some)?;
         push_value(&mut subsets, subset)?;
     }
     Ok(subsets)
@@ -93,13 +109,13 @@ fn some_of(alloc: Global, members: &[Value], number: usize) -> Result<Vec<Value>
 }
 
 /// The set of values that are in ascending order already.
-fn subset_from(alloc: Global, members: Vec<Value>) -> Result<Value, OpFault>
+fn subset_from(members: Vec<Value>) -> Result<Value, OpFault>
     requires { AreMembers members.items }
     ensures { GivesValue (IsSetOf members.items) result }
 {
-    match Value::make_set(alloc, members) {
+    match Value::make_set(members) {
         Ok(subset) => Ok(subset),
-        Err(fault) => Err(refusal(fault)),
+        Err(fault) => Err(OpFault::from(fault)),
     }
 }
 
@@ -172,14 +188,22 @@ pub fn depth_law()
     ensures records { RecordsAreValues }
 {}
 
+/// How many sets, functions, tuples and records these calls list at most.
+pub fn count_law()
+    ensures subsets { SubsetsAreCounted }
+    ensures few_subsets { SubsetsAreFew }
+    ensures functions { FunctionsAreCounted }
+    ensures tuples { TuplesAreCounted }
+    ensures records { RecordsAreCounted }
+{}
+
 /// The names as strings.
 fn strings(alloc: Global, names: &[Text]) -> Result<Vec<Value>, AllocError>
     ensures { IfOk result (λ keys. keys.items ≡ map string names.now) }
 {
     let mut keys = Vec::new(alloc);
     for name in names {
-        let key = Value::string(alloc, name.copy()?)?;
-        keys.push(key)?;
+        keys.push(Value::string(name.copy()?))?;
     }
     Ok(keys)
 }
@@ -212,14 +236,17 @@ fn functions_on(alloc: Global, keys: &[Value], parts: Parts) -> Result<Value, Op
     let Some(count) = count_ways(keys, parts) else {
         return Err(OpFault::Refused(EvalKind::TooLarge, THE_TERM));
     };
+    if count > 0 && are_deep(keys, parts) {
+        return Err(OpFault::Refused(EvalKind::TooDeep, THE_TERM));
+    }
     let functions = all_functions(alloc, keys, parts, count)?;
-    set_from(alloc, functions)
+    set_from(functions)
 }
 
 /// In how many ways there is one member of each part, unless they are more than a set may have.
 fn count_ways(keys: &[Value], parts: Parts) -> Option<usize>
     requires { AreKeysAndParts keys.now (part_list parts) }
-    ensures { MatchOption result (100000 < ways (part_list parts.entry)) (λ n. n ≡ ways (part_list parts.entry)) }
+    ensures { MatchOption result (100000 < ways (part_list parts.entry)) (λ n. (n ≡ ways (part_list parts.entry)) × (n ≤ 100000)) }
 {
     let mut count: usize = 1;
     for i in 0..keys.len() {
@@ -238,6 +265,37 @@ fn limited(n: usize) -> usize
     ensures many { 100000 < n → result ≡ 100001 }
 {
     n.min(MAX_MEMBERS + 1)
+}
+
+/// Whether a function with one of the keys, or with a member of one of the parts, is too deep for a set.
+fn are_deep(keys: &[Value], parts: Parts) -> bool
+    ensures { MatchBool result (AreDeep keys.now (part_list parts.entry)) (¬ AreDeep keys.now (part_list parts.entry)) }
+{
+    if has_deep(keys, MAX_DEPTH - 1) {
+        return true;
+    }
+    has_deep_part(parts)
+}
+
+fn has_deep_part(parts: Parts) -> bool
+    ensures { MatchBool result (HasDeep 32 (part_list parts.entry)) (¬ HasDeep 32 (part_list parts.entry)) }
+{
+    match parts {
+        Parts::Same(part, count) => count > 0 && part.levels() >= MAX_DEPTH,
+        Parts::Each(parts) => has_deep(parts, MAX_DEPTH),
+    }
+}
+
+/// Whether one of the values is so deep.
+fn has_deep(values: &[Value], levels: u8) -> bool
+    ensures { MatchBool result (HasDeep levels values.now) (¬ HasDeep levels values.now) }
+{
+    for v in values {
+        if v.levels() >= levels {
+            return true;
+        }
+    }
+    false
 }
 
 /// The members of the part at `i`.
@@ -309,7 +367,7 @@ fn function_of(alloc: Global, pairs: Vec<(Value, Value)>) -> Result<Value, OpFau
 {
     match Value::make_function(alloc, pairs) {
         Ok(function) => Ok(function),
-        Err(fault) => Err(refusal(fault)),
+        Err(fault) => Err(OpFault::from(fault)),
     }
 }
 

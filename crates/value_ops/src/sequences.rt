@@ -1,4 +1,5 @@
 ghost use Rattle.std.specs.Prelude.{◌≡◌, ◌++◌, ◌≤◌, MatchResult, OnOk, [], ◌∷◌, drop, length, take};
+ghost use Rattle.std.specs.Result.{result_map_both};
 ghost use Rattle.tla_values.specs.FunctionOperations.{
   Appends,
   Concatenates,
@@ -14,7 +15,6 @@ ghost use Rattle.tla_values.specs.declared.fault.EvalKind.TheVariants.{NotSequen
 ghost use Rattle.tla_values.specs.declared.fault.OpFault.TheVariants.{Refused};
 
 use crate::THE_TERM;
-use crate::sets::refusal;
 use std::alloc::{AllocError, Global};
 use tla_values::{EvalKind, OpFault, Value};
 
@@ -27,13 +27,13 @@ pub fn len_of(s: &Value) -> Result<Value, OpFault>
     Ok(Value::int(s.len() as i64))
 }
 
-/// `Head(s)`.
-pub fn head(s: &Value) -> Result<Value, OpFault>
-    ensures { GivesHead s.now result }
+/// `Head(s)`, which stands in `s`.
+pub fn head<'a>(s: &'a Value) -> Result<&'a Value, OpFault>
+    ensures { GivesHead s.now (result_map_both (λ v. v.now) (λ e. e) result) }
 {
     expect_sequence(s, 0)?;
     match s.value_at(0) {
-        Some(value) => Ok(value.copy()?),
+        Some(value) => Ok(value),
         None => Err(OpFault::Refused(EvalKind::EmptySequence, THE_TERM)),
     }
 }
@@ -122,7 +122,7 @@ fn sequence_from(alloc: Global, values: Vec<Value>) -> Result<Value, OpFault>
 {
     match Value::sequence(alloc, values) {
         Ok(sequence) => Ok(sequence),
-        Err(fault) => Err(refusal(fault)),
+        Err(fault) => Err(OpFault::from(fault)),
     }
 }
 

@@ -10,13 +10,11 @@ ghost use Rattle.tla_values.specs.SetOperations.{
 ghost use Rattle.tla_values.specs.Sets.{IsSet, items_of};
 ghost use Rattle.tla_values.specs.declared.fault.EvalKind.TheVariants.{NotSet};
 ghost use Rattle.tla_values.specs.declared.fault.OpFault.TheVariants.{Refused};
-ghost use Rattle.value_ops.specs.Refusals.{refusal_of};
 ghost use Rattle.value_ops.specs.Walk.{merged, when};
 
-use crate::THE_TERM;
 use std::alloc::{AllocError, Global};
 use std::cmp::Ordering;
-use tla_values::{EvalKind, OpFault, Value, ValueFault, ValueKind};
+use tla_values::{EvalKind, OpFault, Value, ValueKind};
 
 /// Which values of two lists are kept: those in the left one alone, in both, in the right one alone.
 #[derive(Clone, Copy, Drop)]
@@ -40,7 +38,7 @@ pub fn union(alloc: Global, a: &Value, b: &Value) -> Result<Value, OpFault>
         right: true,
     };
     let members = walk(alloc, a.members(), b.members(), keep)?;
-    set_from(alloc, members)
+    set_from(members)
 }
 
 /// `a \cap b`.
@@ -57,7 +55,7 @@ pub fn intersect(alloc: Global, a: &Value, b: &Value) -> Result<Value, OpFault>
         right: false,
     };
     let members = walk(alloc, a.members(), b.members(), keep)?;
-    set_from(alloc, members)
+    set_from(members)
 }
 
 /// `a \ b`.
@@ -74,7 +72,7 @@ pub fn minus(alloc: Global, a: &Value, b: &Value) -> Result<Value, OpFault>
         right: false,
     };
     let members = walk(alloc, a.members(), b.members(), keep)?;
-    set_from(alloc, members)
+    set_from(members)
 }
 
 /// How many members the set has.
@@ -97,23 +95,12 @@ pub(crate) fn expect_set(a: &Value, operand: u8) -> Result<(), OpFault>
 }
 
 /// The set of these values.
-pub(crate) fn set_from(alloc: Global, members: Vec<Value>) -> Result<Value, OpFault>
+pub(crate) fn set_from(members: Vec<Value>) -> Result<Value, OpFault>
     ensures { GivesSet (Contains members.items) result }
 {
-    match Value::make_set(alloc, members) {
+    match Value::make_set(members) {
         Ok(set) => Ok(set),
-        Err(fault) => Err(refusal(fault)),
-    }
-}
-
-/// What an operation is refused for where its value can not be made.
-pub(crate) fn refusal(fault: ValueFault) -> OpFault
-    ensures { result ≡ refusal_of fault }
-{
-    match fault {
-        ValueFault::TooLarge => OpFault::Refused(EvalKind::TooLarge, THE_TERM),
-        ValueFault::TooDeep => OpFault::Refused(EvalKind::TooDeep, THE_TERM),
-        ValueFault::KeyTwice | ValueFault::NoMemory => OpFault::NoMemory,
+        Err(fault) => Err(OpFault::from(fault)),
     }
 }
 

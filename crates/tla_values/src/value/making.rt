@@ -25,10 +25,9 @@ const MAX_DEPTH: u8 = 32;
 
 impl Value {
     /// The set of these values, of which repeats are dropped.
-    pub fn make_set(alloc: Global, members: Vec<Value>) -> Result<Value, ValueFault>
+    pub fn make_set(members: Vec<Value>) -> Result<Value, ValueFault>
         ensures { MakesSet members.items result }
     {
-        let _ = alloc;
         let mut members = members;
         members.sort_unstable();
         members.dedup();
@@ -175,7 +174,7 @@ fn pairs_from(alloc: Global, fields: Vec<(Text, Value)>) -> Result<Vec<(Value, V
 {
     let mut pairs = Vec::with_capacity(alloc, fields.len())?;
     for (name, value) in fields {
-        pairs.push((Value::string(alloc, name)?, value))?;
+        pairs.push((Value::string(name), value))?;
     }
     Ok(pairs)
 }

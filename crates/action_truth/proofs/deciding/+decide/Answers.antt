@@ -54,7 +54,7 @@ decide_part-decide_row-requires t c =
     let same : c.args.depth ≡ suc (c.args.depth - 1) = omega (arith, c.if-depth-eq0.false) in
     let slots : length c.args.pair.scene.slots.now ≡ length (at c.args.pair).slots = sym (length-map c.args.pair.scene.slots.now value) in
     let row : form_of (place_of (part_term q)) c.row_of-row.result ≡ form (setting s) (length c.args.pair.scene.slots.now) (part_term q) =
-    subst (λ (g : Setting). form_of (place_of (part_term q)) c.row_of-row.result ≡ form g (length c.args.pair.scene.slots.now) (part_term q)) c.stage_of.ensures c.row_of-row.ensures in
+    subst (λ (g : Setting). form_of (place_of (part_term q)) c.row_of-row.result ≡ form g (length c.args.pair.scene.slots.now) (part_term q)) c.stage_of.ensures.setting c.row_of-row.ensures in
     (omega (arith, c.if-depth-eq0.false, c.decreases), (few, (row ∙ ap (λ (n : ℕ). form (setting s) n (part_term q)) slots, (c.requires.0, grounded_at (setting s) d (suc (d - 1)) (at s).next (at s) (part_term q) same c.requires.1))))
 
 pub decide_part-returns : goal.decide_part-returns

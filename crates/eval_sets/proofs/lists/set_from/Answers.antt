@@ -6,4 +6,4 @@ use Rattle.value_ops.proofs.Listing.{refuses_set}
 use Rattle.eval_sets.proofs.lists.set_from.Goals as goal
 
 pub returns-in-Err : goal.returns-in-Err
-returns-in-Err c = subst (λ (e : OpFault). GivesSet (Contains c.args.members.items) (Err e)) (sym c.refusal.ensures) (refuses_set c.args.members.items c.in-Err.fault c.in-Err.ensures)
+returns-in-Err c = subst (λ (e : OpFault). GivesSet (Contains c.args.members.items) (Err e)) (sym c.from.ensures) (refuses_set c.args.members.items c.in-Err.fault c.in-Err.ensures)

@@ -1,5 +1,5 @@
 use Rattle.std.proofs.Common.{arith}
-use Rattle.tla_exprs.specs.Does.{frames_in}
+use Rattle.open_rows.specs.Does.{frames_in}
 use Rattle.tla_exprs.proofs.KeptRuns.{few_enough, too_many, read_more, read_too_deep, read_on, read_ends, read_defines, last_read, read_stops, read_clashes, read_short}
 use Rattle.tla_exprs.proofs.reader.read.Goals as goal
 

@@ -1,6 +1,6 @@
 use Rattle.std.proofs.Common.{◌≡◌, []}
-use Rattle.tla_exprs.specs.Does.{frames_in}
-use Rattle.tla_exprs.specs.Kept.{kept_run}
+use Rattle.open_rows.specs.Does.{frames_in}
+use Rattle.token_steps.specs.Kept.{kept_run}
 use Rattle.tla_exprs.proofs.KeptRuns.{LastBefore, ReadUpTo}
 use Rattle.tla_exprs.proofs.reader.read.Given as goal
 

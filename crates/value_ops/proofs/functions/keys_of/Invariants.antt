@@ -1,5 +1,6 @@
-use Rattle.std.proofs.Common.{◌≡◌, map}
+use Rattle.std.proofs.Common.{◌≡◌, take}
+use Rattle.tla_values.specs.Functions.{keys_in}
 use Rattle.value_ops.proofs.functions.keys_of.Given as goal
 
-abbrev pub invariant-loop-key : goal.invariant-loop-key
-invariant-loop-key l = l.keys.items ≡ map (λ p. p.0) l.yielded
+abbrev pub invariant-loop-i : goal.invariant-loop-i
+invariant-loop-i l = l.keys.items ≡ take l.i (keys_in l.f)

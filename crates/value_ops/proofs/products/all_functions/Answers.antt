@@ -1,7 +1,8 @@
 use Rattle.std.proofs.Common.{◌<◌, ◌+◌, List, subst, sym, arith}
 use Rattle.tla_values.specs.Data.{Val}
 use Rattle.tla_values.specs.Functions.{IsFunctionOf}
-use Rattle.value_ops.specs.Choices.{AreNumbered, ArePairs, IsChoiceOf, choice, ways}
+use Rattle.value_ops.specs.Choices.{AreNumbered, ArePairs, IsChoiceOf, choice}
+use Rattle.value_ops.specs.Counts.{ways}
 use Rattle.value_ops.specs.PartList.{part_list}
 use Rattle.value_ops.proofs.Choosing.{choice_each}
 use Rattle.value_ops.proofs.Taking.{numbered_push}

@@ -1,6 +1,7 @@
 use Rattle.std.proofs.Common.{◌≡◌, ◌++◌, ◌<◌, drop}
 use Rattle.std.specs.List.{zip}
-use Rattle.value_ops.specs.Choices.{choice, ways}
+use Rattle.value_ops.specs.Choices.{choice}
+use Rattle.value_ops.specs.Counts.{ways}
 use Rattle.value_ops.specs.PartList.{part_list}
 use Rattle.value_ops.proofs.products.chosen.Given as goal
 

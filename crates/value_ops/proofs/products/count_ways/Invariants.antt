@@ -1,5 +1,5 @@
 use Rattle.std.proofs.Common.{take}
-use Rattle.value_ops.specs.Choices.{ways}
+use Rattle.value_ops.specs.Counts.{ways}
 use Rattle.value_ops.specs.PartList.{part_list}
 use Rattle.value_ops.proofs.Taking.{IsLimited}
 use Rattle.value_ops.proofs.products.count_ways.Given as goal

@@ -1,7 +1,9 @@
-use Rattle.std.proofs.Common.{refl, subst}
+use Rattle.std.proofs.Common.{◌<◌, ◌≤◌, arith, refl, subst}
 use Rattle.std.specs.List.{Contains}
-use Rattle.value_ops.specs.Choices.{AreNumbered, IsChoice, IsChoiceOf, ways}
+use Rattle.value_ops.specs.Choices.{AreNumbered, IsChoice, IsChoiceOf}
+use Rattle.value_ops.specs.Counts.{ways}
 use Rattle.value_ops.specs.PartList.{part_list}
+use Rattle.value_ops.proofs.Deep.{deep_choices}
 use Rattle.value_ops.proofs.Listing.{gives_as}
 use Rattle.value_ops.proofs.Ways.{all_ways, too_many_ways}
 use Rattle.value_ops.proofs.products.functions_on.Goals as goal
@@ -9,10 +11,18 @@ use Rattle.value_ops.proofs.products.functions_on.Goals as goal
 pub returns-in_default : goal.returns-in_default
 returns-in_default c = (refl, too_many_ways c.args.keys.now (part_list c.args.parts) c.requires c.in_default.ensures)
 
+pub returns-then-are_deep : goal.returns-then-are_deep
+returns-then-are_deep c =
+    let ks = c.args.keys.now in
+    let ps = part_list c.args.parts in
+    let few : ways ps ≤ 100000 = omega (arith, c.in-Some.ensures.0, c.in-Some.ensures.1) in
+    let some : 0 < ways ps = omega (arith, c.in-Some.ensures.0, c.if-count-gt0.true) in
+    deep_choices ks ps c.requires few some c.if-are_deep.ensures
+
 pub returns : goal.returns
 returns c =
     let ks = c.args.keys.now in
     let ps = part_list c.args.parts in
     let fs = c.in_ok-functions.functions.items in
-    let all : AreNumbered (IsChoiceOf ks ps) (ways ps) fs = subst (λ n. AreNumbered (IsChoiceOf ks ps) n fs) c.in-Some.ensures c.in_ok-functions.ensures in
+    let all : AreNumbered (IsChoiceOf ks ps) (ways ps) fs = subst (λ n. AreNumbered (IsChoiceOf ks ps) n fs) c.in-Some.ensures.0 c.in_ok-functions.ensures in
     gives_as (Contains fs) (IsChoice ks ps) c.set_from.result (all_ways ks ps fs c.requires all) c.set_from.ensures

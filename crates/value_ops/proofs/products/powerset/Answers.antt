@@ -1,14 +1,15 @@
-use Rattle.std.proofs.Common.{◌≡◌, ◌<◌, ◌*◌, ◌%◌, ◌^◌, ℕ, List, Result, Err, length, ap, refl, subst, sym, arith}
+use Rattle.std.proofs.Common.{◌≡◌, ◌<◌, ◌≤◌, ◌*◌, ◌%◌, ◌^◌, ℕ, List, Result, Err, length, ap, refl, subst, sym, arith}
 use Rattle.std.specs.List.{Contains}
 use Rattle.std.proofs.lemmas.Nat.{one_shl}
-use Rattle.tla_values.specs.Data.{Val}
+use Rattle.tla_values.specs.Data.{Val, depth}
 use Rattle.tla_values.specs.SetOperations.{GivesSet, InPowerset}
 use Rattle.tla_values.specs.Sets.{items_of}
-use Rattle.tla_values.specs.declared.fault.EvalKind.TheVariants.{TooLarge}
+use Rattle.tla_values.specs.declared.fault.EvalKind.TheVariants.{TooDeep, TooLarge}
 use Rattle.tla_values.specs.declared.fault.OpFault.{OpFault}
 use Rattle.tla_values.specs.declared.fault.OpFault.TheVariants.{Refused}
 use Rattle.value_ops.specs.Choices.{AreNumbered}
 use Rattle.value_ops.specs.Subsets.{AreMembers, IsSubsetOf}
+use Rattle.value_ops.proofs.Deep.{deep_subsets}
 use Rattle.value_ops.proofs.Listing.{gives_as, on_set}
 use Rattle.value_ops.proofs.Subsets.{all_subsets, set_members, too_many_subsets}
 use Rattle.value_ops.proofs.products.powerset.Goals as goal
@@ -20,6 +21,15 @@ returns-then-members-gt16 c =
     let is_set = c.in_ok-expect_set.ensures in
     let many : 16 < length (items_of a) = omega (arith, ap (λ (xs : List Val). length xs) c.members-members.ensures) in
     on_set a (GivesSet (InPowerset a)) r is_set (refl, too_many_subsets a c.is_value.ensures is_set many)
+
+pub returns-then-levels-ge-MAX_DEPTH : goal.returns-then-levels-ge-MAX_DEPTH
+returns-then-levels-ge-MAX_DEPTH c =
+    let a = c.args.a.now in
+    let r : Result Val OpFault = Err (Refused TooDeep 255) in
+    let is_set = c.in_ok-expect_set.ensures in
+    let few : length (items_of a) ≤ 16 = omega (arith, ap (λ (xs : List Val). length xs) c.members-members.ensures) in
+    let deep : 32 ≤ depth a = omega (arith, c.levels.ensures) in
+    on_set a (GivesSet (InPowerset a)) r is_set (deep_subsets a c.is_value.ensures is_set few deep)
 
 pub all_subsets-requires-clause-fit : goal.all_subsets-requires-clause-fit
 all_subsets-requires-clause-fit c = subst (λ (xs : List Val). AreMembers xs) (sym c.members-members.ensures) (set_members c.args.a.now c.is_value.ensures c.in_ok-expect_set.ensures)

@@ -6,4 +6,4 @@ use Rattle.value_ops.proofs.Subsets.{refuses_no_subset}
 use Rattle.value_ops.proofs.products.subset_from.Goals as goal
 
 pub returns-in-Err : goal.returns-in-Err
-returns-in-Err c = subst (λ (e : OpFault). GivesValue (IsSetOf c.args.members.items) (Err e)) (sym c.refusal.ensures) (refuses_no_subset c.args.members.items c.in-Err.fault c.requires c.in-Err.ensures)
+returns-in-Err c = subst (λ (e : OpFault). GivesValue (IsSetOf c.args.members.items) (Err e)) (sym c.from.ensures) (refuses_no_subset c.args.members.items c.in-Err.fault c.requires c.in-Err.ensures)

@@ -5,4 +5,4 @@ use Rattle.value_ops.proofs.Parts.{refuses_sequence}
 use Rattle.value_ops.proofs.sequences.sequence_from.Goals as goal
 
 pub returns-in-Err : goal.returns-in-Err
-returns-in-Err c = subst (λ (e : OpFault). GivesSequence c.args.values.items (Err e)) (sym c.refusal.ensures) (refuses_sequence c.args.values.items c.in-Err.fault c.in-Err.ensures)
+returns-in-Err c = subst (λ (e : OpFault). GivesSequence c.args.values.items (Err e)) (sym c.from.ensures) (refuses_sequence c.args.values.items c.in-Err.fault c.in-Err.ensures)

@@ -1,0 +1,4 @@
+pub mod KeptCloses
+pub mod KeptFollows
+pub mod NamedFields
+pub mod SameDoes
