@@ -11,6 +11,3 @@ pub use laws::json_laws;
 pub use printing::to_json;
 pub use reading::from_json;
 pub use spelling::push_json;
-
-#[cfg(test)]
-mod tests;

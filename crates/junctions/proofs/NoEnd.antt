@@ -1,6 +1,6 @@
 -- Lists with no End.
 use Rattle.std.proofs.Common.{◌≡◌, false, List, [], ◌∷◌, ◌++◌}
-use Rattle.tla_ast.specs.declared.token.Token.{Token}
+use Rattle.tla_tokens.specs.declared.token.Token.{Token}
 use Rattle.tla_ast.specs.Opens.{is_end}
 use Rattle.tla_ast.specs.Laid.{NoEnd}
 

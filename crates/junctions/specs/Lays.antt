@@ -1,7 +1,7 @@
 -- The contract of `lay`.
 use Rattle.std.specs.Prelude.{List, Result, Ok, Err, Vec}
 use Rattle.std.specs.declared.alloc.Global.{Global}
-use Rattle.tla_ast.specs.declared.token.Token.{Token}
+use Rattle.tla_tokens.specs.declared.token.Token.{Token}
 use Rattle.tla_ast.specs.declared.laid.Laid.{Laid}
 use Rattle.tla_ast.specs.Laid.{IsLaid, IsLeftOfList}
 use Rattle.junctions.specs.declared.fault.LayFault.{LayFault}

@@ -1,6 +1,6 @@
 -- What the marking of one token adds, in terms of whatever is marked behind it.
 use Rattle.std.specs.Prelude.{◌≡◌, true, List, [], ◌∷◌, ◌++◌, Option, Some}
-use Rattle.tla_ast.specs.declared.token.Token.{Token}
+use Rattle.tla_tokens.specs.declared.token.Token.{Token}
 use Rattle.tla_ast.specs.declared.laid.Laid.{Laid}
 use Rattle.tla_ast.specs.Opens.{is_end}
 use Rattle.tla_ast.specs.Laid.{tokens_of, next_of, Stands, Marked}

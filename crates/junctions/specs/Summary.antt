@@ -1,7 +1,7 @@
 -- What the tests of a token ask of all that is open, kept beside each open list and construct.
 use Rattle.std.specs.Prelude.{ℕ, Bool, true, false, ◌&&◌, ◌==◌, nat_le, if◌then◌else◌, is_some, [], ◌∷◌, Option, Some, None}
-use Rattle.tla_ast.specs.declared.token.Kind.{Kind}
-use Rattle.tla_ast.specs.declared.token.Token.{Token}
+use Rattle.tla_tokens.specs.declared.token.Kind.{Kind}
+use Rattle.tla_tokens.specs.declared.token.Token.{Token}
 use Rattle.tla_ast.specs.declared.construct.Construct.{Construct}
 use Rattle.tla_ast.specs.declared.construct.Open.{Open}
 use Rattle.tla_ast.specs.declared.construct.Open.TheVariants.{List as InList, Case, Inside}

@@ -3,7 +3,8 @@
 ghost use Rattle.std.specs.Prelude.{◌≡◌};
 ghost use Rattle.tla_ast.specs.Opens.{symbol_bullet, bullet_of, word_wants, symbol_wants, wants_operand, word_opens, symbol_opens, opened_by, word_belongs, symbol_belongs, belongs, word_finishes, symbol_finishes, finishes, is_end, same_bullet, has_bullet};
 
-use tla_ast::{Bullet, Construct, Kind, Open, Symbol, Word};
+use tla_ast::{Bullet, Construct, Open};
+use tla_tokens::{Kind, Symbol, Word};
 
 fn symbol_bullet(symbol: Symbol) -> Option<Bullet>
     ensures { result ≡ symbol_bullet symbol }

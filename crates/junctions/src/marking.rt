@@ -10,7 +10,8 @@ use crate::fault::LayFault;
 use crate::kinds::{bullet_of, wants_operand};
 use crate::stack::Stack;
 use std::alloc::{AllocError, Global};
-use tla_ast::{Bullet, Laid, Token};
+use tla_ast::{Bullet, Laid};
+use tla_tokens::Token;
 use trace_base::Place;
 
 /// What is marked so far.

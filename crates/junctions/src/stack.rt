@@ -8,7 +8,8 @@ use crate::kinds::{belongs, finishes, is_end, opened_by};
 use crate::summary::Summary;
 use std::alloc::{AllocError, Global};
 use std::marker::Model;
-use tla_ast::{Bullet, Kind, Open, Token};
+use tla_ast::{Bullet, Open};
+use tla_tokens::{Kind, Token};
 
 /// An open list or construct, with the summary of it and all around it.
 #[derive(Clone, Copy)]

@@ -4,7 +4,8 @@ ghost use Rattle.std.specs.Prelude.{◌≡◌, is_some};
 ghost use Rattle.junctions.specs.Summary.{nothing_open, greater, at_or_left, with_open, list_ends, list_has, summary_reaches, summary_closes};
 
 use crate::kinds::{belongs, bullet_of, has_bullet};
-use tla_ast::{Bullet, Construct, Kind, Open, Token};
+use tla_ast::{Bullet, Construct, Open};
+use tla_tokens::{Kind, Token};
 
 /// An open list.
 #[derive(Clone, Copy)]

@@ -5,7 +5,7 @@ use Rattle.tla_ast.specs.declared.config.Config.{Config}
 use Rattle.tla_ast.specs.declared.config.Given.{Given}
 use Rattle.tla_ast.specs.declared.config.Given.TheVariants.{Constant, Replaced}
 use Rattle.tla_ast.specs.Literals.{lit_of}
-use Rattle.tla_ast.specs.Tokens as lexer
+use Rattle.tla_tokens.specs.Tokens as lexer
 use Rattle.tla_config.specs.Limits.{IsWithinLimits, GivensAreWithinLimits}
 use Rattle.tla_config.specs.Reads.{OfLexed}
 use Rattle.tla_tables.specs.Values.{IsSpelled}

@@ -9,10 +9,10 @@ use Rattle.tla_ast.specs.declared.module.Declared.{Declared}
 use Rattle.tla_ast.specs.declared.module.Module.{Module}
 use Rattle.tla_ast.specs.declared.module.Unit.{Unit as ModuleUnit}
 use Rattle.tla_ast.specs.declared.module.Unit.TheVariants.{Variables, Constants, Define, Assume, Passed}
-use Rattle.tla_ast.specs.declared.token.Kind.{Kind}
-use Rattle.tla_ast.specs.declared.token.Kind.TheVariants as kinds
-use Rattle.tla_ast.specs.declared.token.Symbol.TheVariants as symbols
-use Rattle.tla_ast.specs.declared.token.Word.TheVariants as words
+use Rattle.tla_tokens.specs.declared.token.Kind.{Kind}
+use Rattle.tla_tokens.specs.declared.token.Kind.TheVariants as kinds
+use Rattle.tla_tokens.specs.declared.token.Symbol.TheVariants as symbols
+use Rattle.tla_tokens.specs.declared.token.Word.TheVariants as words
 use Rattle.tla_ast.specs.Grammar.{Span, ◌⨟◌, either, token, some_token, word, NamesText, Text}
 use Rattle.tla_ast.specs.Laid.{tokens_of}
 use Rattle.tla_ast.specs.Modules.{DeclaredNamesText, MaybeTitle, ExtendsText, SomeExpression, UnitText, UnitsText, SpellsModule, variable_word, constant_word, assume_word, theorem_word}

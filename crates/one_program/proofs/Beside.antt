@@ -4,7 +4,7 @@ use Rattle.trace_base.specs.Device.{File}
 use Rattle.tla_ast.specs.declared.module.Declared.{Declared}
 use Rattle.tla_ast.specs.declared.module.Program.{Program}
 use Rattle.tla_ast.specs.Laid.{NeverBoth, OneLaid}
-use Rattle.tla_ast.specs.Tokens.{OneOutcome}
+use Rattle.tla_tokens.specs.Tokens.{OneOutcome}
 use Rattle.tla_config.specs.Reads as read
 use Rattle.tla_modules.specs.declared.fault.LoadWhy.{LoadWhy}
 use Rattle.tla_modules.specs.declared.fault.LoadWhy.TheVariants.{Read, Lex, Lay, Parse, Cycle, TooMany, Twice, WrongName}

@@ -3,7 +3,7 @@ use Rattle.std.proofs.Common.{◌≡◌, ◌∙◌, ℕ, List, Some, Ok, refl, s
 use Rattle.tla_ast.specs.declared.module.Program.{Program}
 use Rattle.tla_ast.specs.declared.module.Unit.{Unit as ModuleUnit}
 use Rattle.tla_ast.specs.Laid.{OneLaid}
-use Rattle.tla_ast.specs.Tokens.{OneOutcome}
+use Rattle.tla_tokens.specs.Tokens.{OneOutcome}
 use Rattle.tla_config.specs.Reads as read
 use Rattle.tla_modules.specs.declared.so_far.SoFar.{SoFar}
 use Rattle.tla_modules.specs.Loads.{IsProgram, IsProgramOf}

@@ -6,7 +6,7 @@ use Rattle.trace_base.specs.declared.reading.ReadFault.TheVariants.{Missing, Fai
 use Rattle.tla_ast.specs.declared.module.Module.{Module}
 use Rattle.tla_ast.specs.Laid.{IsLaid, NeverBoth, OneLaid}
 use Rattle.tla_ast.specs.Modules.{SpellsModule}
-use Rattle.tla_ast.specs.Tokens.{OneOutcome}
+use Rattle.tla_tokens.specs.Tokens.{OneOutcome}
 use Rattle.tla_modules.specs.declared.fault.LoadWhy.{LoadWhy}
 use Rattle.tla_modules.specs.declared.fault.LoadWhy.TheVariants.{Read, Lex, Lay, Parse, Cycle, TooMany, Twice, WrongName}
 use Rattle.tla_modules.specs.Paths.{file_of}

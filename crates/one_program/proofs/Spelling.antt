@@ -5,7 +5,7 @@ use Rattle.tla_ast.specs.declared.laid.Laid.{Laid}
 use Rattle.tla_ast.specs.declared.module.Module.{Module}
 use Rattle.tla_ast.specs.Laid.{IsLaid, OneLaid}
 use Rattle.tla_ast.specs.Modules.{SpellsModule}
-use Rattle.tla_ast.specs.Tokens.{OneOutcome}
+use Rattle.tla_tokens.specs.Tokens.{OneOutcome}
 use Rattle.tla_modules.specs.Refusals.{IsModule, LaidAs, SpelledBy}
 use Rattle.tla_units.specs.LawsOfModules.{OneModule}
 use Rattle.one_program.specs.Laws.{OneText}

@@ -1,7 +1,8 @@
 ghost use Rattle.one_program.specs.Laws.{FlatteningMayStop, LoadingMayStop, NoConfigurationRefused, NothingRepeats, OneConfiguration, OneFlattening, OneLoading, OnePath, OneProgram, OneText};
 
-use tla_ast::{laws_of_laid, one_outcome};
+use tla_ast::laws_of_laid;
 use tla_config::one_configuration;
+use tla_tokens::one_outcome;
 use tla_units::{one_module, shallow_not_refused};
 
 /// A path names one folder and one main module. Files that tell have one text of each name, and give one list of modules, one program of a

@@ -13,7 +13,8 @@ use crate::stack::{Stack, pop, push, want};
 use crate::stepped::Stepped;
 use reader_model::Frame;
 use std::alloc::Global;
-use tla_ast::{Expr, InfixOperator, Operand, Operands, PrefixOperator, Symbol};
+use tla_ast::{Expr, InfixOperator, Operand, Operands, PrefixOperator};
+use tla_tokens::Symbol;
 use trace_base::{NoMemory, Place};
 
 /// The operator between operands that a symbol is.

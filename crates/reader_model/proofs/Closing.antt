@@ -4,9 +4,9 @@ use Rattle.trace_base.specs.declared.place.Place.{Place}
 use Rattle.tla_ast.specs.declared.laid.Bullet.{Bullet}
 use Rattle.tla_ast.specs.declared.laid.Laid.{Laid}
 use Rattle.tla_ast.specs.declared.laid.Laid.TheVariants.{Plain, ListOpen, ListItem, ListClose}
-use Rattle.tla_ast.specs.declared.token.Kind.{Kind}
-use Rattle.tla_ast.specs.declared.token.Word.{Word}
-use Rattle.tla_ast.specs.declared.token.Symbol.{Symbol}
+use Rattle.tla_tokens.specs.declared.token.Kind.{Kind}
+use Rattle.tla_tokens.specs.declared.token.Word.{Word}
+use Rattle.tla_tokens.specs.declared.token.Symbol.{Symbol}
 use Rattle.tla_ast.specs.declared.operators.InfixOperator.{InfixOperator}
 use Rattle.tla_ast.specs.Precedence.{infix_symbol, infix_range}
 use Rattle.tla_ast.specs.Grammar.{◌⨟◌, token, sign, Text, DefinitionRest}
@@ -22,9 +22,9 @@ use Rattle.reader_model.proofs.Rows.{step_good, want_good, have_good, stepped_go
 use Rattle.reader_model.proofs.Enclosed.{member_good}
 use Rattle.reader_model.proofs.Symbols.{symbol_good}
 use Rattle.tla_ast.specs.declared.laid.Bullet.TheVariants as bullets
-use Rattle.tla_ast.specs.declared.token.Kind.TheVariants as kinds
-use Rattle.tla_ast.specs.declared.token.Word.TheVariants as words
-use Rattle.tla_ast.specs.declared.token.Symbol.TheVariants as symbols
+use Rattle.tla_tokens.specs.declared.token.Kind.TheVariants as kinds
+use Rattle.tla_tokens.specs.declared.token.Word.TheVariants as words
+use Rattle.tla_tokens.specs.declared.token.Symbol.TheVariants as symbols
 use Rattle.tla_ast.specs.Trees as tree
 use Rattle.reader_model.specs.declared.frame.Scope.TheVariants as scopes
 use Rattle.reader_model.specs.declared.frame.Form.TheVariants as forms

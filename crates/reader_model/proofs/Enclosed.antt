@@ -2,7 +2,7 @@
 use Rattle.std.proofs.Common.{ℕ, List, ◌∷◌, refl, sym, subst}
 use Rattle.trace_base.specs.declared.place.Place.{Place}
 use Rattle.tla_ast.specs.declared.laid.Laid.{Laid}
-use Rattle.tla_ast.specs.declared.token.Symbol.{Symbol}
+use Rattle.tla_tokens.specs.declared.token.Symbol.{Symbol}
 use Rattle.tla_ast.specs.Grammar.{◌⨟◌, token, sign, sign_at, NamesText, begins_member, Text, CommasBefore, BoundsText}
 use Rattle.tla_ast.specs.Fits.{Fits, AllFit, BoundsFit}
 use Rattle.tla_ast.specs.Trees.{Tree, Trees, NoTrees, MoreTrees, Bounds, MoreBounds}
@@ -14,8 +14,8 @@ use Rattle.reader_model.proofs.Opened.{Good, laid_symbol}
 use Rattle.reader_model.proofs.Edges.{one_of_two}
 use Rattle.reader_model.proofs.JoinedTexts.{IsJoined, join_good}
 use Rattle.reader_model.proofs.Rows.{deliver_good}
-use Rattle.tla_ast.specs.declared.token.Kind.TheVariants as kinds
-use Rattle.tla_ast.specs.declared.token.Symbol.TheVariants as symbols
+use Rattle.tla_tokens.specs.declared.token.Kind.TheVariants as kinds
+use Rattle.tla_tokens.specs.declared.token.Symbol.TheVariants as symbols
 use Rattle.tla_ast.specs.Trees as tree
 use Rattle.reader_model.specs.declared.frame.Action.TheVariants as actions
 use Rattle.reader_model.specs.declared.frame.Binder.TheVariants as binders

@@ -5,10 +5,10 @@ use Rattle.std.specs.Prelude.{if◌then◌else◌}
 use Rattle.trace_base.specs.declared.place.Place.{Place}
 use Rattle.tla_ast.specs.declared.laid.Laid.{Laid}
 use Rattle.tla_ast.specs.declared.laid.Laid.TheVariants.{Plain, ListOpen, ListItem, ListClose}
-use Rattle.tla_ast.specs.declared.token.Kind.{Kind}
-use Rattle.tla_ast.specs.declared.token.Kind.TheVariants as kinds
-use Rattle.tla_ast.specs.declared.token.Symbol.{Symbol}
-use Rattle.tla_ast.specs.declared.token.Symbol.TheVariants as symbols
+use Rattle.tla_tokens.specs.declared.token.Kind.{Kind}
+use Rattle.tla_tokens.specs.declared.token.Kind.TheVariants as kinds
+use Rattle.tla_tokens.specs.declared.token.Symbol.{Symbol}
+use Rattle.tla_tokens.specs.declared.token.Symbol.TheVariants as symbols
 use Rattle.tla_ast.specs.Grammar.{Text, NamesText, ParametersText, BoundsText, FunctionRest, DefinitionRest, sign}
 use Rattle.tla_ast.specs.Trees as tree
 use Rattle.tla_ast.specs.Trees.{Tree, Bounds, NoBounds, MoreBounds}

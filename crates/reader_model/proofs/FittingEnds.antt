@@ -8,8 +8,8 @@ use Rattle.tla_ast.specs.declared.laid.Bullet.{Bullet}
 use Rattle.tla_ast.specs.declared.laid.Bullet.TheVariants as bullets
 use Rattle.tla_ast.specs.declared.laid.Laid.{Laid}
 use Rattle.tla_ast.specs.declared.laid.Laid.TheVariants.{ListItem}
-use Rattle.tla_ast.specs.declared.token.Kind.TheVariants as kinds
-use Rattle.tla_ast.specs.declared.token.Symbol.TheVariants as symbols
+use Rattle.tla_tokens.specs.declared.token.Kind.TheVariants as kinds
+use Rattle.tla_tokens.specs.declared.token.Symbol.TheVariants as symbols
 use Rattle.tla_ast.specs.Grammar.{◌⨟◌, token, Text, DefinitionRest}
 use Rattle.tla_ast.specs.Fits.{Fits, LeftAbove, Spells}
 use Rattle.tla_ast.specs.Trees as tree

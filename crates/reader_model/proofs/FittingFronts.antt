@@ -1,9 +1,9 @@
 -- What spells frames has its tokens in front of those behind them, whatever these are.
 use Rattle.std.proofs.Common.{ℕ, List, [], ◌∷◌}
 use Rattle.trace_base.specs.declared.place.Place.{Place}
-use Rattle.tla_ast.specs.declared.token.Kind.TheVariants as kinds
-use Rattle.tla_ast.specs.declared.token.Word.TheVariants as words
-use Rattle.tla_ast.specs.declared.token.Symbol.TheVariants as symbols
+use Rattle.tla_tokens.specs.declared.token.Kind.TheVariants as kinds
+use Rattle.tla_tokens.specs.declared.token.Word.TheVariants as words
+use Rattle.tla_tokens.specs.declared.token.Symbol.TheVariants as symbols
 use Rattle.tla_ast.specs.Precedence.{prefix_kind, infix_symbol, quantifier_symbol}
 use Rattle.tla_ast.specs.Grammar.{◌⨟◌, token, DefinitionRest}
 use Rattle.tla_ast.specs.Trees as tree

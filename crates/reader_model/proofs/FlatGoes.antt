@@ -2,8 +2,8 @@
 use Rattle.std.proofs.Common.{◌≡◌, ℕ, Bool, true, false, List, [], ◌∷◌, ◌++◌, refl, sym, ap, ◌∙◌}
 use Rattle.trace_base.specs.declared.place.Place.{Place}
 use Rattle.tla_ast.specs.declared.laid.Laid.{Laid}
-use Rattle.tla_ast.specs.declared.token.Kind.TheVariants as kinds
-use Rattle.tla_ast.specs.declared.token.Symbol.TheVariants as symbols
+use Rattle.tla_tokens.specs.declared.token.Kind.TheVariants as kinds
+use Rattle.tla_tokens.specs.declared.token.Symbol.TheVariants as symbols
 use Rattle.tla_ast.specs.Grammar.{Text, CommasBefore, IsSubscript, begins_member}
 use Rattle.tla_ast.specs.Trees as tree
 use Rattle.tla_ast.specs.Trees.{Tree, Trees, NoTrees, MoreTrees, Operands, First, Next, Step, Steps, NoSteps, MoreSteps, Bounds, NoBounds, MoreBounds, Fields, NoFields, MoreFields, Changes, NoChanges, MoreChanges, Arms, NoArms, MoreArms, Definitions, NoDefinitions, MoreDefinitions}

@@ -1,7 +1,7 @@
 -- How the model's run goes over names and bounds.
 use Rattle.std.proofs.Common.{◌≡◌, ℕ, List, ◌∷◌, ◌++◌, sym, ◌∙◌}
 use Rattle.tla_ast.specs.declared.laid.Laid.{Laid}
-use Rattle.tla_ast.specs.declared.token.Symbol.TheVariants as symbols
+use Rattle.tla_tokens.specs.declared.token.Symbol.TheVariants as symbols
 use Rattle.tla_ast.specs.Grammar.{NamesText, sign}
 use Rattle.reader_model.specs.declared.frame.Binding.{Binding}
 use Rattle.reader_model.specs.declared.frame.Frame.{Frame}

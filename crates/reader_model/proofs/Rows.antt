@@ -2,14 +2,14 @@
 use Rattle.std.proofs.Common.{◌≡◌, List, ◌∷◌, refl, ap}
 use Rattle.trace_base.specs.declared.place.Place.{Place}
 use Rattle.tla_ast.specs.declared.laid.Laid.{Laid}
-use Rattle.tla_ast.specs.declared.token.Symbol.{Symbol}
+use Rattle.tla_tokens.specs.declared.token.Symbol.{Symbol}
 use Rattle.tla_ast.specs.Grammar.{sign, IsPrimary, IsSubscript, Text, StepText}
 use Rattle.tla_ast.specs.Fits.{Fits, StepFits}
 use Rattle.tla_ast.specs.Trees.{Tree, Step, NoSteps}
 use Rattle.reader_model.specs.declared.frame.Frame.{Frame}
 use Rattle.reader_model.specs.Machine.{Stepped, Reads, Stops, want, with_step, deliver, comma_or, only_at}
 use Rattle.reader_model.proofs.Opened.{Good, laid_symbol}
-use Rattle.tla_ast.specs.declared.token.Symbol.TheVariants as symbols
+use Rattle.tla_tokens.specs.declared.token.Symbol.TheVariants as symbols
 use Rattle.tla_ast.specs.Trees as tree
 use Rattle.reader_model.specs.declared.frame.Action.TheVariants as actions
 use Rattle.reader_model.specs.declared.frame.Frame.TheVariants as frame

@@ -2,9 +2,9 @@
 use Rattle.std.proofs.Common.{◌≡◌, ℕ, false, List, [], ◌∷◌, ◌++◌, append_assoc, refl, sym, ap, ◌∙◌}
 use Rattle.trace_base.specs.declared.place.Place.{Place}
 use Rattle.tla_ast.specs.declared.laid.Laid.{Laid}
-use Rattle.tla_ast.specs.declared.token.Kind.TheVariants as kinds
-use Rattle.tla_ast.specs.declared.token.Word.TheVariants as words
-use Rattle.tla_ast.specs.declared.token.Symbol.TheVariants as symbols
+use Rattle.tla_tokens.specs.declared.token.Kind.TheVariants as kinds
+use Rattle.tla_tokens.specs.declared.token.Word.TheVariants as words
+use Rattle.tla_tokens.specs.declared.token.Symbol.TheVariants as symbols
 use Rattle.tla_ast.specs.Trees as tree
 use Rattle.reader_model.specs.declared.frame.Frame.{Frame}
 use Rattle.reader_model.specs.declared.frame.Frame.TheVariants as frame

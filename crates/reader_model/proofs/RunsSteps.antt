@@ -2,7 +2,7 @@
 use Rattle.std.proofs.Common.{◌≡◌, List, ◌∷◌, refl, ap, ◌∙◌}
 use Rattle.trace_base.specs.declared.place.Place.{Place}
 use Rattle.tla_ast.specs.declared.laid.Laid.{Laid}
-use Rattle.tla_ast.specs.declared.token.Symbol.TheVariants as symbols
+use Rattle.tla_tokens.specs.declared.token.Symbol.TheVariants as symbols
 use Rattle.tla_ast.specs.Fits.{LeftAbove}
 use Rattle.tla_ast.specs.Grammar.{Commas, StepText, StepsText, ChangesBefore, ChangesText, IsPrimary, IsPath, IsKey, sign}
 use Rattle.tla_ast.specs.Trees as tree

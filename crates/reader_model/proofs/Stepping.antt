@@ -5,9 +5,9 @@ use Rattle.trace_base.specs.declared.place.Place.{Place}
 use Rattle.tla_ast.specs.declared.laid.Bullet.{Bullet}
 use Rattle.tla_ast.specs.declared.laid.Laid.{Laid}
 use Rattle.tla_ast.specs.declared.laid.Laid.TheVariants.{Plain, ListItem}
-use Rattle.tla_ast.specs.declared.token.Kind.{Kind}
-use Rattle.tla_ast.specs.declared.token.Word.{Word}
-use Rattle.tla_ast.specs.declared.token.Symbol.{Symbol}
+use Rattle.tla_tokens.specs.declared.token.Kind.{Kind}
+use Rattle.tla_tokens.specs.declared.token.Word.{Word}
+use Rattle.tla_tokens.specs.declared.token.Symbol.{Symbol}
 use Rattle.tla_ast.specs.Grammar.{sign, name, NamesBefore, NamesText, ParametersText, IsKey, IsPath, IsNew, ArmsBefore, SomeArmsBefore}
 use Rattle.tla_ast.specs.Fits.{ArmsBeforeFit}
 use Rattle.tla_ast.specs.Trees.{Tree, NoTrees, Step, Steps, NoSteps, MoreSteps, Fields, NoFields, MoreFields, Changes, Arms, NoArms, MoreArms}
@@ -23,9 +23,9 @@ use Rattle.reader_model.proofs.Edges.{one_of_two}
 use Rattle.reader_model.proofs.Rows.{step_good, want_good, have_good, stepped_good, deliver_good}
 use Rattle.reader_model.proofs.Closing.{laid, follows_good, same_bullets, no_bullet}
 use Rattle.reader_model.proofs.Beginning.{begins_good, on_name_good, on_symbol_good, subscript_good}
-use Rattle.tla_ast.specs.declared.token.Kind.TheVariants as kinds
-use Rattle.tla_ast.specs.declared.token.Word.TheVariants as words
-use Rattle.tla_ast.specs.declared.token.Symbol.TheVariants as symbols
+use Rattle.tla_tokens.specs.declared.token.Kind.TheVariants as kinds
+use Rattle.tla_tokens.specs.declared.token.Word.TheVariants as words
+use Rattle.tla_tokens.specs.declared.token.Symbol.TheVariants as symbols
 use Rattle.tla_ast.specs.Trees as tree
 use Rattle.reader_model.specs.declared.frame.RecordKind.TheVariants as records
 use Rattle.reader_model.specs.declared.frame.Form.TheVariants as forms

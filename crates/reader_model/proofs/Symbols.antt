@@ -2,7 +2,7 @@
 use Rattle.std.proofs.Common.{◌≡◌, ℕ, true, List, ◌∷◌, ap}
 use Rattle.trace_base.specs.declared.place.Place.{Place}
 use Rattle.tla_ast.specs.declared.laid.Laid.{Laid}
-use Rattle.tla_ast.specs.declared.token.Symbol.{Symbol}
+use Rattle.tla_tokens.specs.declared.token.Symbol.{Symbol}
 use Rattle.tla_ast.specs.Grammar.{Text}
 use Rattle.tla_ast.specs.Fits.{EndsNoCase, Fits}
 use Rattle.tla_ast.specs.Trees.{Tree, MoreTrees, Fields, MoreFields, MoreChanges}
@@ -12,7 +12,7 @@ use Rattle.reader_model.specs.Machine.{Stepped, Reads, with_step, of_records, sy
 use Rattle.reader_model.proofs.Opened.{Good, laid_symbol}
 use Rattle.reader_model.proofs.Rows.{sign_is, only_parenthesis, only_bracket, only_brace, only_colon, only_arrow, only_always, comma_parenthesis, comma_bracket, step_good, want_good, have_good, stepped_good, deliver_good}
 use Rattle.reader_model.proofs.Enclosed.{braces_good, bracket_good, tuple_good, filter_good, function_good, bound_good}
-use Rattle.tla_ast.specs.declared.token.Symbol.TheVariants as symbols
+use Rattle.tla_tokens.specs.declared.token.Symbol.TheVariants as symbols
 use Rattle.tla_ast.specs.Trees as tree
 use Rattle.reader_model.specs.declared.frame.RecordKind.TheVariants as records
 use Rattle.reader_model.specs.declared.frame.Frame.TheVariants as frame

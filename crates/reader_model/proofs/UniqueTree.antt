@@ -4,8 +4,8 @@ use Rattle.std.proofs.lemmas.List.{append_cancel_right}
 use Rattle.trace_base.specs.declared.place.Place.{Place}
 use Rattle.tla_ast.specs.declared.laid.Laid.{Laid}
 use Rattle.tla_ast.specs.declared.laid.Laid.TheVariants.{Plain, ListOpen, ListItem, ListClose}
-use Rattle.tla_ast.specs.declared.token.Kind.{Kind}
-use Rattle.tla_ast.specs.declared.token.Kind.TheVariants as kinds
+use Rattle.tla_tokens.specs.declared.token.Kind.{Kind}
+use Rattle.tla_tokens.specs.declared.token.Kind.TheVariants as kinds
 use Rattle.tla_ast.specs.Trees.{Tree}
 use Rattle.tla_ast.specs.Grammar.{◌⨟◌, token, Text, DefinitionRest}
 use Rattle.tla_ast.specs.Fits.{Spells, Fits}

@@ -3,10 +3,10 @@
 -- else is expected. The text of a list of frames, innermost first, is that of the rows around it and then its own.
 use Rattle.std.specs.Prelude.{List, [], ◌∷◌}
 use Rattle.trace_base.specs.declared.place.Place.{Place}
-use Rattle.tla_ast.specs.declared.token.Kind.TheVariants as kinds
-use Rattle.tla_ast.specs.declared.token.Word.TheVariants as words
-use Rattle.tla_ast.specs.declared.token.Symbol.{Symbol}
-use Rattle.tla_ast.specs.declared.token.Symbol.TheVariants as symbols
+use Rattle.tla_tokens.specs.declared.token.Kind.TheVariants as kinds
+use Rattle.tla_tokens.specs.declared.token.Word.TheVariants as words
+use Rattle.tla_tokens.specs.declared.token.Symbol.{Symbol}
+use Rattle.tla_tokens.specs.declared.token.Symbol.TheVariants as symbols
 use Rattle.tla_ast.specs.Precedence.{prefix_kind, infix_symbol, quantifier_symbol}
 use Rattle.tla_ast.specs.Grammar.{Span, ◌⨟◌, nothing, token, word, sign, sign_at, name, list_open, list_item, NamesBefore, NamesText, ParametersText, Text, CommasBefore, ItemsBefore, Chain, StepsText, BoundsBefore, BoundsText, FieldsBefore, ChangesBefore, ArmsBefore, SomeArmsBefore, DefinitionsText, SomeDefinitions}
 use Rattle.tla_ast.specs.Trees as tree

@@ -1,6 +1,6 @@
 -- The job of the smoke test is one that words may give.
 use Rattle.std.proofs.Common.{◌≡◌, [], inl, refl, subst, sym, arith, codes}
-use Rattle.tla_ast.specs.Spellings.{kind_in, words}
+use Rattle.tla_tokens.specs.Spellings.{kind_in, words}
 use Rattle.run_words.specs.Names.{IsModule, IsName}
 use Rattle.run_words.specs.Words.{JobMeets, OptionsMeet}
 use Rattle.run_words.specs.declared.job.Job.{Job}

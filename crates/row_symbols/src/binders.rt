@@ -7,7 +7,8 @@ ghost use Rattle.std.specs.Prelude.{◌≡◌, IfOk};
 use open_rows::{Stack, Stepped, want};
 use reader_model::{Binder, Binding, Form, Frame, Mode};
 use std::alloc::Global;
-use tla_ast::{Bound, Bounds, Expr, Node, Symbol};
+use tla_ast::{Bound, Bounds, Expr, Node};
+use tla_tokens::Symbol;
 use trace_base::{Names, NoMemory};
 
 /// A token behind all bounds of a binder.

@@ -9,7 +9,8 @@ use crate::openers::begin_binding;
 use open_rows::{Joined, Stack, Stepped, begins_member, deliver, join, want};
 use reader_model::{Action, Binder, Binding, Frame, Mode};
 use std::alloc::Global;
-use tla_ast::{Bound, Bounds, Expr, Exprs, Node, Symbol};
+use tla_ast::{Bound, Bounds, Expr, Exprs, Node};
+use tla_tokens::Symbol;
 use trace_base::{Names, NoMemory, Place, Text};
 
 /// A name and `\in` behind an opening bracket, with the places of the three.

@@ -14,8 +14,8 @@ use reader_model::{Frame, Mode, RecordKind};
 use std::alloc::Global;
 use tla_ast::{
     Arm, Arms, Bounds, Change, Changes, Expr, Exprs, Field, Fields, Node, Step, StepAt, Steps,
-    Symbol,
 };
+use tla_tokens::Symbol;
 use trace_base::{NoMemory, Place, Text};
 
 /// A path of a change at one of its brackets.

@@ -9,9 +9,9 @@ use open_rows::{Stack, Stepped, want};
 use reader_model::{Binder, Binding, Frame, Mode, Scope};
 use std::alloc::Global;
 use tla_ast::{
-    Arms, Bounds, BuiltinSet, Definitions, Expr, Kind, Laid, Node, PrefixOperator, Quantifier,
-    Symbol, Word,
+    Arms, Bounds, BuiltinSet, Definitions, Expr, Laid, Node, PrefixOperator, Quantifier,
 };
+use tla_tokens::{Kind, Symbol, Word};
 use trace_base::{Names, NoMemory, Place};
 
 /// A primary that is one token.

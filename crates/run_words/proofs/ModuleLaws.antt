@@ -6,8 +6,8 @@ use Rattle.std.proofs.lemmas.Bool.{cases_order, false≢true}
 use Rattle.std.proofs.lemmas.List.{append_cancel_right, drop_at, get_or-append_right, get_or_at, length-append}
 use Rattle.std.proofs.lemmas.List.Elements.{All-from_get_or, All-get_or}
 use Rattle.std.proofs.lemmas.List.Recursion.{and_at}
-use Rattle.tla_ast.specs.Shapes.{is_word}
-use Rattle.tla_ast.proofs.NameLaws.{name_bytes}
+use Rattle.tla_tokens.specs.Shapes.{is_word}
+use Rattle.tla_tokens.proofs.NameLaws.{name_bytes}
 use Rattle.tla_modules.specs.Paths.{IsPath, file_of}
 use Rattle.run_words.specs.Names.{IsModule, IsName}
 

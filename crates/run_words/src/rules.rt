@@ -9,7 +9,7 @@ ghost use Rattle.run_words.specs.Words.{JobMeets, MeetsRules, OptionsMeet};
 use crate::job::{Job, Options, Words};
 use crate::line::is_given;
 use crate::name::is_module;
-use tla_ast::is_name;
+use tla_tokens::is_name;
 use trace_base::Text;
 
 impl Words {

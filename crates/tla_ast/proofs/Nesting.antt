@@ -7,11 +7,11 @@ use Rattle.tla_ast.specs.declared.laid.Bullet.{Bullet}
 use Rattle.tla_ast.specs.declared.laid.Bullet.TheVariants.{And, Or}
 use Rattle.tla_ast.specs.declared.laid.Laid.{Laid}
 use Rattle.tla_ast.specs.declared.laid.Laid.TheVariants.{Plain, ListOpen, ListItem, ListClose}
-use Rattle.tla_ast.specs.declared.token.Word.TheVariants as words
-use Rattle.tla_ast.specs.declared.token.Symbol.TheVariants as symbols
-use Rattle.tla_ast.specs.declared.token.Kind.{Kind}
-use Rattle.tla_ast.specs.declared.token.Kind.TheVariants as kinds
-use Rattle.tla_ast.specs.declared.token.Token.{Token}
+use Rattle.tla_tokens.specs.declared.token.Word.TheVariants as words
+use Rattle.tla_tokens.specs.declared.token.Symbol.TheVariants as symbols
+use Rattle.tla_tokens.specs.declared.token.Kind.{Kind}
+use Rattle.tla_tokens.specs.declared.token.Kind.TheVariants as kinds
+use Rattle.tla_tokens.specs.declared.token.Token.{Token}
 use Rattle.tla_ast.specs.declared.construct.Open.TheVariants.{List as InList, Case, Inside}
 use Rattle.tla_ast.specs.Opens.{Opens, bullet_of, has_bullet, same_bullet, belongs, finishes, is_end, opened_by, with_opened, closed_by, reaches, some_list, left_of_some, is_left, is_item, ends, ends_by_column, ends_by_closing, opens_behind, without_list, without_cases}
 use Rattle.tla_ast.specs.Laid.{bullet_token, Stands, Marked, IsLaid}

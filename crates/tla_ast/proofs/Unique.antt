@@ -5,8 +5,8 @@ use Rattle.tla_ast.specs.declared.laid.Bullet.{Bullet}
 use Rattle.tla_ast.specs.declared.laid.Bullet.TheVariants.{And, Or}
 use Rattle.tla_ast.specs.declared.laid.Laid.{Laid}
 use Rattle.tla_ast.specs.declared.laid.Laid.TheVariants.{Plain, ListOpen, ListItem, ListClose}
-use Rattle.tla_ast.specs.declared.token.Kind.{Kind}
-use Rattle.tla_ast.specs.declared.token.Token.{Token}
+use Rattle.tla_tokens.specs.declared.token.Kind.{Kind}
+use Rattle.tla_tokens.specs.declared.token.Token.{Token}
 use Rattle.tla_ast.specs.declared.construct.Open.TheVariants.{List as InList}
 use Rattle.tla_ast.specs.Opens.{Opens, bullet_of, is_left, ends, is_item, wants_operand, opens_behind, without_list, without_cases}
 use Rattle.tla_ast.specs.Laid.{bullet_token, tokens_of, next_of, Marked, IsLaid, IsLeftOfList}

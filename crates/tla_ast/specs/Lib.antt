@@ -1,4 +1,3 @@
-pub mod FaultCodes
 pub mod Begun
 pub mod Fits
 pub mod Grammar
@@ -8,17 +7,11 @@ pub mod LitCodes
 pub mod Literals
 pub mod Lits
 pub mod Modules
-pub mod NameTests
-pub mod Names
 pub mod Nests
 pub mod Opens
 pub mod OperatorCodes
 pub mod Precedence
 pub mod Shallower
-pub mod Shapes
-pub mod Spellings
-pub mod Tables
-pub mod Tokens
 pub mod TreeCodes
 pub mod TreeFalls
 pub mod TreeLists

@@ -9,10 +9,10 @@
 use Rattle.std.specs.Prelude.{◌≡◌, ℕ, false, List, [], ◌∷◌, ◌++◌}
 use Rattle.tla_ast.specs.declared.laid.Laid.{Laid}
 use Rattle.tla_ast.specs.declared.laid.Laid.TheVariants.{Plain, ListOpen, ListItem, ListClose}
-use Rattle.tla_ast.specs.declared.token.Token.{Token}
-use Rattle.tla_ast.specs.declared.token.Kind.TheVariants as kinds
-use Rattle.tla_ast.specs.declared.token.Word.TheVariants as words
-use Rattle.tla_ast.specs.declared.token.Symbol.TheVariants as symbols
+use Rattle.tla_tokens.specs.declared.token.Token.{Token}
+use Rattle.tla_tokens.specs.declared.token.Kind.TheVariants as kinds
+use Rattle.tla_tokens.specs.declared.token.Word.TheVariants as words
+use Rattle.tla_tokens.specs.declared.token.Symbol.TheVariants as symbols
 use Rattle.tla_ast.specs.declared.module.Declared.{Declared}
 use Rattle.tla_ast.specs.declared.module.Unit.{Unit as ModuleUnit}
 use Rattle.tla_ast.specs.declared.module.Unit.TheVariants.{Variables, Constants, Define, Assume, Passed}

@@ -3,7 +3,7 @@ use Rattle.std.specs.Prelude.{◌≡◌, ℕ, ◌<◌, List, [], ◌∷◌}
 use Rattle.tla_ast.specs.declared.laid.Bullet.{Bullet}
 use Rattle.tla_ast.specs.declared.laid.Laid.{Laid}
 use Rattle.tla_ast.specs.declared.laid.Laid.TheVariants.{Plain, ListOpen, ListItem, ListClose}
-use Rattle.tla_ast.specs.declared.token.Token.{Token}
+use Rattle.tla_tokens.specs.declared.token.Token.{Token}
 use Rattle.tla_ast.specs.Laid.{IsLaid}
 
 -- The symbols and columns of the lists around a token, the innermost first.

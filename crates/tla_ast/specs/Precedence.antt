@@ -1,11 +1,11 @@
 -- Operators: the tokens that are theirs, and their ranges of precedence, as this project's profile has them (after the table of
 -- Lamport's Specifying Systems). Where two operators meet, the ranges decide which of them has the other's term as its operand.
 use Rattle.std.specs.Prelude.{ℕ, ◌<◌, Bool, true, false}
-use Rattle.tla_ast.specs.declared.token.Kind.{Kind}
-use Rattle.tla_ast.specs.declared.token.Kind.TheVariants as kinds
-use Rattle.tla_ast.specs.declared.token.Word.TheVariants as words
-use Rattle.tla_ast.specs.declared.token.Symbol.{Symbol}
-use Rattle.tla_ast.specs.declared.token.Symbol.TheVariants as symbols
+use Rattle.tla_tokens.specs.declared.token.Kind.{Kind}
+use Rattle.tla_tokens.specs.declared.token.Kind.TheVariants as kinds
+use Rattle.tla_tokens.specs.declared.token.Word.TheVariants as words
+use Rattle.tla_tokens.specs.declared.token.Symbol.{Symbol}
+use Rattle.tla_tokens.specs.declared.token.Symbol.TheVariants as symbols
 use Rattle.tla_ast.specs.declared.operators.PrefixOperator.{PrefixOperator}
 use Rattle.tla_ast.specs.declared.operators.PrefixOperator.TheVariants as prefixes
 use Rattle.tla_ast.specs.declared.operators.InfixOperator.{InfixOperator}

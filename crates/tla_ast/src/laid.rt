@@ -1,6 +1,6 @@
 //! Tokens among which the junction lists are marked.
 
-use crate::token::Token;
+use tla_tokens::Token;
 use trace_base::Place;
 
 /// The operator that begins each item of a junction list: `/\` or `\/`.

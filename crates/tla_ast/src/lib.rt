@@ -1,7 +1,6 @@
 //! The syntax of TLA+ as this project's profile reads it, and what it means to be read so.
 #![tactic(auto)]
 
-mod bytes;
 mod config;
 mod construct;
 mod expr;
@@ -9,13 +8,8 @@ mod laid;
 mod laid_laws;
 mod lexed_ends;
 mod module;
-mod name;
 mod operators;
-mod piece;
-mod spellings;
-mod token;
 
-pub use bytes::{begins_fair, has_letter, is_digit, is_letter, is_word, is_word_start};
 pub use config::{Config, Given, GivenAt, Givens, Literal, Literals};
 pub use construct::{Construct, Open};
 pub use expr::{
@@ -26,8 +20,4 @@ pub use laid::{Bullet, Laid};
 pub use laid_laws::laws_of_laid;
 pub use lexed_ends::tokens_end_once;
 pub use module::{Declared, DeclaredNames, Module, Program, Unit, Units};
-pub use name::is_name;
 pub use operators::{BuiltinSet, InfixOperator, PrefixOperator, Quantifier};
-pub use piece::{LexKind, Shape, one_outcome};
-pub use spellings::{Table, kind_of};
-pub use token::{Foreign, Kind, Symbol, Token, Word};

@@ -6,7 +6,7 @@ use Rattle.std.specs.Str.{bytes_eq}
 use Rattle.std.specs.Cmp.Lexicographic.{bytes_decides}
 use Rattle.tla_ast.specs.Lits.{Lit}
 use Rattle.tla_ast.specs.Literals.{lit_of}
-use Rattle.tla_ast.specs.Tokens.{start_of}
+use Rattle.tla_tokens.specs.Tokens.{start_of}
 use Rattle.tla_ast.specs.declared.config.Config.{Config}
 use Rattle.tla_ast.specs.declared.config.GivenAt.{GivenAt}
 use Rattle.tla_ast.specs.declared.config.Literal.{Literal}

@@ -6,16 +6,16 @@ use Rattle.std.specs.Int.{w64}
 use Rattle.trace_base.specs.declared.place.Place.{Place}
 use Rattle.tla_ast.specs.declared.config.Config.{Config}
 use Rattle.tla_ast.specs.declared.config.GivenAt.{GivenAt}
-use Rattle.tla_ast.specs.declared.token.Kind.{Kind}
-use Rattle.tla_ast.specs.declared.token.Kind.TheVariants as kinds
-use Rattle.tla_ast.specs.declared.token.Word.{Word}
-use Rattle.tla_ast.specs.declared.token.Word.TheVariants as word
-use Rattle.tla_ast.specs.declared.token.Symbol.{Symbol}
-use Rattle.tla_ast.specs.declared.token.Symbol.TheVariants as symbol
-use Rattle.tla_ast.specs.declared.token.Token.{Token}
+use Rattle.tla_tokens.specs.declared.token.Kind.{Kind}
+use Rattle.tla_tokens.specs.declared.token.Kind.TheVariants as kinds
+use Rattle.tla_tokens.specs.declared.token.Word.{Word}
+use Rattle.tla_tokens.specs.declared.token.Word.TheVariants as word
+use Rattle.tla_tokens.specs.declared.token.Symbol.{Symbol}
+use Rattle.tla_tokens.specs.declared.token.Symbol.TheVariants as symbol
+use Rattle.tla_tokens.specs.declared.token.Token.{Token}
 use Rattle.tla_ast.specs.Lits.{Lit, Lits, number, str, truth, model, set, no_lits, more_lits, depth, depth_of, list_of, lits_of}
 use Rattle.tla_ast.specs.Literals.{lit_of, literal}
-use Rattle.tla_ast.specs.Tokens as lexer
+use Rattle.tla_tokens.specs.Tokens as lexer
 use Rattle.tla_config.specs.declared.mark.Mark.{Mark}
 use Rattle.tla_config.specs.declared.mark.Mark.TheVariants.{Name, Number, Str, Close, Comma}
 use Rattle.tla_config.specs.declared.keyword.Part.{Part}

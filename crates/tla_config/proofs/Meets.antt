@@ -2,9 +2,9 @@
 use Rattle.std.proofs.Common.{◌≡◌, ℕ, Bool, true, false, List, [], ◌∷◌, ◌++◌, Some, Result, Ok, Err, refl, sym, ap, subst, ◌∙◌, inl, inr}
 use Rattle.std.specs.Prelude.{if◌then◌else◌}
 use Rattle.trace_base.specs.declared.place.Place.{Place}
-use Rattle.tla_ast.specs.declared.token.Token.{Token}
+use Rattle.tla_tokens.specs.declared.token.Token.{Token}
 use Rattle.tla_ast.specs.Laid.{EndsOnce}
-use Rattle.tla_ast.specs.Tokens.{Tokens}
+use Rattle.tla_tokens.specs.Tokens.{Tokens}
 use Rattle.tla_config.specs.declared.fault.ConfigFault.{ConfigFault}
 use Rattle.tla_config.specs.declared.fault.ConfigFault.TheVariants.{Refused, NoMemory}
 use Rattle.tla_ast.specs.declared.config.Config.{Config}

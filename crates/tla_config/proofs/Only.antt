@@ -2,9 +2,9 @@
 use Rattle.std.proofs.Common.{◌≡◌, ℕ, Bool, true, false, List, [], ◌∷◌, ◌++◌, Option, Some, Ok, Err, refl, sym, ap, subst, ◌∙◌}
 use Rattle.std.specs.Prelude.{if◌then◌else◌}
 use Rattle.trace_base.specs.declared.place.Place.{Place}
-use Rattle.tla_ast.specs.declared.token.Token.{Token}
+use Rattle.tla_tokens.specs.declared.token.Token.{Token}
 use Rattle.tla_ast.specs.LexedEnds.{TokensEndOnce}
-use Rattle.tla_ast.specs.Tokens as lexer
+use Rattle.tla_tokens.specs.Tokens as lexer
 use Rattle.tla_ast.specs.declared.config.Config.{Config}
 use Rattle.tla_config.specs.declared.mark.Mark.{Mark}
 use Rattle.tla_config.specs.declared.mark.Mark.TheVariants.{Name, End}

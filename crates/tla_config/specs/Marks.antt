@@ -2,13 +2,13 @@
 -- symbols that no configuration has are one.
 use Rattle.std.specs.Prelude.{true, false, List, map}
 use Rattle.trace_base.specs.declared.place.Place.{Place}
-use Rattle.tla_ast.specs.declared.token.Kind.{Kind}
-use Rattle.tla_ast.specs.declared.token.Kind.TheVariants as kinds
-use Rattle.tla_ast.specs.declared.token.Word.{Word}
-use Rattle.tla_ast.specs.declared.token.Word.TheVariants as word
-use Rattle.tla_ast.specs.declared.token.Symbol.{Symbol}
-use Rattle.tla_ast.specs.declared.token.Symbol.TheVariants as symbol
-use Rattle.tla_ast.specs.declared.token.Token.{Token}
+use Rattle.tla_tokens.specs.declared.token.Kind.{Kind}
+use Rattle.tla_tokens.specs.declared.token.Kind.TheVariants as kinds
+use Rattle.tla_tokens.specs.declared.token.Word.{Word}
+use Rattle.tla_tokens.specs.declared.token.Word.TheVariants as word
+use Rattle.tla_tokens.specs.declared.token.Symbol.{Symbol}
+use Rattle.tla_tokens.specs.declared.token.Symbol.TheVariants as symbol
+use Rattle.tla_tokens.specs.declared.token.Token.{Token}
 use Rattle.tla_config.specs.declared.mark.Mark.{Mark}
 use Rattle.tla_config.specs.declared.mark.Mark.TheVariants.{Name, Number, Str, Truth, Constants, Equal, Replaces, Minus, Open, Close, Comma, End, Other}
 

@@ -1,10 +1,10 @@
 -- The configuration of a text, or why it has none and where.
 use Rattle.std.specs.Prelude.{◌≡◌, ℕ, true, false, List, [], ◌∷◌, ◌++◌, Some, Result, Ok, Err}
 use Rattle.trace_base.specs.declared.place.Place.{Place}
-use Rattle.tla_ast.specs.declared.token.Token.{Token}
+use Rattle.tla_tokens.specs.declared.token.Token.{Token}
 use Rattle.tla_ast.specs.declared.config.Config.{Config}
-use Rattle.tla_ast.specs.Tokens.{Tokens}
-use Rattle.tla_ast.specs.Tokens as lexer
+use Rattle.tla_tokens.specs.Tokens.{Tokens}
+use Rattle.tla_tokens.specs.Tokens as lexer
 use Rattle.tla_config.specs.declared.mark.Mark.{Mark}
 use Rattle.tla_config.specs.declared.mark.Mark.TheVariants.{End}
 use Rattle.tla_config.specs.declared.keyword.Keyword.TheVariants as keyword

@@ -3,7 +3,8 @@
 ghost use Rattle.tla_config.specs.Limits.{GivensAreWithinLimits};
 ghost use Rattle.tla_config.specs.Reads.{OneConfiguration, SomeConfiguration};
 
-use tla_ast::{one_outcome, tokens_end_once};
+use tla_ast::tokens_end_once;
+use tla_tokens::one_outcome;
 
 /// Each text has exactly one outcome: its configuration, or why and where it has none.
 pub fn one_configuration()

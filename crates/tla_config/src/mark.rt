@@ -4,7 +4,7 @@ ghost use Rattle.std.specs.Prelude.{◌≡◌, IfOk};
 ghost use Rattle.tla_config.specs.Marks.{mark_of, word_mark, symbol_mark};
 
 use std::alloc::AllocError;
-use tla_ast::{Kind, Symbol, Token, Word};
+use tla_tokens::{Kind, Symbol, Token, Word};
 use trace_base::{Place, Text};
 
 /// A token as a configuration takes it.

@@ -10,8 +10,9 @@ use crate::fault::{ConfigFault, ConfigKind, Stop};
 use crate::mark::mark_of;
 use crate::step::step;
 use std::alloc::{AllocError, Global};
-use tla_ast::{Config, Givens, Token, tokens_end_once};
+use tla_ast::{Config, Givens, tokens_end_once};
 use tla_lexer::{LexFault, lex_plain};
+use tla_tokens::Token;
 use trace_base::{Names, Place, Text};
 
 /// The configuration that gives nothing.

@@ -5,7 +5,7 @@ ghost use Rattle.tla_exprs.specs.FaultCodes.{parse_code};
 
 use std::alloc::AllocError;
 use thiserror::Error;
-use tla_ast::Foreign;
+use tla_tokens::Foreign;
 use trace_base::Place;
 
 /// Why laid tokens are no expression, definition or module.

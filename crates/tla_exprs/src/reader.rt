@@ -7,7 +7,7 @@ ghost use Rattle.std.specs.Prelude.{◌≡◌, ◌<◌, IfOk, IfErr, drop, lengt
 ghost use Rattle.tla_ast.specs.Begun.{Begun};
 ghost use Rattle.tla_ast.specs.Fits.{Fits, Spells};
 ghost use Rattle.tla_ast.specs.Grammar.{◌⨟◌, DefinitionRest, token};
-ghost use Rattle.tla_ast.specs.declared.token.Kind.TheVariants as kinds;
+ghost use Rattle.tla_tokens.specs.declared.token.Kind.TheVariants as kinds;
 ghost use Rattle.tla_exprs.specs.Ended.{IsRead};
 ghost use Rattle.tla_exprs.specs.Nesting.{Shallow, ShallowDefinition, deepest};
 ghost use Rattle.tla_exprs.specs.Refusals.{GoesAsFar, IsRefused};

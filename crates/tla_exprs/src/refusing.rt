@@ -5,7 +5,8 @@ ghost use Rattle.tla_ast.specs.Laid.{next_of};
 ghost use Rattle.tla_exprs.specs.Refused.{IsRefusedAt, place_of, refusal_before, refusal_of_kind};
 
 use crate::fault::ParseFault;
-use tla_ast::{Kind, Laid};
+use tla_ast::Laid;
+use tla_tokens::Kind;
 use trace_base::Place;
 
 /// The place of a laid token.

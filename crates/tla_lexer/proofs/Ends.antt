@@ -6,10 +6,10 @@ use Rattle.std.proofs.lemmas.Str.{IsUtf8-take, IsUtf8-drop, IsUtf8-append, IsUtf
 use Rattle.std.proofs.lemmas.Str.Ascii.{IsAscii-nil, IsAscii-cons}
 use Rattle.std.specs.Str.{IsUtf8}
 use Rattle.std.specs.Prelude.{nat_lt}
-use Rattle.tla_ast.specs.declared.piece.LexKind.{LexKind}
-use Rattle.tla_ast.specs.declared.piece.LexKind.TheVariants.{OpenString, OpenComment}
-use Rattle.tla_ast.specs.declared.piece.Shape.TheVariants.{Blank, Bad}
-use Rattle.tla_ast.specs.Shapes.{IsPiece, shape_of, is_empty, Quoted, after_quote, escaped, with_character, with_byte, with_escape, closed, broken, content_shape, string_shape, opens_comment, after_comment, comment_shape}
+use Rattle.tla_tokens.specs.declared.piece.LexKind.{LexKind}
+use Rattle.tla_tokens.specs.declared.piece.LexKind.TheVariants.{OpenString, OpenComment}
+use Rattle.tla_tokens.specs.declared.piece.Shape.TheVariants.{Blank, Bad}
+use Rattle.tla_tokens.specs.Shapes.{IsPiece, shape_of, is_empty, Quoted, after_quote, escaped, with_character, with_byte, with_escape, closed, broken, content_shape, string_shape, opens_comment, after_comment, comment_shape}
 use Rattle.tla_lexer.proofs.Fronts.{made, no_run, first_of, rest_of, only_if_false, and_first, and_second}
 use Rattle.tla_lexer.proofs.Quotes.{goes_on}
 use Rattle.tla_lexer.specs.Lexer.{InUtf8}

@@ -7,12 +7,12 @@ use Rattle.std.proofs.lemmas.List.Sums.{prefix_len-le-length}
 use Rattle.std.proofs.lemmas.Str.{IsUtf8-from_ascii}
 use Rattle.std.proofs.lemmas.Str.Ascii.{IsAscii-nil, IsAscii-cons}
 use Rattle.std.specs.Str.{IsAscii, IsUtf8}
-use Rattle.tla_ast.specs.declared.token.Kind.TheVariants as kinds
-use Rattle.tla_ast.specs.declared.piece.LexKind.TheVariants.{NumberTooLarge}
-use Rattle.tla_ast.specs.declared.piece.Shape.{Shape}
-use Rattle.tla_ast.specs.declared.piece.Shape.TheVariants.{Blank, Spelled, Bad}
-use Rattle.tla_ast.specs.Spellings.{words, kind_in}
-use Rattle.tla_ast.specs.Shapes.{IsPiece, front_shape, shape_of, is_run, begins_letter, only_if, each, is_blank, is_digit, is_letter, is_word_start, is_word, is_dash, is_equal, number_from, number_shape, named_shape, word_shape, begins_fair, begins_four}
+use Rattle.tla_tokens.specs.declared.token.Kind.TheVariants as kinds
+use Rattle.tla_tokens.specs.declared.piece.LexKind.TheVariants.{NumberTooLarge}
+use Rattle.tla_tokens.specs.declared.piece.Shape.{Shape}
+use Rattle.tla_tokens.specs.declared.piece.Shape.TheVariants.{Blank, Spelled, Bad}
+use Rattle.tla_tokens.specs.Spellings.{words, kind_in}
+use Rattle.tla_tokens.specs.Shapes.{IsPiece, front_shape, shape_of, is_run, begins_letter, only_if, each, is_blank, is_digit, is_letter, is_word_start, is_word, is_dash, is_equal, number_from, number_shape, named_shape, word_shape, begins_fair, begins_four}
 
 -- what a choice of choices is
 pub first_of : {X : Type 0} (x : Bool) (a b : X) → x ≡ true → cond x a b ≡ a

@@ -1,7 +1,7 @@
 -- How a comment goes on.
 use Rattle.std.proofs.Common.{◌≡◌, ℕ, zero, suc, ◌+◌, ◌-◌, ◌<◌, ◌≤◌, true, false, List, [], ◌∷◌, length, get_or, drop, Some, None, ◌&&◌, eqb, refl, arith}
 use Rattle.std.proofs.lemmas.Bool.Decides.{nat_tests}
-use Rattle.tla_ast.specs.Shapes.{after_comment}
+use Rattle.tla_tokens.specs.Shapes.{after_comment}
 
 suc_add : (m n : ℕ) → suc m + n ≡ suc (m + n)
 suc_add m n = omega arith

@@ -1,9 +1,9 @@
 -- What stands behind an opening quote.
 use Rattle.std.proofs.Common.{◌≡◌, ◌≢◌, ℕ, zero, suc, ◌+◌, ◌<◌, ◌≤◌, true, false, eqb, ◌||◌, List, [], ◌∷◌, ◌++◌, length, get_or, drop, Some, None, Result, Ok, Err, refl, sym, ap, ◌∙◌, arith, append_assoc}
 use Rattle.std.proofs.lemmas.Bool.Decides.{nat_tests}
-use Rattle.tla_ast.specs.declared.piece.LexKind.{LexKind}
-use Rattle.tla_ast.specs.declared.piece.LexKind.TheVariants.{OpenString, BadCharacter}
-use Rattle.tla_ast.specs.Shapes.{Quoted, after_quote, escaped, with_character, with_byte, with_escape, closed, broken}
+use Rattle.tla_tokens.specs.declared.piece.LexKind.{LexKind}
+use Rattle.tla_tokens.specs.declared.piece.LexKind.TheVariants.{OpenString, BadCharacter}
+use Rattle.tla_tokens.specs.Shapes.{Quoted, after_quote, escaped, with_character, with_byte, with_escape, closed, broken}
 
 -- these characters before what comes of the rest
 abbrev with_bytes : List ℕ → Result (List ℕ) LexKind → Result (List ℕ) LexKind

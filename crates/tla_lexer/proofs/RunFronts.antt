@@ -3,14 +3,14 @@ use Rattle.std.proofs.Common.{◌≡◌, ◌≢◌, ℕ, zero, suc, ◌+◌, ◌
 use Rattle.std.specs.List.{prefix_len}
 use Rattle.std.proofs.lemmas.Bool.Decides.{nat_tests}
 use Rattle.std.proofs.lemmas.List.Sums.{prefix_len-le-length}
-use Rattle.tla_ast.specs.declared.token.Kind.{Kind}
-use Rattle.tla_ast.specs.declared.token.Kind.TheVariants as kinds
-use Rattle.tla_ast.specs.declared.token.Symbol.TheVariants as symbol
-use Rattle.tla_ast.specs.declared.piece.LexKind.TheVariants.{BadCharacter}
-use Rattle.tla_ast.specs.declared.piece.Shape.{Shape}
-use Rattle.tla_ast.specs.declared.piece.Shape.TheVariants.{Blank, Spelled, Bad}
-use Rattle.tla_ast.specs.Spellings.{runs, kind_in}
-use Rattle.tla_ast.specs.Shapes.{IsPiece, front_shape, shape_of, run_shape, is_run, begins_letter, is_one_digit, each, is_digit, is_letter, is_base, in_line}
+use Rattle.tla_tokens.specs.declared.token.Kind.{Kind}
+use Rattle.tla_tokens.specs.declared.token.Kind.TheVariants as kinds
+use Rattle.tla_tokens.specs.declared.token.Symbol.TheVariants as symbol
+use Rattle.tla_tokens.specs.declared.piece.LexKind.TheVariants.{BadCharacter}
+use Rattle.tla_tokens.specs.declared.piece.Shape.{Shape}
+use Rattle.tla_tokens.specs.declared.piece.Shape.TheVariants.{Blank, Spelled, Bad}
+use Rattle.tla_tokens.specs.Spellings.{runs, kind_in}
+use Rattle.tla_tokens.specs.Shapes.{IsPiece, front_shape, shape_of, run_shape, is_run, begins_letter, is_one_digit, each, is_digit, is_letter, is_base, in_line}
 use Rattle.tla_lexer.specs.Lexer.{begins_base}
 use Rattle.tla_lexer.proofs.Fronts.{NoRun, made, no_run_sign, run_piece, front_is, first_of, rest_of, and_false, and_second, each_run, each_over}
 

@@ -3,11 +3,11 @@ use Rattle.std.proofs.Common.{◌≡◌, ◌≢◌, ℕ, zero, suc, ◌-◌, ◌
 use Rattle.std.specs.Prelude.{nat_eq, nat_le}
 use Rattle.std.specs.Cmp.Lexicographic.{pointwise, same_text}
 use Rattle.std.proofs.lemmas.Bool.Decides.{nat_tests}
-use Rattle.tla_ast.specs.declared.token.Kind.{Kind}
-use Rattle.tla_ast.specs.declared.piece.LexKind.TheVariants.{BadCharacter}
-use Rattle.tla_ast.specs.declared.piece.Shape.TheVariants.{Spelled, Bad}
-use Rattle.tla_ast.specs.Spellings.{Spelling, signs, kind_in}
-use Rattle.tla_ast.specs.Shapes.{IsPiece, shape_of, sign_shape, is_blank, is_digit, is_word_start, opens_comment, begins_four}
+use Rattle.tla_tokens.specs.declared.token.Kind.{Kind}
+use Rattle.tla_tokens.specs.declared.piece.LexKind.TheVariants.{BadCharacter}
+use Rattle.tla_tokens.specs.declared.piece.Shape.TheVariants.{Spelled, Bad}
+use Rattle.tla_tokens.specs.Spellings.{Spelling, signs, kind_in}
+use Rattle.tla_tokens.specs.Shapes.{IsPiece, shape_of, sign_shape, is_blank, is_digit, is_word_start, opens_comment, begins_four}
 use Rattle.tla_lexer.specs.Lexer.{IsOther, IsPlain}
 use Rattle.tla_lexer.proofs.Fronts.{made, no_run, rest_of}
 

@@ -1,8 +1,8 @@
 -- Where a module begins.
 use Rattle.std.proofs.Common.{◌≡◌, ℕ, zero, suc, ◌+◌, ◌<◌, ◌≤◌, ◌⊎◌, inl, inr, max, Bool, true, false, ◌&&◌, cond, eqb, List, [], ◌∷◌, length, drop, Option, Some, None, refl, sym, ap, ◌∙◌, arith, length-drop}
 use Rattle.std.specs.List.{prefix_len}
-use Rattle.tla_ast.specs.Shapes.{is_dash, begins_four}
-use Rattle.tla_ast.specs.Tokens.{module_start, begins_module, begins_heading, one_further, without_front, is_space}
+use Rattle.tla_tokens.specs.Shapes.{is_dash, begins_four}
+use Rattle.tla_tokens.specs.Tokens.{module_start, begins_module, begins_heading, one_further, without_front, is_space}
 use Rattle.tla_lexer.proofs.Fronts.{first_of, rest_of, and_false, and_first, and_second}
 
 -- so many bytes further on

@@ -8,16 +8,16 @@ use Rattle.std.specs.Str.{IsUtf8, is_utf8}
 use Rattle.std.specs.Str.Lossy.{utf8_valid_len}
 use Rattle.std.specs.declared.alloc.Global.{Global}
 use Rattle.trace_base.specs.declared.place.Place.{Place}
-use Rattle.tla_ast.specs.declared.token.Kind.{Kind}
-use Rattle.tla_ast.specs.declared.token.Kind.TheVariants.{End}
-use Rattle.tla_ast.specs.declared.token.Token.{Token}
-use Rattle.tla_ast.specs.declared.piece.LexKind.{LexKind}
-use Rattle.tla_ast.specs.declared.piece.LexKind.TheVariants.{TooManyTokens, NotUtf8}
-use Rattle.tla_ast.specs.declared.piece.Shape.{Shape}
-use Rattle.tla_ast.specs.declared.piece.Shape.TheVariants.{Blank, Spelled, Bad}
-use Rattle.tla_ast.specs.Shapes.{IsPiece}
-use Rattle.tla_ast.specs.Tokens.{Outcome, LexedFrom, LexedText, Tokens, module_start, start_of, with_front, with_all, place_behind, token_at, kind_at, is_equals}
-use Rattle.tla_ast.proofs.Cuts.{piece, cut_step, some_cut}
+use Rattle.tla_tokens.specs.declared.token.Kind.{Kind}
+use Rattle.tla_tokens.specs.declared.token.Kind.TheVariants.{End}
+use Rattle.tla_tokens.specs.declared.token.Token.{Token}
+use Rattle.tla_tokens.specs.declared.piece.LexKind.{LexKind}
+use Rattle.tla_tokens.specs.declared.piece.LexKind.TheVariants.{TooManyTokens, NotUtf8}
+use Rattle.tla_tokens.specs.declared.piece.Shape.{Shape}
+use Rattle.tla_tokens.specs.declared.piece.Shape.TheVariants.{Blank, Spelled, Bad}
+use Rattle.tla_tokens.specs.Shapes.{IsPiece}
+use Rattle.tla_tokens.specs.Tokens.{Outcome, LexedFrom, LexedText, Tokens, module_start, start_of, with_front, with_all, place_behind, token_at, kind_at, is_equals}
+use Rattle.tla_tokens.proofs.Cuts.{piece, cut_step, some_cut}
 use Rattle.tla_lexer.specs.Lexer.{InUtf8, Answers}
 use Rattle.tla_lexer.specs.declared.fault.LexFault.{LexFault}
 use Rattle.tla_lexer.specs.declared.fault.LexFault.TheVariants.{Refused, NoMemory}

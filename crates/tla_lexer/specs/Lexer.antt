@@ -4,11 +4,11 @@ use Rattle.std.specs.Borrow.{Bor}
 use Rattle.std.specs.Str.{IsUtf8}
 use Rattle.std.specs.declared.alloc.Global.{Global}
 use Rattle.trace_base.specs.declared.place.Place.{Place}
-use Rattle.tla_ast.specs.declared.token.Kind.{Kind}
-use Rattle.tla_ast.specs.declared.token.Kind.TheVariants.{End}
-use Rattle.tla_ast.specs.declared.token.Token.{Token}
-use Rattle.tla_ast.specs.Shapes.{after_quote, is_blank, is_digit, is_word_start, is_base, opens_comment, begins_four}
-use Rattle.tla_ast.specs.Tokens.{Outcome, LexedFrom, Tokens, token_at}
+use Rattle.tla_tokens.specs.declared.token.Kind.{Kind}
+use Rattle.tla_tokens.specs.declared.token.Kind.TheVariants.{End}
+use Rattle.tla_tokens.specs.declared.token.Token.{Token}
+use Rattle.tla_tokens.specs.Shapes.{after_quote, is_blank, is_digit, is_word_start, is_base, opens_comment, begins_four}
+use Rattle.tla_tokens.specs.Tokens.{Outcome, LexedFrom, Tokens, token_at}
 use Rattle.tla_lexer.specs.declared.fault.LexFault.{LexFault}
 use Rattle.tla_lexer.specs.declared.fault.LexFault.TheVariants.{Refused, NoMemory}
 use Rattle.tla_lexer.specs.declared.strings.Quoted.{Quoted}

@@ -2,10 +2,10 @@
 
 ghost use Rattle.std.specs.Prelude.{◌≡◌, ◌≤◌, ◌&&◌, ◌==◌, length};
 ghost use Rattle.std.specs.List.{prefix_len};
-ghost use Rattle.tla_ast.specs.Shapes.{is_blank, is_digit, is_letter, is_word, is_base, is_dash, is_equal, in_line, begins_four, opens_comment};
-ghost use Rattle.tla_ast.specs.Tokens.{is_space};
+ghost use Rattle.tla_tokens.specs.Shapes.{is_blank, is_digit, is_letter, is_word, is_base, is_dash, is_equal, in_line, begins_four, opens_comment};
+ghost use Rattle.tla_tokens.specs.Tokens.{is_space};
 
-use tla_ast::{is_digit, is_letter, is_word};
+use tla_tokens::{is_digit, is_letter, is_word};
 
 pub fn is_blank(b: u8) -> bool
     ensures { result ≡ is_blank b }

@@ -1,7 +1,7 @@
 //! Where comments end.
 
 ghost use Rattle.std.specs.Prelude.{◌≡◌, ◌≤◌, ◌&&◌, ◌==◌, length, drop, IfSome, MatchOption, None, Some};
-ghost use Rattle.tla_ast.specs.Shapes.{after_comment};
+ghost use Rattle.tla_tokens.specs.Shapes.{after_comment};
 
 fn opens(a: u8, b: u8) -> bool
     ensures { result ≡ (a == 40 && b == 42) }

@@ -5,7 +5,7 @@ ghost use Rattle.tla_lexer.specs.declared.fault.LexFault.TheVariants.{NoMemory};
 
 use std::alloc::{AllocError, AllocFailed};
 use thiserror::Error;
-use tla_ast::LexKind;
+use tla_tokens::LexKind;
 use trace_base::Place;
 
 /// Why a text has no tokens, and where; or memory was wanting.

@@ -1,7 +1,7 @@
 //! The tokens of a whole text.
 
 ghost use Rattle.std.specs.Prelude.{◌≡◌, ◌&&◌, ◌+◌, ◌*◌, ◌^◌, ◌<◌, ◌≤◌, length, true, false};
-ghost use Rattle.tla_ast.specs.Tokens.{is_equals, kind_at};
+ghost use Rattle.tla_tokens.specs.Tokens.{is_equals, kind_at};
 ghost use Rattle.tla_lexer.specs.Lexer.{InUtf8, Reads, EndsAlone, Lexes};
 
 use crate::fault::LexFault;
@@ -10,7 +10,7 @@ use crate::places::{behind, start_of};
 use crate::start::module_start;
 use std::alloc::Global;
 use std::str;
-use tla_ast::{Kind, LexKind, Shape, Token, Word};
+use tla_tokens::{Kind, LexKind, Shape, Token, Word};
 use trace_base::Place;
 
 /// The most tokens that a text may have.

@@ -12,4 +12,4 @@ mod strings;
 
 pub use fault::LexFault;
 pub use lexer::{lex, lex_plain};
-pub use tla_ast::LexKind;
+pub use tla_tokens::LexKind;

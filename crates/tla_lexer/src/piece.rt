@@ -1,15 +1,15 @@
 //! One piece at the front of a text.
 
 ghost use Rattle.std.specs.Prelude.{◌≡◌, ◌<◌, ◌≤◌, length, slice_index, IfOk, true, false};
-ghost use Rattle.tla_ast.specs.Spellings.{words, kind_in};
-ghost use Rattle.tla_ast.specs.Shapes.{is_digit, is_word_start, is_word, is_letter, each, number_shape, named_shape, IsPiece};
+ghost use Rattle.tla_tokens.specs.Spellings.{words, kind_in};
+ghost use Rattle.tla_tokens.specs.Shapes.{is_digit, is_word_start, is_word, is_letter, each, number_shape, named_shape, IsPiece};
 ghost use Rattle.tla_lexer.specs.Lexer.{InUtf8, IsOther, IsPlain, begins_base};
 
 use crate::bytes;
 use crate::comments::comment_end;
 use crate::strings::{Quoted, text_of, unquote};
 use std::alloc::{AllocError, Global};
-use tla_ast::{
+use tla_tokens::{
     Kind, LexKind, Shape, Symbol, Table, begins_fair, has_letter, is_digit, is_letter,
     is_word_start, kind_of,
 };

@@ -1,7 +1,7 @@
 //! Where characters stand.
 
 ghost use Rattle.std.specs.Prelude.{◌≡◌, ◌+◌, ◌*◌, ◌^◌, ◌<◌, ◌≤◌, length};
-ghost use Rattle.tla_ast.specs.Tokens.{place_after, place_behind, start_of};
+ghost use Rattle.tla_tokens.specs.Tokens.{place_after, place_behind, start_of};
 
 use trace_base::Place;
 

@@ -2,11 +2,11 @@
 
 ghost use Rattle.std.specs.Prelude.{◌≡◌, ◌≤◌, length, IfSome};
 ghost use Rattle.std.specs.List.{prefix_len};
-ghost use Rattle.tla_ast.specs.Shapes.{is_dash};
-ghost use Rattle.tla_ast.specs.Tokens.{begins_word, begins_heading, begins_module, module_start};
+ghost use Rattle.tla_tokens.specs.Shapes.{is_dash};
+ghost use Rattle.tla_tokens.specs.Tokens.{begins_word, begins_heading, begins_module, module_start};
 
 use crate::bytes;
-use tla_ast::is_word;
+use tla_tokens::is_word;
 
 /// Whether a letter, a digit or `_` begins the text.
 fn begins_word(text: &[u8]) -> bool

@@ -1,11 +1,11 @@
 //! Strings and texts.
 
 ghost use Rattle.std.specs.Prelude.{◌≡◌, ◌||◌, ◌==◌, IfOk, IsUtf8};
-ghost use Rattle.tla_ast.specs.Shapes.{escaped};
+ghost use Rattle.tla_tokens.specs.Shapes.{escaped};
 ghost use Rattle.tla_lexer.specs.Lexer.{IsQuoted};
 
 use std::alloc::{AllocError, Global};
-use tla_ast::LexKind;
+use tla_tokens::LexKind;
 use trace_base::Text;
 
 /// What stands behind an opening quote, and how many bytes that takes.

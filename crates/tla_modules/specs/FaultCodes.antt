@@ -1,6 +1,6 @@
 -- The code and the name of why a program is refused. A file that is not read has none.
 use Rattle.std.specs.Prelude.{ℕ, List, [], codes}
-use Rattle.tla_ast.specs.FaultCodes.{lex_code}
+use Rattle.tla_tokens.specs.FaultCodes.{lex_code}
 use Rattle.tla_exprs.specs.FaultCodes.{parse_code}
 use Rattle.tla_modules.specs.declared.fault.LoadWhy.{LoadWhy}
 use Rattle.tla_modules.specs.declared.fault.LoadWhy.TheVariants as load

@@ -7,10 +7,10 @@ use Rattle.std.specs.Prelude.{◌≡◌, ◌≢◌, ℕ, ◌≤◌, true, List, 
 use Rattle.trace_base.specs.Device.{File, found, Rose, Lacks, IsWhole, IsLonger}
 use Rattle.trace_base.specs.declared.reading.ReadFault.{ReadFault}
 use Rattle.trace_base.specs.declared.reading.ReadFault.TheVariants.{Missing, Failed, TooLong, NoMemory}
-use Rattle.tla_ast.specs.declared.token.Token.{Token}
+use Rattle.tla_tokens.specs.declared.token.Token.{Token}
 use Rattle.tla_ast.specs.declared.laid.Laid.{Laid}
 use Rattle.tla_ast.specs.declared.module.Module.{Module}
-use Rattle.tla_ast.specs.Tokens.{Tokens}
+use Rattle.tla_tokens.specs.Tokens.{Tokens}
 use Rattle.tla_ast.specs.Laid.{IsLaid, IsLeftOfList}
 use Rattle.tla_ast.specs.Modules.{SpellsModule}
 use Rattle.tla_exprs.specs.declared.fault.ParseFault.{ParseFault}

@@ -7,8 +7,8 @@ ghost use Rattle.tla_modules.specs.declared.fault.Stop.TheVariants as stops;
 
 use std::alloc::{AllocError, AllocFailed};
 use thiserror::Error;
-use tla_ast::LexKind;
 use tla_exprs::ParseFault;
+use tla_tokens::LexKind;
 use trace_base::{Names, Place, ReadFault, Text};
 
 /// Why a program was refused. A place counts its file in the list of files that goes with the refusal.

@@ -17,6 +17,3 @@ pub use meant::{Entry, Meant, Named};
 pub use operands::others_of;
 pub use program_names::ProgramNames;
 pub use scope::{Local, Scope};
-
-#[cfg(test)]
-mod tests;

@@ -8,8 +8,8 @@ use Rattle.tla_ast.specs.declared.laid.Laid.TheVariants.{Plain}
 use Rattle.tla_ast.specs.declared.module.Module.{Module}
 use Rattle.tla_ast.specs.declared.module.Unit.{Unit as ModuleUnit}
 use Rattle.tla_ast.specs.declared.module.Unit.TheVariants as units
-use Rattle.tla_ast.specs.declared.token.Kind.TheVariants as kinds
-use Rattle.tla_ast.specs.declared.token.Word.TheVariants as words
+use Rattle.tla_tokens.specs.declared.token.Kind.TheVariants as kinds
+use Rattle.tla_tokens.specs.declared.token.Word.TheVariants as words
 use Rattle.tla_ast.specs.Grammar.{◌⨟◌, some_token}
 use Rattle.tla_ast.specs.Modules.{ExtendsText, ModuleText, UnitText, UnitsText}
 use Rattle.reader_model.specs.Beginnings.{FittingBegunDefinition}

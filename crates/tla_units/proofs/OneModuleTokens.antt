@@ -2,10 +2,10 @@
 use Rattle.std.proofs.Common.{◌≡◌, Bool, true, false, List, [], ◌∷◌, inl, inr, sym, ap, subst, ◌∙◌}
 use Rattle.tla_ast.specs.declared.laid.Laid.{Laid}
 use Rattle.tla_ast.specs.declared.laid.Laid.TheVariants.{Plain, ListOpen, ListItem, ListClose}
-use Rattle.tla_ast.specs.declared.token.Kind.{Kind}
-use Rattle.tla_ast.specs.declared.token.Kind.TheVariants as kinds
-use Rattle.tla_ast.specs.declared.token.Word.{Word}
-use Rattle.tla_ast.specs.declared.token.Word.TheVariants as words
+use Rattle.tla_tokens.specs.declared.token.Kind.{Kind}
+use Rattle.tla_tokens.specs.declared.token.Kind.TheVariants as kinds
+use Rattle.tla_tokens.specs.declared.token.Word.{Word}
+use Rattle.tla_tokens.specs.declared.token.Word.TheVariants as words
 use Rattle.tla_ast.specs.declared.module.Unit.{Unit as ModuleUnit}
 use Rattle.tla_ast.specs.declared.module.Unit.TheVariants as units
 use Rattle.tla_ast.specs.Grammar.{some_token}

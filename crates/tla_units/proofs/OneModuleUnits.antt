@@ -1,7 +1,7 @@
 -- One unit and then the next: the form of a unit is told by its first token, and where it ends by its parts.
 use Rattle.std.proofs.Common.{◌≡◌, List, [], ◌∷◌, inl, inr, refl, sym, ap, subst, ◌∙◌}
 use Rattle.tla_ast.specs.declared.laid.Laid.{Laid}
-use Rattle.tla_ast.specs.declared.token.Kind.TheVariants as kinds
+use Rattle.tla_tokens.specs.declared.token.Kind.TheVariants as kinds
 use Rattle.tla_ast.specs.declared.module.Declared.{Declared}
 use Rattle.tla_ast.specs.declared.module.Unit.{Unit as ModuleUnit}
 use Rattle.tla_ast.specs.declared.module.Unit.TheVariants as units

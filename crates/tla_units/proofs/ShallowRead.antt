@@ -6,7 +6,7 @@ use Rattle.tla_ast.specs.declared.expr.Definition.{Definition as UnitDefinition}
 use Rattle.tla_ast.specs.declared.module.Declared.{Declared}
 use Rattle.tla_ast.specs.declared.module.Unit.{Unit as ModuleUnit}
 use Rattle.tla_ast.specs.declared.module.Unit.TheVariants as units
-use Rattle.tla_ast.specs.declared.token.Kind.TheVariants as kinds
+use Rattle.tla_tokens.specs.declared.token.Kind.TheVariants as kinds
 use Rattle.tla_ast.specs.Begun.{Begun}
 use Rattle.tla_ast.specs.Fits.{Spells}
 use Rattle.tla_ast.specs.Trees.{Tree}

@@ -1,6 +1,6 @@
 -- The law between junction lists and modules: what is marked ends as the tokens do.
 use Rattle.std.specs.Prelude.{List}
-use Rattle.tla_ast.specs.declared.token.Token.{Token}
+use Rattle.tla_tokens.specs.declared.token.Token.{Token}
 use Rattle.tla_ast.specs.declared.laid.Laid.{Laid}
 use Rattle.tla_ast.specs.Laid.{EndsOnce, IsLaid}
 use Rattle.tla_ast.specs.Modules.{LaidEndsOnce}

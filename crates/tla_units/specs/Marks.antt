@@ -2,12 +2,12 @@
 use Rattle.std.specs.Prelude.{Bool, false, List, [], ◌∷◌, Option, Some, None}
 use Rattle.tla_ast.specs.declared.laid.Laid.{Laid}
 use Rattle.tla_ast.specs.declared.laid.Laid.TheVariants.{Plain, ListOpen, ListItem, ListClose}
-use Rattle.tla_ast.specs.declared.token.Kind.{Kind}
-use Rattle.tla_ast.specs.declared.token.Kind.TheVariants as kinds
-use Rattle.tla_ast.specs.declared.token.Word.{Word}
-use Rattle.tla_ast.specs.declared.token.Word.TheVariants as words
-use Rattle.tla_ast.specs.declared.token.Symbol.{Symbol}
-use Rattle.tla_ast.specs.declared.token.Symbol.TheVariants as symbols
+use Rattle.tla_tokens.specs.declared.token.Kind.{Kind}
+use Rattle.tla_tokens.specs.declared.token.Kind.TheVariants as kinds
+use Rattle.tla_tokens.specs.declared.token.Word.{Word}
+use Rattle.tla_tokens.specs.declared.token.Word.TheVariants as words
+use Rattle.tla_tokens.specs.declared.token.Symbol.{Symbol}
+use Rattle.tla_tokens.specs.declared.token.Symbol.TheVariants as symbols
 use Rattle.tla_ast.specs.Opens.{is_end}
 use Rattle.tla_units.specs.declared.marks.Mark.{Mark}
 use Rattle.tla_units.specs.declared.marks.Mark.TheVariants.{Name, Dashes, Equals, Comma, Defined, Heading, Extends, Variables, Constants, Assume, Theorem}

@@ -5,8 +5,8 @@ use Rattle.tla_ast.specs.declared.laid.Laid.{Laid}
 use Rattle.tla_ast.specs.declared.module.Declared.{Declared}
 use Rattle.tla_ast.specs.declared.module.Module.{Module}
 use Rattle.tla_ast.specs.declared.module.Unit.{Unit as ModuleUnit}
-use Rattle.tla_ast.specs.declared.token.Kind.TheVariants as kinds
-use Rattle.tla_ast.specs.declared.token.Word.TheVariants as words
+use Rattle.tla_tokens.specs.declared.token.Kind.TheVariants as kinds
+use Rattle.tla_tokens.specs.declared.token.Word.TheVariants as words
 use Rattle.tla_ast.specs.Begun.{BegunModule, FittingBegunModule}
 use Rattle.tla_ast.specs.Grammar.{Span, ◌⨟◌, nothing, either, some_token, word, name}
 use Rattle.tla_ast.specs.Modules.{DeclaredNamesText, ExtendsText, MaybeTitle, SpellsModule, UnitText, variable_word, constant_word, assume_word, theorem_word}

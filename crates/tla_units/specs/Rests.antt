@@ -6,7 +6,7 @@ use Rattle.trace_base.specs.declared.place.Place.{Place}
 use Rattle.tla_ast.specs.declared.laid.Laid.{Laid}
 use Rattle.tla_ast.specs.Trees.{Tree}
 use Rattle.tla_ast.specs.Fits.{Fits}
-use Rattle.tla_ast.specs.declared.token.Kind.TheVariants as kinds
+use Rattle.tla_tokens.specs.declared.token.Kind.TheVariants as kinds
 use Rattle.tla_ast.specs.Grammar.{Span, ◌⨟◌, nothing, never, either, some_token, Text}
 use Rattle.reader_model.specs.Beginnings.{DefinitionText}
 use Rattle.tla_units.specs.Marks.{mark_of}

@@ -2,9 +2,9 @@
 
 ghost use Rattle.std.specs.Prelude.{◌≡◌, ◌<◌, ◌+◌, [], ◌∷◌, false, None, length, drop, IfNone, IfSome, OnOk, OnErr, IfOk, IfErr};
 ghost use Rattle.tla_ast.specs.declared.laid.Laid.TheVariants.{Plain};
-ghost use Rattle.tla_ast.specs.declared.token.Kind.TheVariants as kinds;
-ghost use Rattle.tla_ast.specs.declared.token.Word.TheVariants as words;
-ghost use Rattle.tla_ast.specs.declared.token.Symbol.TheVariants as symbols;
+ghost use Rattle.tla_tokens.specs.declared.token.Kind.TheVariants as kinds;
+ghost use Rattle.tla_tokens.specs.declared.token.Word.TheVariants as words;
+ghost use Rattle.tla_tokens.specs.declared.token.Symbol.TheVariants as symbols;
 ghost use Rattle.tla_ast.specs.Grammar.{some_token, word};
 ghost use Rattle.tla_ast.specs.Modules.{LaidEndsOnce};
 ghost use Rattle.tla_exprs.specs.Refused.{IsRefusedAt};
@@ -14,8 +14,9 @@ ghost use Rattle.tla_units.specs.Reads.{Lacks};
 ghost use Rattle.tla_units.specs.Rests.{Marked};
 ghost use Rattle.tla_units.specs.declared.marks.Mark.TheVariants as marks;
 
-use tla_ast::{Kind, Laid, Symbol, Token, Word};
+use tla_ast::Laid;
 use tla_exprs::{ParseFault, fault_at};
+use tla_tokens::{Kind, Symbol, Token, Word};
 
 /// A token by its part in the grammar of modules.
 #[derive(Clone, Copy, Debug, Drop, PartialEq, Eq)]

@@ -11,8 +11,9 @@ ghost use Rattle.tla_units.specs.declared.marks.Mark.TheVariants as marks;
 
 use crate::marks::{Mark, mark_at, token_at};
 use std::alloc::Global;
-use tla_ast::{Declared, DeclaredNames, Kind, Laid};
+use tla_ast::{Declared, DeclaredNames, Laid};
 use tla_exprs::{ParseFault, fault_at};
+use tla_tokens::Kind;
 use trace_base::Names;
 
 /// Reads a name.

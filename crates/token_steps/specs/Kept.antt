@@ -3,7 +3,7 @@ use Rattle.std.specs.Prelude.{ℕ, List, drop}
 use Rattle.tla_ast.specs.declared.laid.Laid.{Laid}
 use Rattle.tla_ast.specs.Trees.{Tree}
 use Rattle.trace_base.specs.declared.place.Place.{Place}
-use Rattle.tla_ast.specs.declared.token.Kind.{Kind}
+use Rattle.tla_tokens.specs.declared.token.Kind.{Kind}
 use Rattle.reader_model.specs.Machine.{Stepped, Outcome, behind, closes, laid_closes, kind_closes, follows, step, run}
 use Rattle.reader_model.specs.declared.frame.Frame.{Frame}
 use Rattle.reader_model.specs.declared.frame.Mode.{Mode}

@@ -10,9 +10,8 @@ use open_rows::{Joined, Stack, Stepped, infix_of_symbol, infix_step, pop, settle
 use reader_model::{Form, Frame, Mode, Scope};
 use row_symbols::{Member, join_member, symbol_closes, with_step};
 use std::alloc::Global;
-use tla_ast::{
-    Bullet, Changes, Definition, Definitions, Expr, Exprs, Kind, Laid, Node, Step, Symbol, Word,
-};
+use tla_ast::{Bullet, Changes, Definition, Definitions, Expr, Exprs, Laid, Node, Step};
+use tla_tokens::{Kind, Symbol, Word};
 use trace_base::{Names, NoMemory, Place, Text};
 
 /// A definition with its body.

@@ -11,7 +11,8 @@ use open_rows::{Stack, Stepped, want};
 use reader_model::{Binder, Binding, Form, Frame, Mode, RecordKind, Scope};
 use row_symbols::{begin_binding, with_step};
 use std::alloc::Global;
-use tla_ast::{Arms, Changes, Expr, Exprs, Fields, Kind, Laid, Step, StepAt, Steps, Symbol};
+use tla_ast::{Arms, Changes, Expr, Exprs, Fields, Laid, Step, StepAt, Steps};
+use tla_tokens::{Kind, Symbol};
 use trace_base::{Names, NoMemory, Place, Text};
 
 /// The name that a token is, and its place.

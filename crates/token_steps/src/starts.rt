@@ -13,7 +13,8 @@ use open_rows::{Stack, Stepped, deliver, push, want};
 use reader_model::{Action, Binder, Binding, Frame, Mode, RecordKind};
 use row_symbols::begins;
 use std::alloc::Global;
-use tla_ast::{Arms, Bounds, Bullet, Expr, Exprs, Fields, Kind, Laid, Node, Symbol, Word};
+use tla_ast::{Arms, Bounds, Bullet, Expr, Exprs, Fields, Laid, Node};
+use tla_tokens::{Kind, Symbol, Word};
 use trace_base::{Names, NoMemory, Place, Text};
 
 /// An expression begins inside that frame.

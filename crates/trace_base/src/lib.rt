@@ -25,6 +25,3 @@ pub use text::Text;
 
 /// Want of memory: the one refusal that any call that allocates may give.
 pub type NoMemory = std::alloc::AllocError;
-
-#[cfg(test)]
-mod tests;

@@ -6,18 +6,18 @@ use Rattle.std.specs.Str.{is_utf8}
 use Rattle.std.specs.List.{list_any}
 use Rattle.std.specs.Cmp.Lexicographic.{pointwise}
 use Rattle.trace_base.specs.declared.place.Place.{Place}
-use Rattle.tla_ast.specs.declared.token.Kind.{Kind}
-use Rattle.tla_ast.specs.declared.token.Kind.TheVariants as kinds
-use Rattle.tla_ast.specs.declared.token.Word.TheVariants as word
-use Rattle.tla_ast.specs.declared.token.Symbol.TheVariants as symbol
-use Rattle.tla_ast.specs.declared.token.Token.{Token}
-use Rattle.tla_ast.specs.declared.piece.LexKind.{LexKind}
-use Rattle.tla_ast.specs.declared.piece.LexKind.TheVariants.{BadCharacter}
-use Rattle.tla_ast.specs.declared.piece.Shape.{Shape}
-use Rattle.tla_ast.specs.declared.piece.Shape.TheVariants.{Blank, Spelled, Bad}
-use Rattle.tla_ast.specs.Spellings.{Spelling, words, runs, signs, kind_in}
-use Rattle.tla_ast.specs.Shapes.{shape_of, IsPiece, only_if, is_blank, is_digit, is_letter, is_word_start, is_word, is_dash, is_equal, is_base, is_run, begins_letter, is_empty, each, in_line, number_shape, number_from, named_shape, begins_fair, word_shape, after_quote, content_shape, opens_comment, after_comment, comment_shape, begins_four, is_one_digit, run_shape, backslash_shape, sign_shape}
-use Rattle.tla_ast.specs.Tokens.{Piece, ArePieces, text_of, Outcome, with_front, with_token, with_piece, outcome_of, kind_at, is_equals, token_at, place_behind, LexedFrom, LexedText, Tokens, start_of}
+use Rattle.tla_tokens.specs.declared.token.Kind.{Kind}
+use Rattle.tla_tokens.specs.declared.token.Kind.TheVariants as kinds
+use Rattle.tla_tokens.specs.declared.token.Word.TheVariants as word
+use Rattle.tla_tokens.specs.declared.token.Symbol.TheVariants as symbol
+use Rattle.tla_tokens.specs.declared.token.Token.{Token}
+use Rattle.tla_tokens.specs.declared.piece.LexKind.{LexKind}
+use Rattle.tla_tokens.specs.declared.piece.LexKind.TheVariants.{BadCharacter}
+use Rattle.tla_tokens.specs.declared.piece.Shape.{Shape}
+use Rattle.tla_tokens.specs.declared.piece.Shape.TheVariants.{Blank, Spelled, Bad}
+use Rattle.tla_tokens.specs.Spellings.{Spelling, words, runs, signs, kind_in}
+use Rattle.tla_tokens.specs.Shapes.{shape_of, IsPiece, only_if, is_blank, is_digit, is_letter, is_word_start, is_word, is_dash, is_equal, is_base, is_run, begins_letter, is_empty, each, in_line, number_shape, number_from, named_shape, begins_fair, word_shape, after_quote, content_shape, opens_comment, after_comment, comment_shape, begins_four, is_one_digit, run_shape, backslash_shape, sign_shape}
+use Rattle.tla_tokens.specs.Tokens.{Piece, ArePieces, text_of, Outcome, with_front, with_token, with_piece, outcome_of, kind_at, is_equals, token_at, place_behind, LexedFrom, LexedText, Tokens, start_of}
 use Rattle.unchecked_laws.specs.Laws.{HasNoFeed}
 
 -- if the token is a name, no line feed stands in it

@@ -4,15 +4,15 @@ use Rattle.std.proofs.lemmas.List.Elements.{All-nil, All-append, All-push}
 use Rattle.std.specs.Prelude.{All, codes}
 use Rattle.trace_base.specs.declared.place.Place.{Place}
 use Rattle.tla_ast.specs.declared.config.Config.{Config}
-use Rattle.tla_ast.specs.declared.token.Kind.{Kind}
-use Rattle.tla_ast.specs.declared.token.Kind.TheVariants as kinds
-use Rattle.tla_ast.specs.declared.token.Word.{Word}
-use Rattle.tla_ast.specs.declared.token.Word.TheVariants as word
-use Rattle.tla_ast.specs.declared.token.Symbol.{Symbol}
-use Rattle.tla_ast.specs.declared.token.Symbol.TheVariants as symbol
-use Rattle.tla_ast.specs.declared.token.Token.{Token}
-use Rattle.tla_ast.specs.Shapes.{each, in_line}
-use Rattle.tla_ast.specs.Tokens as lexer
+use Rattle.tla_tokens.specs.declared.token.Kind.{Kind}
+use Rattle.tla_tokens.specs.declared.token.Kind.TheVariants as kinds
+use Rattle.tla_tokens.specs.declared.token.Word.{Word}
+use Rattle.tla_tokens.specs.declared.token.Word.TheVariants as word
+use Rattle.tla_tokens.specs.declared.token.Symbol.{Symbol}
+use Rattle.tla_tokens.specs.declared.token.Symbol.TheVariants as symbol
+use Rattle.tla_tokens.specs.declared.token.Token.{Token}
+use Rattle.tla_tokens.specs.Shapes.{each, in_line}
+use Rattle.tla_tokens.specs.Tokens as lexer
 use Rattle.tla_config.specs.Given.{nothing_given, with_given, with_choice, with_unchecked, line_of, given_at, after_assignments, after_names, after, after_all}
 use Rattle.tla_config.specs.Marks.{word_mark, symbol_mark, kind_mark, marks_of}
 use Rattle.tla_config.specs.Reads.{Gives, OfLexed}

@@ -1,5 +1,5 @@
 use Rattle.std.proofs.Common.{◌≡◌, ◌≤◌, ◌-◌, ◌+◌, drop, length}
-use Rattle.tla_ast.specs.Shapes.{after_comment}
+use Rattle.tla_tokens.specs.Shapes.{after_comment}
 use Rattle.tla_lexer.proofs.comments.comment_end.Given as goal
 
 abbrev pub invariant-loop-at : goal.invariant-loop-at

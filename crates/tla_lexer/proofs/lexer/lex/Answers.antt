@@ -1,5 +1,5 @@
 use Rattle.std.proofs.Common.{◌∙◌, ap, refl, take, true}
-use Rattle.tla_ast.specs.Tokens.{Tokens, place_behind}
+use Rattle.tla_tokens.specs.Tokens.{Tokens, place_behind}
 use Rattle.tla_lexer.proofs.Steps.{answers_by, tokens_utf8, tokens_not_utf8, module_found, module_missing}
 use Rattle.tla_lexer.proofs.lexer.lex.Goals as goal
 

@@ -1,5 +1,5 @@
 use Rattle.std.proofs.Common.{◌∙◌, ap, refl, subst, take, false}
-use Rattle.tla_ast.specs.Tokens.{Tokens, LexedFrom, place_behind}
+use Rattle.tla_tokens.specs.Tokens.{Tokens, LexedFrom, place_behind}
 use Rattle.tla_lexer.proofs.Steps.{answers_by, tokens_utf8, tokens_not_utf8}
 use Rattle.tla_lexer.proofs.lexer.lex_plain.Goals as goal
 

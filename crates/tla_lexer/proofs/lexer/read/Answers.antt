@@ -1,7 +1,7 @@
 use Rattle.std.proofs.Common.{◌≡◌, ◌++◌, ◌∷◌, [], append_assoc, sym, ap, subst, ◌∙◌, Ok, ◌+◌, arith, length, length-append}
-use Rattle.tla_ast.specs.declared.token.Token.{Token}
-use Rattle.tla_ast.specs.declared.token.Kind.TheVariants.{End}
-use Rattle.tla_ast.specs.Tokens.{LexedFrom, with_all, with_front, token_at, kind_at}
+use Rattle.tla_tokens.specs.declared.token.Token.{Token}
+use Rattle.tla_tokens.specs.declared.token.Kind.TheVariants.{End}
+use Rattle.tla_tokens.specs.Tokens.{LexedFrom, with_all, with_front, token_at, kind_at}
 use Rattle.tla_lexer.proofs.Steps.{lexed_bad, lexed_full, lexed_last, lexed_blank, lexed_token, lexed_end, with_all_more, utf8_after}
 use Rattle.tla_lexer.proofs.lexer.read.Goals as goal
 

@@ -1,5 +1,5 @@
 use Rattle.std.proofs.Common.{◌≤◌, ◌+◌, ◌*◌, length}
-use Rattle.tla_ast.specs.Tokens.{Outcome, LexedFrom, with_all}
+use Rattle.tla_tokens.specs.Tokens.{Outcome, LexedFrom, with_all}
 use Rattle.tla_lexer.specs.Lexer.{InUtf8}
 use Rattle.tla_lexer.proofs.lexer.read.Given as goal
 

@@ -1,5 +1,5 @@
 use Rattle.std.proofs.Common.{◌≡◌, ◌<◌, ◌^◌, drop}
-use Rattle.tla_ast.specs.Shapes.{number_from}
+use Rattle.tla_tokens.specs.Shapes.{number_from}
 use Rattle.tla_lexer.proofs.piece.number.Given as goal
 
 abbrev pub invariant-loop-b : goal.invariant-loop-b

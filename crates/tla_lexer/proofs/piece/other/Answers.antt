@@ -1,7 +1,7 @@
 use Rattle.std.proofs.Common.{sym, ◌∙◌, subst}
-use Rattle.tla_ast.specs.Shapes.{IsPiece}
-use Rattle.tla_ast.specs.declared.token.Kind.TheVariants.{Dashes, Equals}
-use Rattle.tla_ast.specs.declared.piece.Shape.TheVariants.{Spelled}
+use Rattle.tla_tokens.specs.Shapes.{IsPiece}
+use Rattle.tla_tokens.specs.declared.token.Kind.TheVariants.{Dashes, Equals}
+use Rattle.tla_tokens.specs.declared.piece.Shape.TheVariants.{Spelled}
 use Rattle.tla_lexer.proofs.Ends.{after_two, comment_piece}
 use Rattle.tla_lexer.proofs.Fronts.{dashes_piece, equals_piece}
 use Rattle.tla_lexer.proofs.piece.other.Goals as goal

@@ -1,5 +1,5 @@
 use Rattle.std.proofs.Common.{sym, ap, ◌∙◌, take}
-use Rattle.tla_ast.specs.Shapes.{each, is_digit}
+use Rattle.tla_tokens.specs.Shapes.{each, is_digit}
 use Rattle.tla_lexer.proofs.Fronts.{blank_piece, number_piece, each_run}
 use Rattle.tla_lexer.proofs.piece.piece.Goals as goal
 

@@ -1,7 +1,7 @@
 use Rattle.std.proofs.Common.{Ok, Err, ◌+◌, ◌∙◌, subst, sym}
-use Rattle.tla_ast.specs.declared.token.Kind.TheVariants.{Str}
-use Rattle.tla_ast.specs.declared.piece.Shape.TheVariants.{Spelled}
-use Rattle.tla_ast.specs.Shapes.{IsPiece}
+use Rattle.tla_tokens.specs.declared.token.Kind.TheVariants.{Str}
+use Rattle.tla_tokens.specs.declared.piece.Shape.TheVariants.{Spelled}
+use Rattle.tla_tokens.specs.Shapes.{IsPiece}
 use Rattle.tla_lexer.proofs.Ends.{string_piece, string_utf8, after_one}
 use Rattle.tla_lexer.proofs.piece.string.Goals as goal
 

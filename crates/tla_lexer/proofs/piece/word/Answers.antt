@@ -1,5 +1,5 @@
 use Rattle.std.proofs.Common.{sym, ap, ◌∙◌, take}
-use Rattle.tla_ast.specs.Shapes.{each, is_word}
+use Rattle.tla_tokens.specs.Shapes.{each, is_word}
 use Rattle.tla_lexer.proofs.Fronts.{fair_piece, word_piece, each_run}
 use Rattle.tla_lexer.proofs.piece.word.Goals as goal
 

@@ -1,5 +1,5 @@
 use Rattle.std.proofs.Common.{◌≡◌, ◌≤◌, ◌+◌, ◌*◌, drop}
-use Rattle.tla_ast.specs.Tokens.{place_behind}
+use Rattle.tla_tokens.specs.Tokens.{place_behind}
 use Rattle.tla_lexer.proofs.places.behind.Given as goal
 
 abbrev pub invariant-loop-b : goal.invariant-loop-b

@@ -1,8 +1,8 @@
 use Rattle.std.proofs.Common.{sym, ap, ◌∙◌, length, length-drop, max, arith}
 use Rattle.std.specs.List.{prefix_len}
 use Rattle.std.proofs.lemmas.List.{take_rest}
-use Rattle.tla_ast.specs.Shapes.{is_dash}
-use Rattle.tla_ast.specs.Tokens.{begins_module}
+use Rattle.tla_tokens.specs.Shapes.{is_dash}
+use Rattle.tla_tokens.specs.Tokens.{begins_module}
 use Rattle.tla_lexer.proofs.Starts.{start_found, start_passed, start_missing, one_or_more}
 use Rattle.tla_lexer.proofs.start.module_start.Goals as goal
 

@@ -1,5 +1,5 @@
 use Rattle.std.proofs.Common.{◌≡◌, ◌≤◌, ◌-◌, drop, length}
-use Rattle.tla_ast.specs.Tokens.{module_start}
+use Rattle.tla_tokens.specs.Tokens.{module_start}
 use Rattle.tla_lexer.proofs.Starts.{further}
 use Rattle.tla_lexer.proofs.start.module_start.Given as goal
 

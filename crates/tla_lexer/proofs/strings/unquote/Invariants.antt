@@ -1,5 +1,5 @@
 use Rattle.std.proofs.Common.{◌≡◌, ◌≤◌, ◌-◌, drop, length}
-use Rattle.tla_ast.specs.Shapes.{after_quote}
+use Rattle.tla_tokens.specs.Shapes.{after_quote}
 use Rattle.tla_lexer.proofs.Quotes.{with_characters}
 use Rattle.tla_lexer.proofs.strings.unquote.Given as goal
 

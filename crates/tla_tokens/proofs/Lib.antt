@@ -1,0 +1,4 @@
+pub mod Cuts
+pub mod Tables
+pub mod Choices
+pub mod NameLaws

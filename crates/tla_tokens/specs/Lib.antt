@@ -1,0 +1,7 @@
+pub mod FaultCodes
+pub mod NameTests
+pub mod Names
+pub mod Shapes
+pub mod Spellings
+pub mod Tables
+pub mod Tokens
