@@ -13,7 +13,7 @@ use Rattle.tla_modules.specs.Loads.{IsProgram, IsRefused, in_a_module, in_the_wh
 use Rattle.tla_modules.specs.Twice.{AreNew, Repeats, declared_as, declared_in, stands}
 use Rattle.tla_units.specs.LawsOfModules.{OneModule, ShallowNotRefused}
 use Rattle.one_program.specs.Laws.{FlatteningMayStop, LoadingMayStop, MayStop, NoConfigurationRefused, NothingRepeats, OneFlattening}
-use Rattle.one_program.proofs.Paths.{path_same}
+use Rattle.tla_modules.proofs.PathLaws.{path_same}
 use Rattle.one_program.proofs.Refused.{IsFound, IsOk, module_stop}
 use Rattle.one_program.proofs.Spelling.{module_same}
 use Rattle.one_program.proofs.Stopping.{flattening_stops}

@@ -1,6 +1,5 @@
 pub mod Beside
 pub mod Flattenings
-pub mod Paths
 pub mod Programs
 pub mod Refused
 pub mod Spelling

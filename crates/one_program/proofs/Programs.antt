@@ -10,7 +10,7 @@ use Rattle.tla_modules.specs.Loads.{IsProgram, IsProgramOf}
 use Rattle.tla_units.specs.LawsOfModules.{OneModule}
 use Rattle.one_program.specs.Laws.{OneConfiguration, OneFlattening, OneLoading, OneProgram}
 use Rattle.one_program.proofs.Flattenings.{flattening_same}
-use Rattle.one_program.proofs.Paths.{path_same}
+use Rattle.tla_modules.proofs.PathLaws.{path_same}
 use Rattle.one_program.proofs.Spelling.{module_same, ok_same}
 
 pub one_flattening : OneOutcome → OneLaid → OneModule → OneFlattening

@@ -67,10 +67,4 @@ impl Values {
     {
         &self.items
     }
-
-    pub fn into_items(self) -> Vec<Value>
-        ensures { result.items ≡ self }
-    {
-        self.items
-    }
 }

@@ -1,3 +1,4 @@
+pub mod PathLaws
 mod Declares
 mod FromFiles
 mod Outcomes

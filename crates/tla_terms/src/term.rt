@@ -2,15 +2,14 @@
 
 ghost use Rattle.std.specs.Prelude.{◌≡◌, IfOk, OnErr, OnOk, length, option_copied, option_map, slice_get};
 ghost use Rattle.tla_terms.specs.Lists.{terms_list, steps_list, bounds_list, fields_list, changes_list, arms_list};
-ghost use Rattle.tla_terms.specs.Terms.{First, MoreArms, MoreBounds, MoreChanges, MoreFields, MoreSteps, MoreTerms, Next, NoArms, NoBounds, NoChanges, NoFields, NoSteps, NoTerms, meaning_of};
-ghost use Rattle.tla_terms.specs.TermViews.{step_item, bound_item, field_item, change_item, arm_item, are_none, steps_are_none, node_view, step_view, terms_of, steps_of, bounds_of, fields_of, changes_of, arms_of, operands_of};
+ghost use Rattle.tla_terms.specs.Terms.{First, MoreArms, MoreBounds, MoreChanges, MoreFields, MoreSteps, MoreTerms, Next, NoArms, NoBounds, NoChanges, NoFields, NoSteps, NoTerms};
+ghost use Rattle.tla_terms.specs.TermViews.{step_item, bound_item, field_item, change_item, arm_item, are_none, steps_are_none, step_view, terms_of, steps_of, bounds_of, fields_of, changes_of, arms_of, operands_of};
 
 use crate::ids::{DefId, DefIds};
 use crate::level::Level;
 use crate::standard::{NamedSet, StandardOperator};
 use std::alloc::Global;
 use std::marker::Model;
-use std::mem::replace;
 use tla_ast::{InfixOperator, PrefixOperator, Quantifier};
 use tla_core::VarId;
 use tla_values::Value;
@@ -208,16 +207,6 @@ pub struct Arms {
 pub struct Operands {
     first: Box<Term>,
     others: Vec<Operand>,
-}
-
-impl Term {
-    /// What it means.
-    pub fn into_node(self) -> TermNode
-        ensures { meaning_of self ≡ node_view result }
-    {
-        let mut whole = self;
-        replace(&mut whole.node, TermNode::Slot(0))
-    }
 }
 
 impl Model for Term {
@@ -661,20 +650,6 @@ impl Operands {
     {
         self.others.push(item)?;
         Ok(())
-    }
-
-    /// The operands as they are: the first, and those behind it.
-    pub fn from_parts(
-        alloc: Global,
-        first: Term,
-        others: Vec<Operand>,
-    ) -> Result<Operands, NoMemory>
-        ensures { IfOk result (λ o. o ≡ operands_of first others.items) }
-    {
-        Ok(Operands {
-            first: Box::new(alloc, first)?,
-            others,
-        })
     }
 
     /// The first operand, and those behind it.

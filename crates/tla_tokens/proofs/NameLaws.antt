@@ -1,5 +1,5 @@
 -- The program's test of a name tells the names of the language.
-use Rattle.std.proofs.Common.{◌≡◌, ◌⊎◌, inl, inr, ◌∙◌, sym, ap, subst, refl, ℕ, ◌==◌, ◌&&◌, ◌||◌, not, Bool, true, false, cond, List, [], ◌∷◌, Option, Some, None, arith}
+use Rattle.std.proofs.Common.{◌≡◌, inl, inr, ◌∙◌, sym, ap, refl, ℕ, ◌==◌, ◌&&◌, not, Bool, true, false, cond, List, [], ◌∷◌, Option, Some, None, arith}
 use Rattle.std.proofs.lemmas.Bool.{and_parts, and_from, false≢true, not-true}
 use Rattle.std.proofs.lemmas.Bool.Decides.{nat_tests}
 use Rattle.std.specs.Prelude.{is_some, length, Result, Ok, Err, drop, nat_lt, ◌^◌, if◌then◌else◌, pos, ℤ}
@@ -9,11 +9,11 @@ use Rattle.tla_tokens.specs.declared.token.Kind.{Kind}
 use Rattle.tla_tokens.specs.declared.token.Kind.TheVariants as kinds
 use Rattle.tla_tokens.specs.declared.token.Symbol.TheVariants as symbol
 use Rattle.tla_tokens.specs.declared.piece.LexKind.{LexKind}
-use Rattle.tla_tokens.specs.declared.piece.LexKind.TheVariants.{BadCharacter, NumberTooLarge, OpenComment}
+use Rattle.tla_tokens.specs.declared.piece.LexKind.TheVariants.{BadCharacter, NumberTooLarge}
 use Rattle.tla_tokens.specs.declared.piece.Shape.{Shape}
 use Rattle.tla_tokens.specs.declared.piece.Shape.TheVariants.{Blank, Spelled, Bad}
 use Rattle.tla_tokens.specs.Spellings.{Spelling, kind_in, words, runs, signs}
-use Rattle.tla_tokens.specs.Shapes.{after_comment, after_quote, backslash_shape, begins_fair, begins_four, comment_shape, content_shape, each, in_line, is_base, is_blank, is_dash, is_digit, is_empty, is_equal, is_letter, is_one_digit, is_word, is_word_start, named_shape, number_from, number_shape, only_if, opens_comment, Quoted, run_shape, shape_of, sign_shape, string_shape, word_shape}
+use Rattle.tla_tokens.specs.Shapes.{after_comment, after_quote, backslash_shape, begins_fair, begins_four, comment_shape, content_shape, each, in_line, is_base, is_blank, is_dash, is_digit, is_empty, is_equal, is_letter, is_one_digit, is_word, is_word_start, named_shape, number_from, number_shape, only_if, opens_comment, run_shape, sign_shape, string_shape, word_shape}
 use Rattle.tla_tokens.proofs.Choices.{if_or, pick}
 use Rattle.tla_tokens.specs.Names.{IsName}
 use Rattle.tla_tokens.specs.NameTests.{is_plain_name, is_word_text}

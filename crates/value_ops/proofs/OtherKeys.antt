@@ -1,16 +1,15 @@
 -- Pairs and behind them those of others that have other keys; a pair that is replaced where it stands.
-use Rattle.std.proofs.Common.{◌≡◌, ◌↔◌, ◌⊎◌, inl, inr, ℕ, zero, suc, ◌+◌, ◌<◌, ◌≤◌, List, [], ◌∷◌, ◌++◌, length, take, map, slice_set, get_or, Bool, true, false, cond, not, ap, sym, ◌∙◌, subst, refl, append_assoc, append-nil, arith}
+use Rattle.std.proofs.Common.{◌≡◌, ◌↔◌, inl, inr, ℕ, zero, suc, ◌+◌, ◌<◌, ◌≤◌, List, [], ◌∷◌, ◌++◌, length, map, slice_set, get_or, Bool, true, false, cond, not, ap, sym, ◌∙◌, subst, refl, append_assoc, append-nil, arith}
 use Rattle.std.specs.declared.cmp.Ordering.TheVariants.{Less, Greater}
 use Rattle.std.specs.Ordering.{ordering_reverse}
 use Rattle.std.specs.List.{Contains}
 use Rattle.std.specs.List.Sorted.{IsStrictlySortedBy}
-use Rattle.std.proofs.lemmas.List.{take_all}
 use Rattle.std.proofs.lemmas.List.Elements.{filter-append, Contains-append_left, Contains-append_right, Contains-append_cases}
 use Rattle.std.proofs.lemmas.Map.Keys.{sorted_tail}
 use Rattle.tla_values.specs.Data.{Val}
 use Rattle.tla_values.specs.Ascending.{cons_cases, head_in, tail_in, none_in, below}
 use Rattle.tla_values.specs.Order.{val_cmp, val_eq}
-use Rattle.tla_values.specs.OrderLaws.{val_same, val_eq_equiv, val_total}
+use Rattle.tla_values.specs.OrderLaws.{val_same, val_total}
 use Rattle.tla_values.specs.IsValue.{IsValue}
 use Rattle.tla_values.specs.Functions.{HasKeyTwice, pairs_in, keys_in}
 use Rattle.tla_values.specs.FunctionLaws.{key_cmp, key_total, key_count, count_cons, none_alike, at_most_one, in_keys, pairs_ascending, pairs_ordered}

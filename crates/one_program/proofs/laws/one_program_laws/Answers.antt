@@ -1,4 +1,4 @@
-use Rattle.one_program.proofs.Paths.{path_same}
+use Rattle.tla_modules.proofs.PathLaws.{path_same}
 use Rattle.one_program.proofs.Programs.{one_flattening, one_program, one_loading, one_configuration}
 use Rattle.one_program.proofs.Spelling.{text_same}
 use Rattle.one_program.proofs.laws.one_program_laws.Goals as goal

@@ -4,7 +4,7 @@ use Rattle.std.specs.Prelude.{All, codes}
 use Rattle.std.proofs.lemmas.Bool.{eqb-false}
 use Rattle.std.proofs.lemmas.List.{append_cancel_right}
 use Rattle.std.proofs.lemmas.List.Elements.{All-nil, All-cons, All-head, All-tail, All-append}
-use Rattle.one_program.specs.Laws.{OnePath}
+use Rattle.tla_modules.specs.Paths.{IsPath}
 
 abbrev IsNoSlash : ℕ → Type 0
 IsNoSlash b = b ≢ 47
@@ -62,7 +62,7 @@ no_slash_behind =
 no_slash : (name : List ℕ) → HasNoSlash name → HasNoSlash (name ++ codes ".tla")
 no_slash name n = All-append IsNoSlash name (codes ".tla") n no_slash_behind
 
-pub path_same : OnePath
+pub path_same : (path folder front name main : List ℕ) → IsPath path folder name → IsPath path front main → (folder ≡ front) × (name ≡ main)
 path_same path folder front name main p q =
     let r = cut_same folder front (name ++ codes ".tla") (main ++ codes ".tla") p.whole q.whole (no_slash name p.plain) (no_slash main q.plain) (sym p.parts ∙ q.parts) in
     (r.0, append_cancel_right name main (codes ".tla") r.1)
