@@ -167,7 +167,11 @@ fn decide_choose(
 {
     match describe_set(alloc, pair.scene, depth, term) {
         Err(fault) => Err(fault),
-        Ok(set) => Ok(has_member(pair.scene.next, number, &set)),
+        Ok(set) => {
+            let belongs = has_member(pair.scene.next, number, &set);
+            drop(set);
+            Ok(belongs)
+        }
     }
 }
 

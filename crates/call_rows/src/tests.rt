@@ -1,3 +1,7 @@
+ghost use Rattle.std.specs.Prelude.{◌≡◌, IfOk};
+ghost use Rattle.trace_base.specs.Device.{AreDistinct};
+ghost use Rattle.trace_base.specs.Memory.{files_of};
+
 use std::alloc::{AllocError, Global};
 use std::rt::HostRuntime;
 use std::test::Fail;
@@ -44,50 +48,41 @@ fn words_of(alloc: Global, words: &[&str]) -> Result<Vec<String>, AllocError> {
     Ok(list)
 }
 
+/// A file of this name that has these bytes.
+fn file(alloc: Global, name: &str, bytes: &[u8]) -> Result<(Text, Vec<u8>), AllocError>
+    ensures { IfOk result (λ f. f.0 ≡ name.now) }
+{
+    let name = Text::from_text(alloc, name)?;
+    Ok((name, Vec::from_slice(alloc, bytes)?))
+}
+
+/// The files of the texts above.
+fn files(alloc: Global) -> Result<Vec<(Text, Vec<u8>)>, AllocError>
+    ensures { IfOk result (λ v. AreDistinct (files_of v.items)) }
+{
+    let module = file(alloc, "Counter.tla", COUNTER)?;
+    let log = file(alloc, "c.log", TWO_LINES)?;
+    let specified = file(alloc, "Specified.tla", SPECIFIED)?;
+    let configuration = file(alloc, "s.cfg", CONFIGURATION)?;
+    let events = file(alloc, "e.log", EVENTS)?;
+    let states = file(alloc, "w.txt", EXPLAINED.as_bytes())?;
+    let others = file(alloc, "v.txt", ANOTHER.as_bytes())?;
+    let files = [
+        module,
+        log,
+        specified,
+        configuration,
+        events,
+        states,
+        others,
+    ];
+    Ok(Vec::from_array(alloc, files)?)
+}
+
 /// What `run` answers where the texts above are the files, and what the sink then holds.
 fn answer(alloc: Global, words: &[&str], given: Given) -> Result<(Status, Vec<u8>), AllocError> {
     let words = words_of(alloc, words)?;
-    let module = (
-        Text::from_text(alloc, "Counter.tla")?,
-        Vec::from_slice(alloc, COUNTER)?,
-    );
-    let log = (
-        Text::from_text(alloc, "c.log")?,
-        Vec::from_slice(alloc, TWO_LINES)?,
-    );
-    let specified = (
-        Text::from_text(alloc, "Specified.tla")?,
-        Vec::from_slice(alloc, SPECIFIED)?,
-    );
-    let configuration = (
-        Text::from_text(alloc, "s.cfg")?,
-        Vec::from_slice(alloc, CONFIGURATION)?,
-    );
-    let events = (
-        Text::from_text(alloc, "e.log")?,
-        Vec::from_slice(alloc, EVENTS)?,
-    );
-    let states = (
-        Text::from_text(alloc, "w.txt")?,
-        Vec::from_slice(alloc, EXPLAINED.as_bytes())?,
-    );
-    let others = (
-        Text::from_text(alloc, "v.txt")?,
-        Vec::from_slice(alloc, ANOTHER.as_bytes())?,
-    );
-    let files = Vec::from_array(
-        alloc,
-        [
-            module,
-            log,
-            specified,
-            configuration,
-            events,
-            states,
-            others,
-        ],
-    )?;
-    let mut files = MemoryFiles::new(files, Vec::from_slice(alloc, given.reads)?);
+    let mut files = MemoryFiles::new(files(alloc)?, Vec::from_slice(alloc, given.reads)?);
     let buffer = Vec::with_capacity(alloc, given.room)?;
     let mut sink = MemorySink::new(buffer, given.room, Vec::from_slice(alloc, given.writes)?);
     let status = run(alloc, &words, &mut files, &mut sink);

@@ -599,7 +599,10 @@ fn functions(
 {
     match expect_set(&keys, domain.at) {
         Ok(()) => functions_into(alloc, keys, part, range),
-        Err(fault) => Err(fault),
+        Err(fault) => {
+            drop(part);
+            Err(fault)
+        }
     }
 }
 
@@ -868,7 +871,10 @@ fn is_part(value: &Value, set: Described, left: &Term, right: &Term) -> Result<b
 {
     match expect_set(value, left.at) {
         Ok(()) => has_part(value, set, right),
-        Err(fault) => Err(fault),
+        Err(fault) => {
+            drop(set);
+            Err(fault)
+        }
     }
 }
 
@@ -877,7 +883,11 @@ fn has_part(value: &Value, set: Described, right: &Term) -> Result<bool, EvalFau
     ensures { Tells result (Then (set_at (place_of right.now) set) (λ e. IsWithin e value.now)) }
 {
     match set_at(set, right.at) {
-        Ok(set) => Ok(is_within(&set, value.members())),
+        Ok(set) => {
+            let within = is_within(&set, value.members());
+            drop(set);
+            Ok(within)
+        }
         Err(fault) => Err(fault),
     }
 }

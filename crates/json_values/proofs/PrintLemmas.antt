@@ -1,21 +1,22 @@
 -- Lists of JSON that are made one by one.
-use Rattle.std.proofs.Common.{◌≡◌, ℕ, zero, suc, ◌+◌, List, [], ◌∷◌, ◌++◌, map, take, Bool, true, false, ◌&&◌, if◌then◌else◌, codes, Some, String, Global, string_bytes, string_cmp, pos, Less, Greater, nat_cmp, ap, sym, ◌∙◌, subst, refl, arith}
+use Rattle.std.proofs.Common.{◌≡◌, ℕ, zero, suc, ◌+◌, List, [], ◌∷◌, ◌++◌, map, take, length, Bool, true, false, ◌&&◌, if◌then◌else◌, codes, Some, String, Global, string_bytes, string_cmp, pos, Less, Greater, nat_cmp, ap, sym, ◌∙◌, subst, refl, arith}
 use Rattle.std.specs.BTreeMap.{insert_entry}
 use Rattle.std.specs.Cmp.Lexicographic.{slice_cmp}
 use Rattle.std.specs.List.{slice_get, AllByRecursion, list_all}
 use Rattle.std.specs.List.Sorted.{IsStrictlySortedBy}
 use Rattle.std.specs.Ordering.{ordering_reverse}
 use Rattle.std.proofs.lemmas.Cmp.{nat_list_cmp_total}
+use Rattle.std.proofs.lemmas.List.{length-map}
 use Rattle.serde_json.specs.Data.{Data, array, object, Items, no_items, item, no_members, member, put}
 use Rattle.serde_json.specs.View.{view, items_view, members_view}
 use Rattle.serde_json.specs.declared.value.Value.{Value}
 use Rattle.serde_json.proofs.Views.{Entry, members_view-insert_entry}
 use Rattle.tla_values.specs.Data.{Val, model, truth, integer, string, set, function, Vals, no_vals, more_vals, Pairs, no_pairs, more_pairs, pairs_of, vals_of, entries, members}
-use Rattle.tla_values.specs.Functions.{IsFunction, IsSequence, numbered_from, pairs_in, values_in}
+use Rattle.tla_values.specs.Functions.{IsFunction, IsSequence, numbered_from, pairs_in, keys_in, values_in}
 use Rattle.tla_values.specs.FunctionLaws.{entries-pairs_of, pairs_of-entries}
 use Rattle.tla_values.specs.Order.{val_cmp, val_eq}
 use Rattle.tla_values.specs.OrderLaws.{val_eq_equiv}
-use Rattle.tla_values.specs.Sets.{IsSet, items_of}
+use Rattle.tla_values.specs.Sets.{IsSet, items_of, count_of}
 use Rattle.json_values.specs.Prints.{prints, print_members, print_values, print_fields, print_pairs, are_numbered, are_named, is_name, name_of, marked}
 use Rattle.json_values.proofs.ReadBack.{numbered_is}
 
@@ -182,3 +183,15 @@ set_prints (truth s) ds h e = absurd h
 set_prints (integer s) ds h e = absurd h
 set_prints (string s) ds h e = absurd h
 set_prints (function s) ds h e = absurd h
+
+-- a function has as many pairs as are counted, and as many keys
+pub pairs_counted : (f : Val) → IsFunction f → count_of f ≡ length (pairs_in f)
+pairs_counted (truth b) h = absurd h
+pairs_counted (integer n) h = absurd h
+pairs_counted (string s) h = absurd h
+pairs_counted (model s) h = absurd h
+pairs_counted (set vs) h = absurd h
+pairs_counted (function ps) h = refl
+
+pub keys_counted : (ks : List Val) (f : Val) → ks ≡ keys_in f → length ks ≡ length (pairs_in f)
+keys_counted ks f e = ap length e ∙ length-map (pairs_in f) (λ (p : Val × Val). p.0)

@@ -71,7 +71,10 @@ pub fn folded(alloc: Global, frame: Frame, last: Expr) -> Result<Expr, NoMemory>
             let node = Node::Let(definitions, Box::new(alloc, last)?);
             Ok(Expr { at, node })
         }
-        _ => Ok(last),
+        other => {
+            drop(other);
+            Ok(last)
+        }
     }
 }
 

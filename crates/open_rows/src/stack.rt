@@ -29,6 +29,7 @@ pub fn push(stack: &mut Stack, frame: Frame) -> Result<(), NoMemory>
     ensures { OnOk result (frames_in stack.new ≡ frame ∷ frames_in stack.old) }
 {
     let Some(unfinished) = stack.unfinished.checked_add(unfinished_in(&frame)) else {
+        drop(frame);
         return Err(AllocError);
     };
     stack.frames.push(frame)?;

@@ -77,40 +77,54 @@ fn tuples_are_all(alloc: Global) -> Result<bool, OpFault> {
     Ok(both && tuples.len() == 2)
 }
 
-/// An empty part leaves no tuple however large the other is, and no part leaves one.
-fn tuples_of_nothing(alloc: Global) -> Result<bool, OpFault> {
-    let many = interval(alloc, &int(1), &int(100_000))?;
-    let none = product_of_two(alloc, many, set(alloc, &[]))?;
-    let one = product(alloc, &[])?;
-    Ok(none.len() == 0 && one.len() == 1 && one.contains(&tuple(alloc, &[])))
+/// The integers from 1 to `last`.
+fn up_to(alloc: Global, last: i64) -> Result<Value, OpFault> {
+    interval(alloc, &int(1), &int(last))
 }
 
-/// 400 times 250 tuples are not too many, and 401 times 250 are.
-fn tuples_have_limits(alloc: Global) -> Result<bool, OpFault> {
-    let most = interval(alloc, &int(1), &int(400))?;
-    let more = interval(alloc, &int(1), &int(401))?;
-    let other = interval(alloc, &int(1), &int(250))?;
-    let one = set(alloc, &[1]);
-    let all = product_of_two(alloc, most, other.copy()?)?;
-    let large = refuses(
-        product_of_two(alloc, more, other),
-        EvalKind::TooLarge,
-        THE_TERM,
-    );
-    let deep = refuses(
-        product_of_two(alloc, one, nested(alloc, 32)?),
-        EvalKind::TooDeep,
-        THE_TERM,
-    );
-    Ok(all.len() == 100_000 && large && deep)
+/// An empty part leaves no tuple however large the other is.
+fn tuples_with_none(alloc: Global) -> Result<bool, OpFault> {
+    let many = up_to(alloc, 100_000)?;
+    let none = product_of_two(alloc, many, set(alloc, &[]))?;
+    Ok(none.len() == 0)
+}
+
+/// No part leaves one tuple.
+fn tuples_of_nothing(alloc: Global) -> Result<bool, OpFault> {
+    let one = product(alloc, &[])?;
+    Ok(one.len() == 1 && one.contains(&tuple(alloc, &[])))
+}
+
+/// 400 times 250 tuples are not too many.
+fn most_tuples(alloc: Global) -> Result<bool, OpFault> {
+    let most = up_to(alloc, 400)?;
+    let all = product_of_two(alloc, most, up_to(alloc, 250)?)?;
+    Ok(all.len() == 100_000)
+}
+
+/// 401 times 250 tuples are.
+fn too_many_tuples(alloc: Global) -> Result<bool, OpFault> {
+    let more = up_to(alloc, 401)?;
+    let told = product_of_two(alloc, more, up_to(alloc, 250)?);
+    Ok(refuses(told, EvalKind::TooLarge, THE_TERM))
+}
+
+/// What is in 32 sets is too deep for a tuple.
+fn too_deep_tuples(alloc: Global) -> Result<bool, OpFault> {
+    let deep = nested(alloc, 32)?;
+    let told = product_of_two(alloc, set(alloc, &[1]), deep);
+    Ok(refuses(told, EvalKind::TooDeep, THE_TERM))
 }
 
 #[test]
 fn tuples_are_listed(rt: HostRuntime) {
     let alloc = rt.alloc();
     assert!(rt; tuples_are_all(alloc) == Ok(true));
+    assert!(rt; tuples_with_none(alloc) == Ok(true));
     assert!(rt; tuples_of_nothing(alloc) == Ok(true));
-    assert!(rt; tuples_have_limits(alloc) == Ok(true));
+    assert!(rt; most_tuples(alloc) == Ok(true));
+    assert!(rt; too_many_tuples(alloc) == Ok(true));
+    assert!(rt; too_deep_tuples(alloc) == Ok(true));
     assert!(rt;
         refuses(
             product_of_two(alloc, set(alloc, &[1]), int(2)),
@@ -136,12 +150,21 @@ fn records(alloc: Global, of_b: Value, of_a: Value) -> Result<Value, OpFault> {
     record_set(alloc, names.as_slice(), parts.as_slice())
 }
 
+fn string(alloc: Global, name: &str) -> Result<Value, AllocError> {
+    let name = Text::from_text(alloc, name)?;
+    Ok(Value::string(name))
+}
+
+/// The record of one name with this value.
+fn field(alloc: Global, name: &str, value: i64) -> Result<Value, OpFault> {
+    let name = string(alloc, name)?;
+    single(alloc, &name, &int(value))
+}
+
 /// The record with these values of b and of a.
 fn record(alloc: Global, of_b: i64, of_a: i64) -> Result<Value, OpFault> {
-    let b = Value::string(Text::from_text(alloc, "b")?);
-    let a = Value::string(Text::from_text(alloc, "a")?);
-    let b = single(alloc, &b, &int(of_b))?;
-    let a = single(alloc, &a, &int(of_a))?;
+    let b = field(alloc, "b", of_b)?;
+    let a = field(alloc, "a", of_a)?;
     merge(alloc, &b, &a)
 }
 
@@ -168,14 +191,18 @@ fn one(alloc: Global, a: Value) -> Result<Vec<Value>, AllocError>
     Ok(values)
 }
 
+/// The records of one name with these values.
+fn fields(alloc: Global, name: &str, values: Value) -> Result<Value, OpFault> {
+    let names = one_name(alloc, name)?;
+    let parts = one(alloc, values)?;
+    record_set(alloc, names.as_slice(), parts.as_slice())
+}
+
 /// One name over `{1, 2}` has two records.
 fn records_of_one(alloc: Global) -> Result<bool, OpFault> {
-    let a = Value::string(Text::from_text(alloc, "a")?);
-    let low = single(alloc, &a, &int(1))?;
-    let high = single(alloc, &a, &int(2))?;
-    let names = one_name(alloc, "a")?;
-    let parts = one(alloc, set(alloc, &[1, 2]))?;
-    let records = record_set(alloc, names.as_slice(), parts.as_slice())?;
+    let records = fields(alloc, "a", set(alloc, &[1, 2]))?;
+    let low = field(alloc, "a", 1)?;
+    let high = field(alloc, "a", 2)?;
     Ok(records.contains(&low) && records.contains(&high) && records.len() == 2)
 }
 

@@ -2,7 +2,7 @@
 
 ghost use Rattle.open_rows.specs.Does.{Does, frames_in};
 ghost use Rattle.reader_model.specs.Machine.{of_records, symbol_closes, with_step};
-ghost use Rattle.std.specs.Prelude.{◌≡◌, IfOk};
+ghost use Rattle.std.specs.Prelude.{◌≡◌, IfOk, Ok};
 ghost use Rattle.tla_ast.specs.TreeViews.{node_view, step_view};
 
 use crate::binders::bound_close;
@@ -345,6 +345,14 @@ fn fair_body_closes(
     }
 }
 
+/// No symbol goes on in this row. Its frame is let go by `drop`, whose proof is made once.
+fn stops(frame: Frame, _e: Expr) -> Result<Stepped, NoMemory>
+    ensures { result ≡ Ok Stepped.Stops }
+{
+    drop(frame);
+    Ok(Stepped::Stops)
+}
+
 /// A symbol at the innermost frame that waits.
 pub fn symbol_closes(
     alloc: Global,
@@ -419,18 +427,18 @@ pub fn symbol_closes(
         Frame::CaseTest(at, arms) => case_test_closes(symbol, at, arms, stack, e),
         Frame::CaseValue(at, arms, test) => case_value_closes(symbol, at, arms, test, stack, e),
         Frame::FairBody(at, subscript) => fair_body_closes(alloc, symbol, at, subscript, stack, e),
-        Frame::Junction(_, _, _) => Ok(Stepped::Stops),
-        Frame::Prefix(_, _) => Ok(Stepped::Stops),
-        Frame::Infix(_, _, _) => Ok(Stepped::Stops),
-        Frame::QuantifierBody(_, _, _) => Ok(Stepped::Stops),
-        Frame::ChooseBody(_, _, _) => Ok(Stepped::Stops),
-        Frame::IfTest(_) => Ok(Stepped::Stops),
-        Frame::IfThen(_, _) => Ok(Stepped::Stops),
-        Frame::IfElse(_, _, _) => Ok(Stepped::Stops),
-        Frame::CaseOther(_, _) => Ok(Stepped::Stops),
-        Frame::DefinitionBody(_, _, _, _) => Ok(Stepped::Stops),
-        Frame::LetBody(_, _) => Ok(Stepped::Stops),
-        Frame::Subscript(_, _, _) => Ok(Stepped::Stops),
-        Frame::FairSubscript(_) => Ok(Stepped::Stops),
+        Frame::Junction(_, _, _) => stops(frame, e),
+        Frame::Prefix(_, _) => stops(frame, e),
+        Frame::Infix(_, _, _) => stops(frame, e),
+        Frame::QuantifierBody(_, _, _) => stops(frame, e),
+        Frame::ChooseBody(_, _, _) => stops(frame, e),
+        Frame::IfTest(_) => stops(frame, e),
+        Frame::IfThen(_, _) => stops(frame, e),
+        Frame::IfElse(_, _, _) => stops(frame, e),
+        Frame::CaseOther(_, _) => stops(frame, e),
+        Frame::DefinitionBody(_, _, _, _) => stops(frame, e),
+        Frame::LetBody(_, _) => stops(frame, e),
+        Frame::Subscript(_, _, _) => stops(frame, e),
+        Frame::FairSubscript(_) => stops(frame, e),
     }
 }

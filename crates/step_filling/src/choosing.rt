@@ -56,7 +56,9 @@ fn listed_members(
     if let Some(value) = seen_whole(sees, number) {
         if is_at_hand(&set) {
             value.is_value();
-            return Ok(fill_seen(alloc, sees, places, number, &set, value)?);
+            let found = fill_seen(alloc, sees, places, number, &set, value);
+            drop(set);
+            return Ok(found?);
         }
     }
     match list_at(alloc, set, at) {

@@ -1,5 +1,6 @@
 ghost use Rattle.std.specs.Prelude.{◌≡◌, ◌≤◌, ◌++◌, [], ◌∷◌, IfOk, MatchOption, OnErr, OnOk, Some, length, slice_get, take};
 
+use crate::state::copied;
 use std::alloc::Global;
 use std::marker::Model;
 use tla_values::Value;
@@ -67,10 +68,7 @@ impl Env {
     pub fn copy(&self, alloc: Global) -> Result<Env, NoMemory>
         ensures { IfOk result (λ e. e ≡ self.now) }
     {
-        let mut values = Vec::with_capacity(alloc, self.values.len())?;
-        for value in &self.values {
-            values.push(value.copy()?)?;
-        }
+        let values = copied(alloc, &self.values)?;
         Ok(Env { values })
     }
 }

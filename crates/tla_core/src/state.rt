@@ -49,10 +49,7 @@ impl State {
     pub fn copy(&self, alloc: Global) -> Result<State, AllocError>
         ensures { IfOk result (λ s. s ≡ self.now) }
     {
-        let mut values = Vec::with_capacity(alloc, self.values.len())?;
-        for value in &self.values {
-            values.push(value.copy()?)?;
-        }
+        let values = copied(alloc, &self.values)?;
         Ok(State { values })
     }
 
@@ -62,6 +59,17 @@ impl State {
     {
         self == other
     }
+}
+
+/// Copies of the values, in their order.
+pub(crate) fn copied(alloc: Global, values: &Vec<Value>) -> Result<Vec<Value>, AllocError>
+    ensures { IfOk result (λ copies. copies.items ≡ values.now.items) }
+{
+    let mut copies = Vec::with_capacity(alloc, values.len())?;
+    for value in values {
+        copies.push(value.copy()?)?;
+    }
+    Ok(copies)
 }
 
 /// How a state was reached: as a first one, by a step that no line shows, or by the step of a line.

@@ -55,6 +55,7 @@ fn read(alloc: Global, laid: &[Laid], from: usize, start: Mode) -> Result<Ended,
         match step(alloc, next, &mut stack, mode)? {
             Stepped::Reads(behind) => {
                 if deep {
+                    drop(behind);
                     return Err(ParseFault::TooNested(last));
                 }
                 mode = behind;
@@ -65,6 +66,7 @@ fn read(alloc: Global, laid: &[Laid], from: usize, start: Mode) -> Result<Ended,
             Stepped::EndsDefinition(definition) => return Ok(Ended::Definition(definition, i)),
         }
     }
+    drop(mode);
     Err(ParseFault::Expected(last))
 }
 

@@ -10,7 +10,7 @@ ghost use Rattle.tla_values.specs.Kind.{kind_of};
 ghost use Rattle.tla_values.specs.Order.{val_cmp, val_eq, kind_rank};
 ghost use Rattle.tla_values.specs.OrderLaws.{val_total, val_order, val_eq_equiv, val_same};
 ghost use Rattle.tla_values.specs.Sets.{Member, MembersAreValues, SetAnswers, SetsByMembers, count_of, items_of};
-ghost use Rattle.tla_values.specs.View.{entries_view, entry_cmp};
+ghost use Rattle.tla_values.specs.View.{entries_view, entry_cmp, node_view};
 
 use std::alloc::{AllocError, Global};
 use std::cmp::Ordering;
@@ -506,16 +506,25 @@ fn find(entries: &Vec<Entry>, key: &Value) -> Result<usize, usize>
 fn copy_value(value: &Value) -> Result<Value, AllocError>
     ensures { IfOk result (λ v. v ≡ value.now) }
 {
-    let levels = value.levels;
-    let node = match &value.node {
-        Node::Model(name) => Node::Model(name.copy()?),
-        Node::Bool(b) => Node::Bool(*b),
-        Node::Int(n) => Node::Int(*n),
-        Node::String(text) => Node::String(text.copy()?),
-        Node::Set(items) => Node::Set(copy_items(items)?),
-        Node::Function(entries) => Node::Function(copy_entries(entries)?),
-    };
-    Ok(Value { node, levels })
+    let node = copy_node(&value.node)?;
+    Ok(Value {
+        node,
+        levels: value.levels,
+    })
+}
+
+#[cycle(copy)]
+fn copy_node(node: &Node) -> Result<Node, AllocError>
+    ensures { IfOk result (λ n. node_view n ≡ node_view node.now) }
+{
+    match node {
+        Node::Model(name) => Ok(Node::Model(name.copy()?)),
+        Node::Bool(b) => Ok(Node::Bool(*b)),
+        Node::Int(n) => Ok(Node::Int(*n)),
+        Node::String(text) => Ok(Node::String(text.copy()?)),
+        Node::Set(items) => Ok(Node::Set(copy_items(items)?)),
+        Node::Function(entries) => Ok(Node::Function(copy_entries(entries)?)),
+    }
 }
 
 #[cycle(copy)]

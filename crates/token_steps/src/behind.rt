@@ -1,4 +1,5 @@
-//! Tokens behind a primary.
+//! Tokens behind a primary. A frame that waits no longer is let go by `drop`, whose proof is made once: where it ends by itself, the drop of each
+//! kind of frame is proved anew.
 
 ghost use Rattle.open_rows.specs.Does.{Does, frames_in};
 ghost use Rattle.reader_model.specs.Machine.{body_of, call_step, infix_of_symbol, infix_or, is_case_mark, item_closes, list_closes, name_closes, parameters_of, same_bullet, symbol_follows, word_closes};
@@ -90,7 +91,10 @@ fn then_closes(frame: Frame, stack: &mut Stack, e: Expr) -> Result<Stepped, NoMe
 {
     match frame {
         Frame::IfTest(at) => want(stack, Frame::IfThen(at, e)),
-        _ => Ok(Stepped::Stops),
+        other => {
+            drop(other);
+            Ok(Stepped::Stops)
+        }
     }
 }
 
@@ -100,7 +104,10 @@ fn else_closes(frame: Frame, stack: &mut Stack, e: Expr) -> Result<Stepped, NoMe
 {
     match frame {
         Frame::IfThen(at, test) => want(stack, Frame::IfElse(at, test, e)),
-        _ => Ok(Stepped::Stops),
+        other => {
+            drop(other);
+            Ok(Stepped::Stops)
+        }
     }
 }
 
@@ -126,7 +133,10 @@ fn except_closes(
             stack,
             e,
         ),
-        _ => Ok(Stepped::Stops),
+        other => {
+            drop(other);
+            Ok(Stepped::Stops)
+        }
     }
 }
 
@@ -141,7 +151,10 @@ fn in_closes(alloc: Global, frame: Frame, stack: &mut Stack, e: Expr) -> Result<
             }
             Scope::Unit => Ok(Stepped::Stops),
         },
-        _ => Ok(Stepped::Stops),
+        other => {
+            drop(other);
+            Ok(Stepped::Stops)
+        }
     }
 }
 
@@ -160,7 +173,10 @@ fn word_closes(
         Word::Else => else_closes(frame, stack, e),
         Word::Except => except_closes(alloc, frame, stack, e),
         Word::In => in_closes(alloc, frame, stack, e),
-        _ => Ok(Stepped::Stops),
+        _ => {
+            drop(frame);
+            Ok(Stepped::Stops)
+        }
     }
 }
 
@@ -183,7 +199,10 @@ fn name_closes(
             }
             Scope::Unit => Ok(Stepped::Stops),
         },
-        _ => Ok(Stepped::Stops),
+        other => {
+            drop(other);
+            Ok(Stepped::Stops)
+        }
     }
 }
 
@@ -214,7 +233,10 @@ fn item_closes(
             items.push(e)?;
             want(stack, Frame::Junction(own, at, items))
         }
-        _ => Ok(Stepped::Stops),
+        other => {
+            drop(other);
+            Ok(Stepped::Stops)
+        }
     }
 }
 
@@ -228,14 +250,18 @@ fn list_closes(frame: Frame, e: Expr) -> Result<Stepped, NoMemory>
             let node = Node::Junction(bullet, items);
             Ok(Stepped::Reads(Mode::Have(Expr { at, node })))
         }
-        _ => Ok(Stepped::Stops),
+        other => {
+            drop(other);
+            Ok(Stepped::Stops)
+        }
     }
 }
 
 /// A token that no row has here.
-fn stops(_frame: Frame, _e: Expr) -> Result<Stepped, NoMemory>
+fn stops(frame: Frame, _e: Expr) -> Result<Stepped, NoMemory>
     ensures { result ≡ Ok Stepped.Stops }
 {
+    drop(frame);
     Ok(Stepped::Stops)
 }
 
@@ -275,7 +301,10 @@ fn laid_closes(
 {
     match laid {
         Laid::Plain(token) => kind_closes(alloc, &token.kind, token.place, frame, stack, e),
-        Laid::ListOpen(_, _) => Ok(Stepped::Stops),
+        Laid::ListOpen(_, _) => {
+            drop(frame);
+            Ok(Stepped::Stops)
+        }
         Laid::ListItem(bullet, _) => item_closes(*bullet, frame, stack, e),
         Laid::ListClose(_) => list_closes(frame, e),
     }
@@ -366,7 +395,10 @@ fn call_step(alloc: Global, stack: &mut Stack, e: Expr) -> Result<Stepped, NoMem
     let (at, node) = e.into_parts();
     match node {
         Node::Name(name) => want(stack, Frame::Call(name, at, Exprs::new(alloc))),
-        _ => Ok(Stepped::Stops),
+        other => {
+            drop(other);
+            Ok(Stepped::Stops)
+        }
     }
 }
 

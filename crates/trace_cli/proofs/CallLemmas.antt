@@ -1,6 +1,6 @@
 -- From what each stage ensures to what the words and the files call for, and to what the sink then holds.
 use Rattle.std.proofs.Common.{ap, ◌≡◌, ℕ, List, length, Option, Some, None, Result, Ok, Err, IfOk, IfErr, string_bytes, sym, ◌∙◌, subst, inl, inr}
-use Rattle.std.specs.Prelude.{◌≤◌, IfSome, OnOk, OnErr, String}
+use Rattle.std.specs.Prelude.{OnOk, OnErr, String}
 use Rattle.std.specs.declared.alloc.Global.{Global}
 use Rattle.std.proofs.Math.Seq.{take-length}
 use Rattle.trace_base.specs.Device.{File, Rose, Appended, AppendedPart}
@@ -23,7 +23,7 @@ use Rattle.ring_files.specs.Ring.{ring_files, ring_job}
 use Rattle.run_words.specs.declared.job.Job.{Job}
 use Rattle.run_words.specs.declared.job.Words.TheVariants.{Validate, Check, SelfRun}
 use Rattle.run_words.specs.declared.job.Words.{Words}
-use Rattle.run_words.specs.Words.{AreWords, JobMeets, MeetsRules, Reads}
+use Rattle.run_words.specs.Words.{AreWords, Reads}
 use Rattle.run_reading.specs.Reaches.{AllRead}
 use Rattle.run_reading.specs.Given.{AllGiven}
 use Rattle.run_stages.specs.declared.stop.Stop.{Stop}
@@ -87,11 +87,6 @@ pub stops_given : (words : List (List ℕ)) (holds : Option (List File)) (b n : 
 stops_given words holds b n job witness (Ok j) form by = tt
 stops_given words holds b n job witness (Err x) form by = given_stop_of words holds b n job witness x form by
 
--- the rules that a job of `check` meets
-pub check_meets : (read : Option Words) (w : Words) (job : Job) (witness : List ℕ) → IfSome read MeetsRules → read ≡ Some w → w ≡ Check job witness → JobMeets job
-check_meets read w job witness meets is same =
-    (subst (λ (x : Words). MeetsRules x) same (subst (λ (r : Option Words). IfSome r MeetsRules) is meets)).0
-
 -- what the smoke test calls for, the words being that command
 pub runs_smoke : (words : List (List ℕ)) (holds : Option (List File)) (b n count : ℕ) (r : Result Judged Stop) → AreWords words (SelfRun count)
     → IfOk r (λ j. SmokeTests count j.status (string_bytes j.report))
@@ -109,11 +104,6 @@ pub stops_smoke : (words : List (List ℕ)) (holds : Option (List File)) (b n co
     → IfErr r (IsSmokeStop count) → IfErr r (IsStop words holds b n)
 stops_smoke words holds b n count (Ok j) form by = tt
 stops_smoke words holds b n count (Err x) form by = smoke_stop_of words holds b n count x form by
-
--- the number of lines of the smoke test
-pub smoke_meets : (read : Option Words) (w : Words) (count : ℕ) → IfSome read MeetsRules → read ≡ Some w → w ≡ SelfRun count → 1 ≤ count
-smoke_meets read w count meets is same =
-    (subst (λ (x : Words). MeetsRules x) same (subst (λ (r : Option Words). IfSome r MeetsRules) is meets)).0
 
 -- no report goes with a failed call on the files or on the sink
 status_no_device : (a : Answer) → status_of a ≡ status.Device → ⊥
@@ -234,10 +224,6 @@ pub verdict_told : (p : Program) (c : Config) (w : List Shown) (v : Verdict) (fi
     → report ≡ verdict_text files count v → report ≡ verdict_text (all_files p c) (length w) v
 verdict_told p c w v files count report are is told =
     told ∙ ap (λ (fs : List (List ℕ)). verdict_text fs count v) are ∙ ap (λ (n : ℕ). verdict_text (all_files p c) n v) is
-
--- the command that was read
-pub form_of : (words : List (List ℕ)) (read : Option Words) (w v : Words) → Reads words (Ok read) → read ≡ Some w → w ≡ v → AreWords words v
-form_of words read w v reads is same = subst (λ (x : Words). AreWords words x) same (subst (λ (r : Option Words). Reads words (Ok r)) is reads)
 
 -- the report of a call stands in the sink, whole or in part
 pub report_part : (r : Result (Unit {0}) Failed) (words : List (List ℕ)) (holds : Option (List File)) (b n : ℕ) (s : Status) (old new : Option (List ℕ)) (report piece : List ℕ)

@@ -1,8 +1,8 @@
-ghost use Rattle.std.specs.Prelude.{◌≡◌, ◌≤◌, IfOk, IfErr, length, string_bytes};
+ghost use Rattle.std.specs.Prelude.{◌≡◌, ◌≤◌, ℕ, List, IfOk, IfErr, length, string_bytes};
 ghost use Rattle.line_steps.specs.Logs.{system};
 ghost use Rattle.state_layers.specs.Answers.{IsAnswer};
 ghost use Rattle.run_words.specs.Line.{words_of};
-ghost use Rattle.run_words.specs.Words.{JobMeets};
+ghost use Rattle.run_words.specs.Words.{AreWords, JobMeets, MeetsRules};
 ghost use Rattle.run_stages.specs.Stops.{StopsBy};
 ghost use Rattle.run_stages.specs.declared.stop.Stop.TheVariants.{NoMemory};
 ghost use Rattle.run_texts.specs.Files.{words_text};
@@ -40,12 +40,25 @@ pub fn judge<F: Files>(alloc: Global, words: &[String], files: &mut F) -> Result
 {
     let read = read_words(alloc, words)?;
     match read {
-        Some(command) => match &command {
-            Words::Validate(job) => judge_job(alloc, job, files),
-            Words::Check(job, witness) => judge_given(alloc, job, witness, files),
-            Words::SelfRun(lines) => judge_smoke(alloc, *lines),
-        },
+        Some(command) => judge_command(alloc, &command, files),
         None => refuse_words(alloc),
+    }
+}
+
+/// What a command calls for, of whichever words it is the command.
+fn judge_command<F: Files>(alloc: Global, command: &Words, files: &mut F) -> Result<Judged, Stop>
+    requires { MeetsRules command.now }
+    ensures runs { (words : List (List ℕ)) → AreWords words command.now
+        → IfOk result (λ j. Runs words (F.holds files.old) (F.faults files.old) (F.faults files.new) j.status (string_bytes j.report)) }
+    ensures stopped { (words : List (List ℕ)) → AreWords words command.now
+        → IfErr result (IsStop words (F.holds files.old) (F.faults files.old) (F.faults files.new)) }
+    ensures same { F.holds files.new ≡ F.holds files.old }
+    ensures later { F.faults files.old ≤ F.faults files.new }
+{
+    match command {
+        Words::Validate(job) => judge_job(alloc, job, files),
+        Words::Check(job, witness) => judge_given(alloc, job, witness, files),
+        Words::SelfRun(lines) => judge_smoke(alloc, *lines),
     }
 }
 

@@ -9,4 +9,4 @@ returns-in-Err c = choose_stops c.args.pair c.args.depth c.args.part c.args.numb
 
 pub returns-in-Ok : goal.returns-in-Ok
 returns-in-Ok c =
-    choose_decided c.args.pair c.args.depth c.args.part c.args.number.0 c.args.term.now c.in-Ok.set c.has_member.result c.requires.form c.requires.ready c.in-Ok.ensures.fine c.has_member.ensures
+    choose_decided c.args.pair c.args.depth c.args.part c.args.number.0 c.args.term.now c.in-Ok.set c.has_member-belongs.result c.requires.form c.requires.ready c.in-Ok.ensures.fine c.has_member-belongs.ensures

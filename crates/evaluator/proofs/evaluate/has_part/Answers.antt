@@ -12,5 +12,5 @@ returns-in-Ok c =
     inl (
       c.in-Ok.set,
       subst (λ (p : Place). set_at p c.args.set (Ok c.in-Ok.set)) (ap place_of c.right.view_is) c.in-Ok.ensures.fine,
-      (c.is_within.result, subst (λ (xs : List Val). IsTrue c.is_within.result ↔ ((w : Val) → Contains xs w → Belongs c.in-Ok.set w)) c.members.ensures c.is_within.ensures, refl),
+      (c.is_within-within.result, subst (λ (xs : List Val). IsTrue c.is_within-within.result ↔ ((w : Val) → Contains xs w → Belongs c.in-Ok.set w)) c.members.ensures c.is_within-within.ensures, refl),
     )

@@ -1,4 +1,5 @@
-use Rattle.std.proofs.Common.{◌≡◌, ℕ, suc, List, take, length, Some, true, false, true≢false, IfOk, if◌then◌else◌, codes, sym, ap, ◌∙◌, subst, refl, arith}
+use Rattle.std.proofs.Common.{◌≡◌, ◌≤◌, ℕ, suc, List, take, length, Some, true, false, true≢false, IfOk, if◌then◌else◌, codes, sym, ap, ◌∙◌, subst, refl, arith}
+use Rattle.std.proofs.lemmas.List.{take_all}
 use Rattle.std.proofs.lemmas.Option.{slice_get_read}
 use Rattle.std.specs.List.{slice_get, list_all}
 use Rattle.serde_json.specs.Data.{Data, array, object, item, no_items}
@@ -11,7 +12,7 @@ use Rattle.tla_values.specs.FunctionLaws.{pairs_ordered, keys_ascending}
 use Rattle.tla_values.specs.Sets.{items_of}
 use Rattle.json_values.specs.Prints.{prints, print_members, print_values, print_fields, print_pairs, are_named, is_name, marked}
 use Rattle.json_values.proofs.PrintDepths.{key_below, value_below, member_below, set_depth}
-use Rattle.json_values.proofs.PrintLemmas.{one_more, items_step, members_last, values_last, pairs_last, fields_step, keyed_is, sequence_prints, keyed_prints, set_prints}
+use Rattle.json_values.proofs.PrintLemmas.{one_more, items_step, members_last, values_last, pairs_last, fields_step, keyed_is, sequence_prints, keyed_prints, set_prints, pairs_counted, keys_counted}
 use Rattle.json_values.proofs.printing.+print.Goals as goal
 
 pub members_json-value_json-requires : goal.members_json-value_json-requires
@@ -125,3 +126,36 @@ set_json-returns t c =
     let listed : ds ≡ print_members (vals_of (items_of v)) = c.in_ok-items.ensures ∙ ap (λ (vs : List Val). print_members (vals_of vs)) c.members.ensures in
     let whole : marked (codes "$set") (view (Array c.in_ok-items.items)) ≡ prints v = ap (marked (codes "$set")) (view-Array c.in_ok-items.items) ∙ set_prints v ds c.requires listed in
     subst (λ (e : Data). IfOk c.marked_json.result (λ json. view json ≡ e)) whole c.marked_json.ensures
+
+pub members_json-returns : goal.members_json-returns
+members_json-returns t c =
+    let vs = c.args.members.now in
+    let whole : length vs ≤ c.loop-member.member-index = omega arith in
+    c.loop-member.invariant ∙ ap (λ (us : List Val). print_members (vals_of us)) (take_all c.loop-member.member-index vs whole)
+
+pub values_json-value_at-inner-requires : goal.values_json-value_at-inner-requires
+values_json-value_at-inner-requires t c = omega (arith, pairs_counted c.args.value.now c.requires)
+
+pub values_json-returns : goal.values_json-returns
+values_json-returns t c =
+    let ps = pairs_in c.args.value.now in
+    let whole : length ps ≤ c.loop-i.i = omega (arith, pairs_counted c.args.value.now c.requires) in
+    c.loop-i.invariant ∙ ap (λ (qs : List (Val × Val)). print_values (pairs_of qs)) (take_all c.loop-i.i ps whole)
+
+pub fields_json-value_at-requires : goal.fields_json-value_at-requires
+fields_json-value_at-requires t c = omega (arith, keys_counted c.args.keys.now c.args.value.now c.requires.same)
+
+pub fields_json-returns : goal.fields_json-returns
+fields_json-returns t c =
+    let ps = pairs_in c.args.value.now in
+    let whole : length ps ≤ c.loop-i.i = omega (arith, keys_counted c.args.keys.now c.args.value.now c.requires.same) in
+    c.loop-i.invariant ∙ ap (λ (qs : List (Val × Val)). print_fields (pairs_of qs)) (take_all c.loop-i.i ps whole)
+
+pub pairs_json-value_at-requires : goal.pairs_json-value_at-requires
+pairs_json-value_at-requires t c = omega (arith, keys_counted c.args.keys.now c.args.value.now c.requires)
+
+pub pairs_json-returns : goal.pairs_json-returns
+pairs_json-returns t c =
+    let ps = pairs_in c.args.value.now in
+    let whole : length ps ≤ c.loop-i.i = omega (arith, keys_counted c.args.keys.now c.args.value.now c.requires) in
+    c.loop-i.invariant ∙ ap (λ (qs : List (Val × Val)). print_pairs (pairs_of qs)) (take_all c.loop-i.i ps whole)

@@ -1,15 +1,15 @@
-use Rattle.std.proofs.Common.{◌≡◌, ℕ, suc, ◌+◌, ◌++◌, List, drop, length, Some, Bool, true, false, true≢false, nat_lt, if◌then◌else◌, codes, string_bytes, append_assoc, sym, ap, ◌∙◌, subst, refl, arith}
+use Rattle.std.proofs.Common.{◌≡◌, ◌≤◌, ℕ, suc, ◌+◌, ◌++◌, List, drop, length, Some, Bool, true, false, true≢false, nat_lt, if◌then◌else◌, codes, string_bytes, append_assoc, sym, ap, ◌∙◌, subst, refl, arith}
 use Rattle.std.proofs.lemmas.Option.{slice_get_read}
 use Rattle.std.specs.List.{slice_get, list_all}
-use Rattle.serde_json.specs.Data.{Data, Items, Members, array, object, string}
+use Rattle.serde_json.specs.Data.{Data, Items, Members, no_items, no_members, array, object, string}
 use Rattle.serde_json.specs.Written.{compact_text, items_text, members_text}
 use Rattle.tla_values.specs.Data.{Val, vals_of, pairs_of, depth, vals_depth}
 use Rattle.tla_values.specs.Functions.{IsSequence, pairs_in, keys_in}
 use Rattle.tla_values.specs.Sets.{items_of}
 use Rattle.json_values.specs.Prints.{prints, print_members, print_values, print_fields, print_pairs, are_named, is_name, name_of, marked}
 use Rattle.json_values.proofs.PrintDepths.{key_below, value_below, member_below, set_depth}
-use Rattle.json_values.proofs.PrintLemmas.{keyed_is, sequence_prints, keyed_prints, set_prints}
-use Rattle.json_values.proofs.SpellLemmas.{set_text, fun_text, later_true, item_pushed, field_pushed, pair_pushed, three_pushed, rest_values, rest_pairs, rest_fields, on_pushed, on_ok}
+use Rattle.json_values.proofs.PrintLemmas.{keyed_is, sequence_prints, keyed_prints, set_prints, pairs_counted, keys_counted}
+use Rattle.json_values.proofs.SpellLemmas.{set_text, fun_text, later_true, item_pushed, field_pushed, pair_pushed, three_pushed, none_left, items_ended, members_ended, rest_members, rest_values, rest_pairs, rest_fields, on_pushed, on_ok}
 use Rattle.json_values.proofs.spelling.+push.Goals as goal
 
 pub push_members-push_value-requires : goal.push_members-push_value-requires
@@ -138,3 +138,72 @@ push_set-returns t c =
     on_pushed c.push_str-2.result new b (codes "}") (old ++ compact_text (prints s)) c.push_str-2.ensures.bytes
     (λ e. three_pushed old a b new (codes "{\"$set\":[") (items_text false ds) (codes "}") (compact_text (prints s)) c.in_ok-push_str.ensures.bytes listed e
     (set_text ds ∙ ap compact_text (set_prints s ds c.requires refl)))
+
+pub push_members-loop-i-preserved : goal.push_members-loop-i-preserved
+push_members-loop-i-preserved t c =
+    let vs = c.args.members.now in
+    let i = c.loop-i.i in
+    let v = c.index-members-i.result in
+    let here = slice_get_read vs (length vs) i v refl c.loop-i-test.true c.index-members-i.is in
+    let old = string_bytes c.loop-i.text in
+    let new = string_bytes c.push_value.new.text in
+    let left = print_members (vals_of (drop (i + 1) vs)) in
+    let step = item_pushed old (string_bytes c.push_comma.new.text) new (nat_lt 0 i) (prints v) left c.in_ok-push_comma.ensures c.in_ok-push_value.ensures in
+    ap (λ (b : Bool). new ++ items_text b left) (later_true i) ∙ step ∙ ap (λ (ds : Items). old ++ items_text (nat_lt 0 i) ds) (sym (rest_members vs i v here)) ∙ c.loop-i.invariant
+
+pub push_members-returns : goal.push_members-returns
+push_members-returns t c =
+    let vs = c.args.members.now in
+    let i = c.loop-i.i in
+    let left = print_members (vals_of (drop i vs)) in
+    let text = string_bytes c.loop-i.text in
+    let new = string_bytes c.push_str.new.self in
+    let whole = string_bytes c.args.text.now ++ items_text false (print_members (vals_of vs)) in
+    let all : length vs ≤ i = omega arith in
+    let none : left ≡ no_items = ap (λ (rest : List Val). print_members (vals_of rest)) (none_left vs i all) in
+    on_pushed c.push_str.result new text (codes "]") whole c.push_str.ensures.bytes (items_ended text new whole (nat_lt 0 i) left none c.loop-i.invariant)
+
+pub push_values-value_at-requires : goal.push_values-value_at-requires
+push_values-value_at-requires t c = omega (arith, pairs_counted c.args.value.now c.requires)
+
+pub push_values-returns : goal.push_values-returns
+push_values-returns t c =
+    let ps = pairs_in c.args.value.now in
+    let i = c.loop-i.i in
+    let left = print_values (pairs_of (drop i ps)) in
+    let text = string_bytes c.loop-i.text in
+    let new = string_bytes c.push_str.new.self in
+    let whole = string_bytes c.args.text.now ++ items_text false (print_values (pairs_of ps)) in
+    let all : length ps ≤ i = omega (arith, pairs_counted c.args.value.now c.requires) in
+    let none : left ≡ no_items = ap (λ (rest : List (Val × Val)). print_values (pairs_of rest)) (none_left ps i all) in
+    on_pushed c.push_str.result new text (codes "]") whole c.push_str.ensures.bytes (items_ended text new whole (nat_lt 0 i) left none c.loop-i.invariant)
+
+pub push_fields-value_at-requires : goal.push_fields-value_at-requires
+push_fields-value_at-requires t c = omega (arith, keys_counted c.args.keys.now c.args.value.now c.requires)
+
+pub push_fields-returns : goal.push_fields-returns
+push_fields-returns t c =
+    let ps = pairs_in c.args.value.now in
+    let i = c.loop-i.i in
+    let left = print_fields (pairs_of (drop i ps)) in
+    let text = string_bytes c.loop-i.text in
+    let new = string_bytes c.push_str-2.new.self in
+    let whole = string_bytes c.args.text.now ++ members_text false (print_fields (pairs_of ps)) in
+    let all : length ps ≤ i = omega (arith, keys_counted c.args.keys.now c.args.value.now c.requires) in
+    let none : left ≡ no_members = ap (λ (rest : List (Val × Val)). print_fields (pairs_of rest)) (none_left ps i all) in
+    on_pushed c.push_str-2.result new text (codes "}") whole c.push_str-2.ensures.bytes (members_ended text new whole (nat_lt 0 i) left none c.loop-i.invariant)
+
+pub push_pairs-value_at-requires : goal.push_pairs-value_at-requires
+push_pairs-value_at-requires t c = omega (arith, keys_counted c.args.keys.now c.args.value.now c.requires)
+
+pub push_pairs-returns : goal.push_pairs-returns
+push_pairs-returns t c =
+    let ps = pairs_in c.args.value.now in
+    let i = c.loop-i.i in
+    let left = print_pairs (pairs_of (drop i ps)) in
+    let text = string_bytes c.loop-i.text in
+    let new = string_bytes c.push_str-2.new.self in
+    let whole = string_bytes c.args.text.now ++ items_text false (print_pairs (pairs_of ps)) in
+    let all : length ps ≤ i = omega (arith, keys_counted c.args.keys.now c.args.value.now c.requires) in
+    let none : left ≡ no_items = ap (λ (rest : List (Val × Val)). print_pairs (pairs_of rest)) (none_left ps i all) in
+    on_pushed c.push_str-2.result new text (codes "]") whole c.push_str-2.ensures.bytes (items_ended text new whole (nat_lt 0 i) left none c.loop-i.invariant)

@@ -11,5 +11,5 @@ returns-in_ok-fill_each-in-Ok-clause-found c =
 
 pub returns-then-is_at_hand-clause-found : goal.returns-then-is_at_hand-clause-found
 returns-then-is_at_hand-clause-found c =
-    seen_filled c.args.sees.now c.args.number.0 c.args.set c.args.at c.args.places.now c.in-Some.value.now c.in_ok-fill_seen.field-0.items
-    (c.is_at_hand.ensures c.if-is_at_hand.true) c.is_value.ensures c.in-Some.ensures c.in_ok-fill_seen.ensures
+    seen_filled c.args.sees.now c.args.number.0 c.args.set c.args.at c.args.places.now c.in-Some.value.now c.in_ok-found.field-0.items
+    (c.is_at_hand.ensures c.if-is_at_hand.true) c.is_value.ensures c.in-Some.ensures c.in_ok-found.ensures
