@@ -23,7 +23,7 @@ pub fn unchanged<'a>(
     ensures { SaysStays walk.now bound (shown before) at term.now result }
 {
     let (number, found) = walk.behind(bound, term);
-    match shape_of(&found.node) {
+    match shape_of(&*found.node) {
         Shape::Variable(variable) => kept(walk.which, at, variable, before),
         Shape::Tuple(terms) => unchanged_all(walk, number, at, terms, before),
         Shape::Other => still(walk, bound, at, term, before),

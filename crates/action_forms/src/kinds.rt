@@ -157,7 +157,7 @@ fn primed_alone(base: &Term, steps: &Steps, last: &Step) -> Option<u16>
     match last {
         Step::Prime => {
             if steps.is_empty() {
-                return variable_in(&base.node);
+                return variable_in(&*base.node);
             }
             None
         }
@@ -171,8 +171,8 @@ fn target(which: Which, term: &Term) -> Option<u16>
     ensures { result ≡ target which term.now }
 {
     match which {
-        Which::Init => variable_in(&term.node),
-        Which::Action => primed_in(&term.node),
+        Which::Init => variable_in(&*term.node),
+        Which::Action => primed_in(&*term.node),
     }
 }
 
@@ -271,7 +271,7 @@ pub fn split_of(which: Which, term: &Term) -> Option<Split<'_>>
     if !is_taken(which, term.level) {
         return None;
     }
-    match &term.node {
+    match &*term.node {
         TermNode::If(test, then, other) => Some(Split { test, then, other }),
         TermNode::Known(_) => None,
         TermNode::Named(_) => None,

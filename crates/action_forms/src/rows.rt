@@ -32,7 +32,7 @@ pub fn fixed_within<'a>(
     if !is_taken(walk.which, term.level) {
         return tested(walk, bound, term, before);
     }
-    match kind_of(walk.which, &term.node) {
+    match kind_of(walk.which, &*term.node) {
         Kind::Test => tested(walk, bound, term, before),
         Kind::Given(operator, variable, left, value) => given(walk, bound, variable, value, before),
         Kind::Both(terms) => in_order(walk, bound, terms, before),

@@ -68,7 +68,7 @@ fn term_row<'a>(stage: Stage<'a>, slots: usize, term: &'a Term) -> Row<'a>
     ensures { form_of (place_of term.now) result ≡ form (setting stage.entry) slots term.now }
 {
     if is_taken(stage.which, term.level) {
-        return node_row(stage, slots, &term.node);
+        return node_row(stage, slots, &*term.node);
     }
     Row::Test
 }
@@ -154,7 +154,7 @@ fn unchanged_row<'a>(stage: Stage<'a>, slots: usize, term: &'a Term) -> Row<'a>
     ensures { (at : Place) → form_of at result ≡ unchanged_form at (behind (setting stage.entry).table (length (setting stage.entry).table) slots term.now) }
 {
     let (kept, found) = behind(stage.operators, slots, term);
-    match &found.node {
+    match &*found.node {
         TermNode::Variable(number) => Row::Keep(*number),
         TermNode::Tuple(terms) => Row::Unchanged(kept, terms),
         _ => Row::Test,
@@ -187,7 +187,7 @@ fn followed<'a>(operators: &'a Operators, term: &Term) -> Option<&'a Operator>
     if term.level != Level::State {
         return None;
     }
-    match &term.node {
+    match &*term.node {
         TermNode::Use(number, arguments) => {
             if arguments.len() > 0 {
                 return None;
@@ -249,8 +249,8 @@ fn target(which: Which, term: &Term) -> Option<VarId>
     ensures { option_map (λ x. x.0) result ≡ target which term.now }
 {
     match which {
-        Which::Init => named(&term.node),
-        Which::Action => primed(&term.node),
+        Which::Init => named(&*term.node),
+        Which::Action => primed(&*term.node),
     }
 }
 
@@ -274,7 +274,7 @@ fn primed(node: &TermNode) -> Option<VarId>
                 return None;
             }
             match last {
-                Step::Prime => named(&base.node),
+                Step::Prime => named(&*base.node),
                 _ => None,
             }
         }

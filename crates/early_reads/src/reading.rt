@@ -108,9 +108,10 @@ pub fn reads_all<'a>(kept: &[Reads], stack: Vec<Pending<'a>>) -> Result<VarSet, 
         if is_constant(part.level) {
             continue;
         }
-        let own = own_reads(kept, pending.primed, &part.node);
+        let node = &*part.node;
+        let own = own_reads(kept, pending.primed, node);
         found = united(found, own);
-        push_parts(&mut stack, pending.primed, &part.node)?;
+        push_parts(&mut stack, pending.primed, node)?;
     }
     Ok(found)
 }

@@ -200,7 +200,7 @@ impl<'a> Walk<'a> {
             if !is_taken(self.which, part.level) {
                 continue;
             }
-            found = self.early_row(bound, &mut stack, part.at, &part.node, before, found)?;
+            found = self.early_row(bound, &mut stack, part.at, &*part.node, before, found)?;
         }
         Ok(found)
     }

@@ -47,7 +47,7 @@ impl<'a> Walk<'a> {
         ensures { IfOk result (λ o. TellsStays self.now bound (shown before) at term.now o) }
     {
         let (number, found) = self.behind(bound, term);
-        match shape_of(&found.node) {
+        match shape_of(&*found.node) {
             Shape::Variable(variable) => Ok(too_early(at, unless_in(before, variable))),
             Shape::Tuple(terms) => self.stays_all(number, at, terms, before),
             Shape::Other => {

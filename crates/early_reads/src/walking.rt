@@ -82,7 +82,7 @@ fn named(bound: usize, term: &Term) -> Option<usize>
     ensures { IsBody bound term.now result }
 {
     match term.level {
-        Level::State => match &term.node {
+        Level::State => match &*term.node {
             TermNode::Use(number, terms) => {
                 if terms.is_empty() && number.0 < bound {
                     return Some(number.0);

@@ -1,9 +1,12 @@
 //! Lists and boxes that are made.
 
-ghost use Rattle.std.specs.Prelude.{◌≡◌, ◌++◌, ◌∷◌, [], IfOk, OnOk};
+ghost use Rattle.std.specs.Prelude.{◌≡◌, ◌++◌, ◌∷◌, [], if◌then◌else◌, IfOk, OnOk};
+ghost use Rattle.tla_values.specs.Data.{string};
 
 use eval_sets::Described;
 use std::alloc::{AllocError, Global};
+use tla_terms::Field;
+use tla_values::Value;
 
 /// Adds an item at the end.
 pub fn push<T: Drop>(items: &mut Vec<T>, item: T) -> Result<(), AllocError>
@@ -18,4 +21,23 @@ pub fn boxed(alloc: Global, set: Described) -> Result<Box<Described>, AllocError
     ensures { IfOk result (λ b. b.value ≡ set) }
 {
     Ok(Box::new(alloc, set)?)
+}
+
+/// Adds a copy of a value, if it passes.
+pub fn push_if(values: &mut Vec<Value>, value: &Value, passes: bool) -> Result<(), AllocError>
+    ensures { OnOk result (values.new.items ≡ values.old.items ++ (if passes then value.now ∷ [] else [])) }
+{
+    if passes {
+        let copy = value.copy()?;
+        values.push(copy)?;
+    }
+    Ok(())
+}
+
+/// The name of a field as a value, beside the value of the field.
+pub fn named_pair(field: &Field, value: Value) -> Result<(Value, Value), AllocError>
+    ensures { IfOk result (λ pair. pair ≡ (string field.now.name, value)) }
+{
+    let name = field.name.copy()?;
+    Ok((Value::string(name), value))
 }

@@ -42,7 +42,7 @@ fn followed<'a>(operators: &'a Operators, term: &Term) -> Option<&'a Operator>
     if term.level != Level::State {
         return None;
     }
-    match &term.node {
+    match &*term.node {
         TermNode::Use(number, arguments) => {
             if arguments.len() > 0 {
                 return None;

@@ -52,7 +52,7 @@ fn gather(
     let depth = hidden.len();
     let mut tree = tree;
     loop {
-        match &tree.node {
+        match &*tree.node {
             Node::If(test, then, last) => {
                 gather(alloc, found, hidden, test)?;
                 gather(alloc, found, hidden, then)?;
@@ -93,7 +93,7 @@ fn gather_row(
     ensures found { OnOk result (found.new ≡ gather hidden.old found.old tree.now) }
     ensures hidden { OnOk result (hidden.new ≡ hidden.old) }
 {
-    match &tree.node {
+    match &*tree.node {
         Node::Number(_) => Ok(()),
         Node::Str(_) => Ok(()),
         Node::Truth(_) => Ok(()),

@@ -55,8 +55,9 @@ pub fn knows_values(alloc: Global, term: &Term) -> Result<(), NoMemory>
     push(&mut stack, false, term)?;
     while let Some(pending) = stack.pop() {
         let part = pending.term;
-        knows_own(&part.node);
-        push_parts(&mut stack, false, &part.node)?;
+        let node = &*part.node;
+        knows_own(node);
+        push_parts(&mut stack, false, node)?;
     }
     Ok(())
 }

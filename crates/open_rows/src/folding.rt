@@ -33,43 +33,36 @@ pub fn folded(alloc: Global, frame: Frame, last: Expr) -> Result<Expr, NoMemory>
 {
     match frame {
         Frame::Prefix(o, at) => {
-            let node = Node::Prefix(o, Box::new(alloc, last)?);
-            Ok(Expr { at, node })
+            let node = Node::Prefix(o, last);
+            Expr::new(alloc, at, node)
         }
         Frame::Infix(o, operands, at) => {
-            let node = Node::Infix(o, operands, Box::new(alloc, last)?);
-            Ok(Expr { at, node })
+            let node = Node::Infix(o, operands, last);
+            Expr::new(alloc, at, node)
         }
         Frame::QuantifierBody(q, at, bounds) => {
-            let node = Node::Quantified(q, bounds, Box::new(alloc, last)?);
-            Ok(Expr { at, node })
+            let node = Node::Quantified(q, bounds, last);
+            Expr::new(alloc, at, node)
         }
         Frame::ChooseBody(at, name, set) => {
-            let node = Node::Choose(name, Box::new(alloc, set)?, Box::new(alloc, last)?);
-            Ok(Expr { at, node })
+            let node = Node::Choose(name, set, last);
+            Expr::new(alloc, at, node)
         }
         Frame::IfElse(at, test, then) => {
-            let node = Node::If(
-                Box::new(alloc, test)?,
-                Box::new(alloc, then)?,
-                Box::new(alloc, last)?,
-            );
-            Ok(Expr { at, node })
+            let node = Node::If(test, then, last);
+            Expr::new(alloc, at, node)
         }
         Frame::CaseValue(at, mut arms, test) => {
             arms.push(Arm { test, value: last })?;
-            Ok(Expr {
-                at,
-                node: Node::Case(arms, None),
-            })
+            Expr::new(alloc, at, Node::Case(arms, None))
         }
         Frame::CaseOther(at, arms) => {
-            let node = Node::Case(arms, Some(Box::new(alloc, last)?));
-            Ok(Expr { at, node })
+            let node = Node::Case(arms, Some(last));
+            Expr::new(alloc, at, node)
         }
         Frame::LetBody(at, definitions) => {
-            let node = Node::Let(definitions, Box::new(alloc, last)?);
-            Ok(Expr { at, node })
+            let node = Node::Let(definitions, last);
+            Expr::new(alloc, at, node)
         }
         other => {
             drop(other);

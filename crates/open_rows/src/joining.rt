@@ -24,7 +24,7 @@ fn is_member(o: InfixOperator) -> bool
 fn is_name(e: &Expr) -> bool
     ensures { result ≡ is_name e.now }
 {
-    match &e.node {
+    match &*e.node {
         Node::Name(_) => true,
         _ => false,
     }
@@ -34,7 +34,7 @@ fn is_name(e: &Expr) -> bool
 pub fn begins_member(e: &Expr) -> bool
     ensures { result ≡ begins_member e.now }
 {
-    match &e.node {
+    match &*e.node {
         Node::Infix(o, operands, _) => {
             let (first, _others) = operands.parts();
             if is_member(*o) && is_name(first) {
@@ -62,25 +62,25 @@ fn join_whole(alloc: Global, name: Expr, q: Place, e: Expr) -> Result<Joined, No
     ensures { IfOk result (λ j. joined_view j ≡ Joins (Infix q InfixOperator.Member (First name) e)) }
 {
     let operands = Operands::new(alloc, name)?;
-    let node = Node::Infix(InfixOperator::Member, operands, Box::new(alloc, e)?);
-    Ok(Joined::Joins(Expr { at: q, node }))
+    let node = Node::Infix(InfixOperator::Member, operands, e);
+    Ok(Joined::Joins(Expr::new(alloc, q, node)?))
 }
 
 /// A chain again, with what its first operand was joined to.
 fn rejoin(
     alloc: Global,
-    chain: (Place, InfixOperator, Box<Expr>),
+    chain: (Place, InfixOperator, Expr),
     joined: Joined,
     others: Vec<Operand>,
 ) -> Result<Joined, NoMemory>
-    ensures { IfOk result (λ j. joined_view j ≡ joins_in chain.0 chain.1 chain.2.value (with_others (joined_view joined) others.items)) }
+    ensures { IfOk result (λ j. joined_view j ≡ joins_in chain.0 chain.1 chain.2 (with_others (joined_view joined) others.items)) }
 {
     let (at, o, last) = chain;
     match joined {
         Joined::Joins(first) => {
             let operands = Operands::from_parts(alloc, first, others)?;
             let node = Node::Infix(o, operands, last);
-            Ok(Joined::Joins(Expr { at, node }))
+            Ok(Joined::Joins(Expr::new(alloc, at, node)?))
         }
         Joined::Meets(p) => Ok(Joined::Meets(p)),
     }
@@ -95,7 +95,8 @@ pub fn join(alloc: Global, e: Expr, name: Expr, q: Place) -> Result<Joined, NoMe
         Node::Infix(o, operands, last) => {
             if infix_above(o, InfixOperator::Member) {
                 let node = Node::Infix(o, operands, last);
-                return join_whole(alloc, name, q, Expr { at, node });
+                let e = Expr::new(alloc, at, node)?;
+                return join_whole(alloc, name, q, e);
             }
             if !infix_above(InfixOperator::Member, o) {
                 return Ok(Joined::Meets(first_place(&operands, at)));
@@ -104,6 +105,9 @@ pub fn join(alloc: Global, e: Expr, name: Expr, q: Place) -> Result<Joined, NoMe
             let joined = join(alloc, first, name, q)?;
             rejoin(alloc, (at, o, last), joined, others)
         }
-        other => join_whole(alloc, name, q, Expr { at, node: other }),
+        other => {
+            let e = Expr::new(alloc, at, other)?;
+            join_whole(alloc, name, q, e)
+        }
     }
 }

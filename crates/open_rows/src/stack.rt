@@ -83,16 +83,8 @@ fn subscripted(
 ) -> Result<Expr, NoMemory>
     ensures { IfOk result (λ e. e ≡ subscripted action at body subscript) }
 {
-    let body = Box::new(alloc, body)?;
-    let subscript = Box::new(alloc, subscript)?;
     match action {
-        Action::Box => Ok(Expr {
-            at,
-            node: Node::BoxAction(body, subscript),
-        }),
-        Action::Angle => Ok(Expr {
-            at,
-            node: Node::AngleAction(body, subscript),
-        }),
+        Action::Box => Expr::new(alloc, at, Node::BoxAction(body, subscript)),
+        Action::Angle => Expr::new(alloc, at, Node::AngleAction(body, subscript)),
     }
 }

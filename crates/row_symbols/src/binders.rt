@@ -32,8 +32,8 @@ fn binder_close(
         },
         Binder::Map(at, e) => match symbol {
             Symbol::CloseBrace => {
-                let node = Node::Map(Box::new(alloc, e)?, bounds);
-                Ok(Stepped::Reads(Mode::Have(Expr { at, node })))
+                let node = Node::Map(e, bounds);
+                Ok(Stepped::Reads(Mode::Have(Expr::new(alloc, at, node)?)))
             }
             _ => Ok(Stepped::Stops),
         },

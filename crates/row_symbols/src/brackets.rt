@@ -54,7 +54,7 @@ pub fn braces_close(
         Symbol::CloseBrace => {
             elements.push(e)?;
             let node = Node::SetOf(elements);
-            Ok(Stepped::Reads(Mode::Have(Expr { at, node })))
+            Ok(Stepped::Reads(Mode::Have(Expr::new(alloc, at, node)?)))
         }
         Symbol::Colon => Ok(map_begins(alloc, at, elements, e)),
         _ => Ok(Stepped::Stops),
@@ -84,10 +84,7 @@ pub fn join_member(alloc: Global, member: Member, e: Expr) -> Result<Joined, NoM
     ensures { IfOk result (λ j. joined_view j ≡ join (Name member.name_at member.name) member.member_at e) }
 {
     let node = Node::Name(member.name);
-    let name = Expr {
-        at: member.name_at,
-        node,
-    };
+    let name = Expr::new(alloc, member.name_at, node)?;
     join(alloc, e, name, member.member_at)
 }
 
@@ -227,7 +224,7 @@ pub fn tuple_close(
         Symbol::CloseTuple => {
             items.push(e)?;
             let node = Node::Tuple(items);
-            deliver(alloc, stack, Expr { at, node })
+            deliver(alloc, stack, Expr::new(alloc, at, node)?)
         }
         Symbol::CloseTupleSubscript => Ok(action_ends(at, &items, stack, e)),
         _ => Ok(Stepped::Stops),

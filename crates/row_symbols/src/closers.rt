@@ -38,46 +38,28 @@ pub fn with_step(alloc: Global, e: Expr, at: Place, step: Step) -> Result<Expr, 
                 at: before,
                 step: last,
             })?;
-            Ok(Expr {
-                at,
-                node: Node::Postfix(base, steps, step),
-            })
+            Expr::new(alloc, at, Node::Postfix(base, steps, step))
         }
         other => {
-            let base = Box::new(
-                alloc,
-                Expr {
-                    at: before,
-                    node: other,
-                },
-            )?;
-            Ok(Expr {
-                at,
-                node: Node::Postfix(base, Steps::new(alloc), step),
-            })
+            let base = Expr::new(alloc, before, other)?;
+            Expr::new(alloc, at, Node::Postfix(base, Steps::new(alloc), step))
         }
     }
 }
 
 /// A primary that has ended.
-pub fn have(at: Place, node: Node) -> Stepped
-    ensures { result ≡ Stepped.Reads (Mode.Have (node_view at node)) }
+pub fn have(alloc: Global, at: Place, node: Node) -> Result<Stepped, NoMemory>
+    ensures { IfOk result (λ r. r ≡ Stepped.Reads (Mode.Have (node_view at node))) }
 {
-    Stepped::Reads(Mode::Have(Expr { at, node }))
+    Ok(Stepped::Reads(Mode::Have(Expr::new(alloc, at, node)?)))
 }
 
-fn of_records(kind: RecordKind, at: Place, fields: Fields) -> Expr
-    ensures { result ≡ of_records kind at fields }
+fn of_records(alloc: Global, kind: RecordKind, at: Place, fields: Fields) -> Result<Expr, NoMemory>
+    ensures { IfOk result (λ e. e ≡ of_records kind at fields) }
 {
     match kind {
-        RecordKind::Record => Expr {
-            at,
-            node: Node::Record(fields),
-        },
-        RecordKind::Set => Expr {
-            at,
-            node: Node::RecordSet(fields),
-        },
+        RecordKind::Record => Expr::new(alloc, at, Node::Record(fields)),
+        RecordKind::Set => Expr::new(alloc, at, Node::RecordSet(fields)),
     }
 }
 
@@ -92,14 +74,15 @@ fn parenthesis_closes(
 {
     match symbol {
         Symbol::CloseParenthesis => {
-            let node = Node::Parenthesized(Box::new(alloc, e)?);
-            deliver(alloc, stack, Expr { at, node })
+            let node = Node::Parenthesized(e);
+            deliver(alloc, stack, Expr::new(alloc, at, node)?)
         }
         _ => Ok(Stepped::Stops),
     }
 }
 
 fn call_closes(
+    alloc: Global,
     symbol: Symbol,
     name: Text,
     at: Place,
@@ -112,7 +95,7 @@ fn call_closes(
     arguments.push(e)?;
     match symbol {
         Symbol::Comma => want(stack, Frame::Call(name, at, arguments)),
-        Symbol::CloseParenthesis => Ok(have(at, Node::Call(name, arguments))),
+        Symbol::CloseParenthesis => have(alloc, at, Node::Call(name, arguments)),
         _ => Ok(Stepped::Stops),
     }
 }
@@ -153,8 +136,8 @@ fn filter_test_closes(
     let _ = &stack.frames;
     match symbol {
         Symbol::CloseBrace => {
-            let node = Node::Filter(name, Box::new(alloc, set)?, Box::new(alloc, e)?);
-            Ok(have(at, node))
+            let node = Node::Filter(name, set, e);
+            have(alloc, at, node)
         }
         _ => Ok(Stepped::Stops),
     }
@@ -173,8 +156,8 @@ fn function_body_closes(
     let _ = &stack.frames;
     match symbol {
         Symbol::CloseBracket => {
-            let node = Node::Function(bounds, Box::new(alloc, e)?);
-            Ok(have(at, node))
+            let node = Node::Function(bounds, e);
+            have(alloc, at, node)
         }
         _ => Ok(Stepped::Stops),
     }
@@ -193,14 +176,15 @@ fn function_range_closes(
     let _ = &stack.frames;
     match symbol {
         Symbol::CloseBracket => {
-            let node = Node::FunctionSet(Box::new(alloc, set)?, Box::new(alloc, e)?);
-            Ok(have(at, node))
+            let node = Node::FunctionSet(set, e);
+            have(alloc, at, node)
         }
         _ => Ok(Stepped::Stops),
     }
 }
 
 fn record_closes(
+    alloc: Global,
     symbol: Symbol,
     kind: RecordKind,
     at: Place,
@@ -215,7 +199,9 @@ fn record_closes(
     fields.push(Field { name, value: e })?;
     match symbol {
         Symbol::Comma => Ok(Stepped::Reads(Mode::RecordName(kind, at, fields))),
-        Symbol::CloseBracket => Ok(Stepped::Reads(Mode::Have(of_records(kind, at, fields)))),
+        Symbol::CloseBracket => Ok(Stepped::Reads(Mode::Have(of_records(
+            alloc, kind, at, fields,
+        )?))),
         _ => Ok(Stepped::Stops),
     }
 }
@@ -270,8 +256,8 @@ fn except_value_closes(
     match symbol {
         Symbol::Comma => Ok(Stepped::Reads(Mode::ExceptMark(at, base, changes))),
         Symbol::CloseBracket => {
-            let node = Node::Except(Box::new(alloc, base)?, changes);
-            Ok(have(at, node))
+            let node = Node::Except(base, changes);
+            have(alloc, at, node)
         }
         _ => Ok(Stepped::Stops),
     }
@@ -338,8 +324,8 @@ fn fair_body_closes(
     let _ = &stack.frames;
     match symbol {
         Symbol::CloseParenthesis => {
-            let node = Node::Fairness(Box::new(alloc, subscript)?, Box::new(alloc, e)?);
-            Ok(have(at, node))
+            let node = Node::Fairness(subscript, e);
+            have(alloc, at, node)
         }
         _ => Ok(Stepped::Stops),
     }
@@ -365,7 +351,9 @@ pub fn symbol_closes(
 {
     match frame {
         Frame::Parenthesis(at) => parenthesis_closes(alloc, symbol, at, stack, e),
-        Frame::Call(name, at, arguments) => call_closes(symbol, name, at, arguments, stack, e),
+        Frame::Call(name, at, arguments) => call_closes(
+            alloc, symbol, name, at, arguments, stack, e,
+        ),
         Frame::Index(base, at, arguments) => index_closes(
             alloc, symbol, base, at, arguments, stack, e,
         ),
@@ -404,7 +392,7 @@ pub fn symbol_closes(
         ),
         Frame::FunctionRange(at, set) => function_range_closes(alloc, symbol, at, set, stack, e),
         Frame::Record(kind, at, fields, name) => record_closes(
-            symbol, kind, at, fields, name, stack, e,
+            alloc, symbol, kind, at, fields, name, stack, e,
         ),
         Frame::BoundSet(binding, names) => bound_close(alloc, symbol, binding, names, stack, e),
         Frame::ExceptIndex(at, base, changes, steps, bracket, arguments) => except_index_closes(

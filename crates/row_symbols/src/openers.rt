@@ -15,10 +15,10 @@ use tla_tokens::{Kind, Symbol, Word};
 use trace_base::{Names, NoMemory, Place};
 
 /// A primary that is one token.
-fn leaf(at: Place, node: Node) -> Stepped
-    ensures { result ≡ Stepped.Reads (Mode.Have (node_view at node)) }
+fn leaf(alloc: Global, at: Place, node: Node) -> Result<Stepped, NoMemory>
+    ensures { IfOk result (λ r. r ≡ Stepped.Reads (Mode.Have (node_view at node))) }
 {
-    Stepped::Reads(Mode::Have(Expr { at, node }))
+    Ok(Stepped::Reads(Mode::Have(Expr::new(alloc, at, node)?)))
 }
 
 /// The first name of a binder is expected.
@@ -34,10 +34,10 @@ fn word_begins(alloc: Global, word: Word, at: Place, stack: &mut Stack) -> Resul
     ensures { IfOk result (λ r. Does r (frames_in stack.new) (word_begins word at (frames_in stack.old))) }
 {
     match word {
-        Word::True => Ok(leaf(at, Node::Truth(true))),
-        Word::False => Ok(leaf(at, Node::Truth(false))),
-        Word::Boolean => Ok(leaf(at, Node::Builtin(BuiltinSet::Booleans))),
-        Word::String => Ok(leaf(at, Node::Builtin(BuiltinSet::Strings))),
+        Word::True => leaf(alloc, at, Node::Truth(true)),
+        Word::False => leaf(alloc, at, Node::Truth(false)),
+        Word::Boolean => leaf(alloc, at, Node::Builtin(BuiltinSet::Booleans)),
+        Word::String => leaf(alloc, at, Node::Builtin(BuiltinSet::Strings)),
         Word::Unchanged => want(stack, Frame::Prefix(PrefixOperator::Unchanged, at)),
         Word::Enabled => want(stack, Frame::Prefix(PrefixOperator::Enabled, at)),
         Word::Subset => want(stack, Frame::Prefix(PrefixOperator::Powerset, at)),
@@ -63,7 +63,7 @@ fn symbol_begins(
     ensures { IfOk result (λ r. Does r (frames_in stack.new) (symbol_begins symbol at (frames_in stack.old))) }
 {
     match symbol {
-        Symbol::At => Ok(leaf(at, Node::At)),
+        Symbol::At => leaf(alloc, at, Node::At),
         Symbol::OpenParenthesis => want(stack, Frame::Parenthesis(at)),
         Symbol::OpenBracket => Ok(Stepped::Reads(Mode::BracketStart(at))),
         Symbol::OpenBrace => Ok(Stepped::Reads(Mode::BraceStart(at))),
@@ -87,9 +87,9 @@ fn token_begins(
     ensures { IfOk result (λ r. Does r (frames_in stack.new) (token_begins kind.now at (frames_in stack.old))) }
 {
     match kind {
-        Kind::Name(name) => Ok(leaf(at, Node::Name(name.copy()?))),
-        Kind::Number(number) => Ok(leaf(at, Node::Number(*number))),
-        Kind::Str(text) => Ok(leaf(at, Node::Str(text.copy()?))),
+        Kind::Name(name) => leaf(alloc, at, Node::Name(name.copy()?)),
+        Kind::Number(number) => leaf(alloc, at, Node::Number(*number)),
+        Kind::Str(text) => leaf(alloc, at, Node::Str(text.copy()?)),
         Kind::Fair => Ok(Stepped::Reads(Mode::FairStart(at))),
         Kind::Word(word) => word_begins(alloc, *word, at, stack),
         Kind::Symbol(symbol) => symbol_begins(alloc, *symbol, at, stack),

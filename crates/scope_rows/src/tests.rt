@@ -91,10 +91,7 @@ fn tell_program(alloc: Global) -> Result<bool, AllocError> {
 }
 
 fn name_of(alloc: Global, name: &str) -> Result<Expr, AllocError> {
-    Ok(Expr {
-        at: AT,
-        node: Node::Name(text(alloc, name)?),
-    })
+    Ok(Expr::new(alloc, AT, Node::Name(text(alloc, name)?))?)
 }
 
 /// `LET f(p) == body IN last`
@@ -108,11 +105,8 @@ fn let_of(alloc: Global, body: &str, last: &str) -> Result<Expr, AllocError> {
         params,
         body: name_of(alloc, body)?,
     })?;
-    let last = Box::new(alloc, name_of(alloc, last)?)?;
-    Ok(Expr {
-        at: AT,
-        node: Node::Let(definitions, last),
-    })
+    let last = name_of(alloc, last)?;
+    Ok(Expr::new(alloc, AT, Node::Let(definitions, last))?)
 }
 
 fn mentioned(alloc: Global, name: &str, body: &str, last: &str) -> Result<bool, AllocError> {

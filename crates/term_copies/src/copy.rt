@@ -6,10 +6,7 @@ ghost use Rattle.std.specs.Prelude.{◌≡◌, IfOk};
 ghost use Rattle.tla_terms.specs.TermViews.{node_view, step_view};
 ghost use Rattle.term_copies.specs.Rows.{begun_meaning};
 
-use crate::build::{
-    angle_action, box_action, case_other, copy_ids, except, fairness, filter, function,
-    function_set, infix, known, map, parenthesized, postfix, prefix,
-};
+use crate::build::{copy_ids, known};
 use crate::rows::{Begun, Opening, Row, closed_all};
 use std::alloc::Global;
 use tla_terms::{
@@ -28,10 +25,11 @@ pub fn copy_term(alloc: Global, term: &Term) -> Result<Term, NoMemory>
     loop {
         let at = rest.at;
         let level = rest.level;
-        let begun = copy_node(alloc, &rest.node)?;
+        let begun = copy_node(alloc, &*rest.node)?;
         match begun {
             Begun::Whole(node) => {
-                return closed_all(alloc, rows, Term { at, level, node });
+                let whole = Term::new(alloc, at, level, node)?;
+                return closed_all(alloc, rows, whole);
             }
             Begun::Open(opening, last) => {
                 rows.push(Row { at, level, opening })?;
@@ -78,7 +76,7 @@ fn copy_node<'a>(alloc: Global, node: &'a TermNode) -> Result<Begun<'a>, NoMemor
         }
         TermNode::Parenthesized(inner) => {
             let inner = copy_term(alloc, inner)?;
-            parenthesized(alloc, inner)
+            Ok(Begun::Whole(TermNode::Parenthesized(inner)))
         }
         TermNode::All(terms) => {
             let terms = copy_terms(alloc, terms)?;
@@ -90,18 +88,18 @@ fn copy_node<'a>(alloc: Global, node: &'a TermNode) -> Result<Begun<'a>, NoMemor
         }
         TermNode::Prefix(operator, operand) => {
             let operand = copy_term(alloc, operand)?;
-            prefix(alloc, *operator, operand)
+            Ok(Begun::Whole(TermNode::Prefix(*operator, operand)))
         }
         TermNode::Infix(operator, operands, last) => {
             let operands = copy_operands(alloc, operands)?;
             let last = copy_term(alloc, last)?;
-            infix(alloc, *operator, operands, last)
+            Ok(Begun::Whole(TermNode::Infix(*operator, operands, last)))
         }
         TermNode::Postfix(base, steps, last) => {
             let base = copy_term(alloc, base)?;
             let steps = copy_steps(alloc, steps)?;
             let last = copy_step(alloc, last)?;
-            postfix(alloc, base, steps, last)
+            Ok(Begun::Whole(TermNode::Postfix(base, steps, last)))
         }
         TermNode::SetOf(terms) => {
             let terms = copy_terms(alloc, terms)?;
@@ -110,12 +108,12 @@ fn copy_node<'a>(alloc: Global, node: &'a TermNode) -> Result<Begun<'a>, NoMemor
         TermNode::Filter(set, test) => {
             let set = copy_term(alloc, set)?;
             let test = copy_term(alloc, test)?;
-            filter(alloc, set, test)
+            Ok(Begun::Whole(TermNode::Filter(set, test)))
         }
         TermNode::Map(value, bounds) => {
             let value = copy_term(alloc, value)?;
             let bounds = copy_bounds(alloc, bounds)?;
-            map(alloc, value, bounds)
+            Ok(Begun::Whole(TermNode::Map(value, bounds)))
         }
         TermNode::Tuple(terms) => {
             let terms = copy_terms(alloc, terms)?;
@@ -124,12 +122,12 @@ fn copy_node<'a>(alloc: Global, node: &'a TermNode) -> Result<Begun<'a>, NoMemor
         TermNode::Function(bounds, value) => {
             let bounds = copy_bounds(alloc, bounds)?;
             let value = copy_term(alloc, value)?;
-            function(alloc, bounds, value)
+            Ok(Begun::Whole(TermNode::Function(bounds, value)))
         }
         TermNode::FunctionSet(domain, range) => {
             let domain = copy_term(alloc, domain)?;
             let range = copy_term(alloc, range)?;
-            function_set(alloc, domain, range)
+            Ok(Begun::Whole(TermNode::FunctionSet(domain, range)))
         }
         TermNode::Record(fields) => {
             let fields = copy_fields(alloc, fields)?;
@@ -142,7 +140,7 @@ fn copy_node<'a>(alloc: Global, node: &'a TermNode) -> Result<Begun<'a>, NoMemor
         TermNode::Except(base, changes) => {
             let base = copy_term(alloc, base)?;
             let changes = copy_changes(alloc, changes)?;
-            except(alloc, base, changes)
+            Ok(Begun::Whole(TermNode::Except(base, changes)))
         }
         TermNode::Case(arms, None) => {
             let arms = copy_arms(alloc, arms)?;
@@ -151,22 +149,22 @@ fn copy_node<'a>(alloc: Global, node: &'a TermNode) -> Result<Begun<'a>, NoMemor
         TermNode::Case(arms, Some(other)) => {
             let arms = copy_arms(alloc, arms)?;
             let other = copy_term(alloc, other)?;
-            case_other(alloc, arms, other)
+            Ok(Begun::Whole(TermNode::Case(arms, Some(other))))
         }
         TermNode::BoxAction(action, subscript) => {
             let action = copy_term(alloc, action)?;
             let subscript = copy_term(alloc, subscript)?;
-            box_action(alloc, action, subscript)
+            Ok(Begun::Whole(TermNode::BoxAction(action, subscript)))
         }
         TermNode::AngleAction(action, subscript) => {
             let action = copy_term(alloc, action)?;
             let subscript = copy_term(alloc, subscript)?;
-            angle_action(alloc, action, subscript)
+            Ok(Begun::Whole(TermNode::AngleAction(action, subscript)))
         }
         TermNode::Fairness(subscript, action) => {
             let subscript = copy_term(alloc, subscript)?;
             let action = copy_term(alloc, action)?;
-            fairness(alloc, subscript, action)
+            Ok(Begun::Whole(TermNode::Fairness(subscript, action)))
         }
     }
 }

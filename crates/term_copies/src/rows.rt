@@ -4,7 +4,6 @@ ghost use Rattle.std.specs.Prelude.{◌≡◌, IfOk};
 ghost use Rattle.tla_terms.specs.TermViews.{node_view};
 ghost use Rattle.term_copies.specs.Rows.{closed, closed_all, meaning_with};
 
-use crate::build::boxed;
 use std::alloc::Global;
 use tla_ast::Quantifier;
 use tla_terms::{Bounds, DefIds, Level, Term, TermNode};
@@ -36,24 +35,14 @@ pub enum Begun<'a> {
 }
 
 /// The node of a row with this last part.
-fn node_with(alloc: Global, opening: Opening, last: Term) -> Result<TermNode, NoMemory>
-    ensures { IfOk result (λ n. node_view n ≡ meaning_with opening last) }
+fn node_with(opening: Opening, last: Term) -> TermNode
+    ensures { node_view result ≡ meaning_with opening last }
 {
-    let last = boxed(alloc, last)?;
     match opening {
-        Opening::If(test, then) => {
-            let test = boxed(alloc, test)?;
-            let then = boxed(alloc, then)?;
-            Ok(TermNode::If(test, then, last))
-        }
-        Opening::Quantified(quantifier, bounds) => {
-            Ok(TermNode::Quantified(quantifier, bounds, last))
-        }
-        Opening::Choose(set) => {
-            let set = boxed(alloc, set)?;
-            Ok(TermNode::Choose(set, last))
-        }
-        Opening::Scoped(definitions) => Ok(TermNode::Scoped(definitions, last)),
+        Opening::If(test, then) => TermNode::If(test, then, last),
+        Opening::Quantified(quantifier, bounds) => TermNode::Quantified(quantifier, bounds, last),
+        Opening::Choose(set) => TermNode::Choose(set, last),
+        Opening::Scoped(definitions) => TermNode::Scoped(definitions, last),
     }
 }
 
@@ -62,8 +51,8 @@ fn closed(alloc: Global, row: Row, last: Term) -> Result<Term, NoMemory>
     ensures { IfOk result (λ t. t ≡ closed row last) }
 {
     let Row { at, level, opening } = row;
-    let node = node_with(alloc, opening, last)?;
-    Ok(Term { at, level, node })
+    let node = node_with(opening, last);
+    Term::new(alloc, at, level, node)
 }
 
 /// The term of rows, each of which is the last part of the one before, with this last part.

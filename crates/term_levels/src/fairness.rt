@@ -107,7 +107,7 @@ pub fn is_fair(
     push(&mut stack, false, term)?;
     while let Some(pending) = stack.pop() {
         let part = pending.term;
-        if !split(notes, &mut stack, &part.node)? {
+        if !split(notes, &mut stack, &*part.node)? {
             return Ok(false);
         }
     }

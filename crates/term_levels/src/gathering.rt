@@ -76,7 +76,7 @@ fn boxed(node: &TermNode) -> Option<&Term>
 fn boxed_in(term: &Term) -> Option<&Term>
     ensures { MatchOption result (boxed (meaning_of term.now) ≡ None) (λ a. boxed (meaning_of term.now) ≡ Some a.now) }
 {
-    boxed(&term.node)
+    boxed(&*term.node)
 }
 
 /// What a term under a prefix operator is.
@@ -157,7 +157,7 @@ fn temporal<'a>(
     if is_fair(alloc, table, notes, term)? {
         return Ok(Conjunct::Fairness);
     }
-    Ok(unfair(&term.node))
+    Ok(unfair(&*term.node))
 }
 
 /// What a conjunct is.

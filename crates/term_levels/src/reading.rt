@@ -187,17 +187,18 @@ fn read<'a>(
     requires below { MentionsBelow (length notes.now) term.now }
     ensures { OnOk result (Reads table.now (length notes.now) (part primed term.now) (waiting stack.old.items) (waiting stack.new.items) note.old note.new) }
 {
-    note.fault = check_limits(note.fault, term.at, &term.node);
-    match special_of(&term.node) {
+    let node = &*term.node;
+    note.fault = check_limits(note.fault, term.at, node);
+    match special_of(node) {
         Special::Slot(slot) => read_slot(note, primed, slot),
         Special::Use(number, terms) => {
             read_use(table, notes, stack, note, primed, number, terms.items())
         }
         Special::Let(numbers) => {
             read_let(table, notes, note, primed, numbers)?;
-            push_parts(stack, primed, &term.node)
+            push_parts(stack, primed, node)
         }
-        Special::Other => push_parts(stack, primed, &term.node),
+        Special::Other => push_parts(stack, primed, node),
     }
 }
 

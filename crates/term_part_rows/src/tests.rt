@@ -4,25 +4,21 @@ use term_parts::{mentions_below, uses_smaller};
 use tla_terms::{DefId, DefIds, Level, Operator, Term, TermNode, Terms};
 use trace_base::{Place, Text};
 
-fn term(node: TermNode) -> Term {
-    Term {
-        at: Place {
-            file: 0,
-            line: 1,
-            col: 60,
-        },
-        level: Level::Temporal,
-        node,
-    }
+fn term(alloc: Global, node: TermNode) -> Result<Term, AllocError> {
+    let at = Place {
+        file: 0,
+        line: 1,
+        col: 60,
+    };
+    Term::new(alloc, at, Level::Temporal, node)
 }
 
 /// `LET d == .. IN F`, where d has this number and F number 2.
 fn mentions(alloc: Global, number: DefId) -> Result<Term, AllocError> {
-    let inner = term(TermNode::Use(DefId(2), Terms::new(alloc)));
+    let inner = term(alloc, TermNode::Use(DefId(2), Terms::new(alloc)))?;
     let mut numbers = DefIds::new(alloc);
     numbers.push(number)?;
-    let inner = Box::new(alloc, inner).map_err(|_| AllocError)?;
-    Ok(term(TermNode::Scoped(numbers, inner)))
+    term(alloc, TermNode::Scoped(numbers, inner))
 }
 
 fn mentioned(alloc: Global) -> Result<bool, AllocError> {
@@ -38,12 +34,13 @@ fn mentioned(alloc: Global) -> Result<bool, AllocError> {
 
 fn define(alloc: Global, table: &mut Vec<Operator>, node: TermNode) -> Result<(), AllocError> {
     let name = Text::from_text(alloc, "")?;
+    let body = term(alloc, node)?;
     table.push(Operator {
         name,
         outer: 0,
         params: 0,
         level: Level::Temporal,
-        body: term(node),
+        body,
     })?;
     Ok(())
 }

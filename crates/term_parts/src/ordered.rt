@@ -46,10 +46,11 @@ pub fn mentions_below(alloc: Global, count: usize, term: &Term) -> Result<bool, 
     push(&mut stack, false, term)?;
     while let Some(pending) = stack.pop() {
         let part = pending.term;
-        if !is_own_below(count, &part.node) {
+        let node = &*part.node;
+        if !is_own_below(count, node) {
             return Ok(false);
         }
-        push_parts(&mut stack, false, &part.node)?;
+        push_parts(&mut stack, false, node)?;
     }
     Ok(true)
 }

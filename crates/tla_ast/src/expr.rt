@@ -19,7 +19,7 @@ use trace_base::{Names, NoMemory, Place, Text};
 #[cycle(expr)]
 pub struct Expr {
     pub at: Place,
-    pub node: Node,
+    pub node: Box<Node>,
 }
 
 /// A loop over the rows whose last part may hold any number of rows like it, as a long `ELSE IF`: such a row takes no stack.
@@ -28,24 +28,24 @@ impl Drop for Expr {
     fn drop(mut self) {
         loop {
             let Expr { at: _, node } = self;
-            match node {
+            match Box::into_inner(node) {
                 Node::If(test, then, last) => {
                     drop(test);
                     drop(then);
-                    self = Box::into_inner(last);
+                    self = last;
                 }
                 Node::Quantified(_, bounds, last) => {
                     drop(bounds);
-                    self = Box::into_inner(last);
+                    self = last;
                 }
                 Node::Choose(name, set, last) => {
                     drop(name);
                     drop(set);
-                    self = Box::into_inner(last);
+                    self = last;
                 }
                 Node::Let(definitions, last) => {
                     drop(definitions);
-                    self = Box::into_inner(last);
+                    self = last;
                 }
                 other => return drop(other),
             }
@@ -67,45 +67,45 @@ pub enum Node {
     Call(Text, Exprs),
     /// `@`
     At,
-    Parenthesized(Box<Expr>),
+    Parenthesized(Expr),
     /// A junction list and its items.
     Junction(Bullet, Exprs),
-    Prefix(PrefixOperator, Box<Expr>),
+    Prefix(PrefixOperator, Expr),
     /// A chain of one operator: its operands, the last apart.
-    Infix(InfixOperator, Operands, Box<Expr>),
+    Infix(InfixOperator, Operands, Expr),
     /// A primary and one or more steps behind it, the last apart.
-    Postfix(Box<Expr>, Steps, Step),
+    Postfix(Expr, Steps, Step),
     /// `{a, b}`
     SetOf(Exprs),
     /// `{x \in S : p}`
-    Filter(Text, Box<Expr>, Box<Expr>),
+    Filter(Text, Expr, Expr),
     /// `{e : x \in S}`
-    Map(Box<Expr>, Bounds),
+    Map(Expr, Bounds),
     /// `<<a, b>>`
     Tuple(Exprs),
     /// `[x \in S |-> e]`
-    Function(Bounds, Box<Expr>),
+    Function(Bounds, Expr),
     /// `[S -> T]`
-    FunctionSet(Box<Expr>, Box<Expr>),
+    FunctionSet(Expr, Expr),
     /// `[a |-> e, b |-> f]`
     Record(Fields),
     /// `[a : S, b : T]`
     RecordSet(Fields),
     /// `[f EXCEPT ![a] = e, !.b = g]`
-    Except(Box<Expr>, Changes),
-    Quantified(Quantifier, Bounds, Box<Expr>),
+    Except(Expr, Changes),
+    Quantified(Quantifier, Bounds, Expr),
     /// `CHOOSE x \in S : p`
-    Choose(Text, Box<Expr>, Box<Expr>),
-    If(Box<Expr>, Box<Expr>, Box<Expr>),
+    Choose(Text, Expr, Expr),
+    If(Expr, Expr, Expr),
     /// The arms, and what stands behind `OTHER`, if it is there.
-    Case(Arms, Option<Box<Expr>>),
-    Let(Definitions, Box<Expr>),
+    Case(Arms, Option<Expr>),
+    Let(Definitions, Expr),
     /// `[A]_v`
-    BoxAction(Box<Expr>, Box<Expr>),
+    BoxAction(Expr, Expr),
     /// `<<A>>_v`
-    AngleAction(Box<Expr>, Box<Expr>),
+    AngleAction(Expr, Expr),
     /// `WF_v(A)` or `SF_v(A)`: the subscript, and the action.
-    Fairness(Box<Expr>, Box<Expr>),
+    Fairness(Expr, Expr),
 }
 
 /// A postfix step: `'`, `[a, b]` or `.h`.
@@ -234,12 +234,20 @@ pub struct Operands {
 }
 
 impl Expr {
+    /// The expression of a node, which gets a box of its own.
+    pub fn new(alloc: Global, at: Place, node: Node) -> Result<Expr, NoMemory>
+        ensures { IfOk result (λ e. e ≡ node_view at node) }
+    {
+        let node = Box::new(alloc, node)?;
+        Ok(Expr { at, node })
+    }
+
     /// Its place and what it is.
     pub fn into_parts(self) -> (Place, Node)
         ensures { node_view result.0 result.1 ≡ self }
     {
         let mut whole = self;
-        let node = replace(&mut whole.node, Node::At);
+        let node = replace(&mut *whole.node, Node::At);
         (whole.at, node)
     }
 }
@@ -255,13 +263,13 @@ impl Model for Expr {
 
     ghost use Rattle.tla_ast.specs.TreeViews.{node_view};
 
-    ghost view = { λ a. node_view a.at a.node };
+    ghost view = { λ a. node_view a.at a.node.value };
 
     ghost size = { tree_size };
 
     ghost use Rattle.tla_ast.specs.TreeFalls.{tree_falls};
 
-    ghost size_decreases = { λ a h. tree_falls a.at a.node };
+    ghost size_decreases = { λ a h. tree_falls a.at a.node.value };
 }
 
 impl Model for Exprs {

@@ -56,7 +56,7 @@ fn conjunction(
     }
     let node = TermNode::All(copies(alloc, terms)?);
     let level = level_for(table, &node);
-    Ok(Term { at, level, node })
+    Term::new(alloc, at, level, node)
 }
 
 /// Init and Next by the shape of a body, if it has one.

@@ -6,7 +6,6 @@ ghost use Rattle.tla_terms.specs.Levels.{level_for};
 ghost use Rattle.tla_terms.specs.Terms.{Placed};
 ghost use Rattle.tla_names.specs.Pendings.{meaning_with, closed, closed_all};
 
-use crate::build::boxed;
 use std::alloc::Global;
 use tla_ast::Quantifier;
 use tla_scopes::level_for;
@@ -31,34 +30,24 @@ pub fn add_row(rows: &mut Vec<Pending>, row: Pending) -> Result<(), NoMemory>
 }
 
 /// The term of this meaning at a place.
-fn placed(alloc: Global, at: Place, node: TermNode) -> Term
-    ensures { result ≡ Placed at (level_for [] (node_view node)) (node_view node) }
+fn placed(alloc: Global, at: Place, node: TermNode) -> Result<Term, NoMemory>
+    ensures { IfOk result (λ e. e ≡ Placed at (level_for [] (node_view node)) (node_view node)) }
 {
     let level = level_for(&Operators::new(alloc), &node);
-    Term { at, level, node }
+    Term::new(alloc, at, level, node)
 }
 
 /// The term of a row with this last part.
 fn closed(alloc: Global, row: Pending, last: Term) -> Result<Term, NoMemory>
     ensures { IfOk result (λ e. e ≡ closed row last) }
 {
-    let last = boxed(alloc, last)?;
     match row {
-        Pending::If(at, test, then) => {
-            let test = boxed(alloc, test)?;
-            let then = boxed(alloc, then)?;
-            Ok(placed(alloc, at, TermNode::If(test, then, last)))
+        Pending::If(at, test, then) => placed(alloc, at, TermNode::If(test, then, last)),
+        Pending::Quantified(at, quantifier, bounds) => {
+            placed(alloc, at, TermNode::Quantified(quantifier, bounds, last))
         }
-        Pending::Quantified(at, quantifier, bounds) => Ok(placed(
-            alloc,
-            at,
-            TermNode::Quantified(quantifier, bounds, last),
-        )),
-        Pending::Choose(at, set) => {
-            let set = boxed(alloc, set)?;
-            Ok(placed(alloc, at, TermNode::Choose(set, last)))
-        }
-        Pending::Scoped(at, numbers) => Ok(placed(alloc, at, TermNode::Scoped(numbers, last))),
+        Pending::Choose(at, set) => placed(alloc, at, TermNode::Choose(set, last)),
+        Pending::Scoped(at, numbers) => placed(alloc, at, TermNode::Scoped(numbers, last)),
     }
 }
 

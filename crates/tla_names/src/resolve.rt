@@ -14,10 +14,7 @@ ghost use Rattle.tla_names.specs.Pendings.{Opens, OpensRow, StaysClosed};
 ghost use Rattle.tla_scopes.specs.Reaching.{reaches_right};
 ghost use Rattle.tla_names.specs.Reads.{ResolvesTo, ResolvesRow, Resolves, ResolvesEach, ResolvesOperands, ResolvesOthers, ResolvesStep, ResolvesSteps, ResolvesBounds, ResolvesFields, ResolvesChanges, ResolvesArms, ResolvesDefinitions, ResolvesWithin, ResolvesUnder, IsUse, RefusesOthers};
 
-use crate::build::{
-    angle_action, box_action, builtin_set, case_other, chain, except, fairness, filter, function,
-    function_set, junction, known_text, map, parenthesized, postfix, prefix,
-};
+use crate::build::{builtin_set, chain, junction, known_text};
 use crate::fault::NameFault;
 use crate::pending::{Pending, add_row, closed_all};
 use crate::walk::Walk;
@@ -48,7 +45,7 @@ pub fn resolve_to(
 {
     let (rows, rest) = open(alloc, walk, tree)?;
     let node = resolve_row(alloc, walk, rest)?;
-    let term = walk.placed(rest.at, node);
+    let term = walk.placed(alloc, rest.at, node)?;
     walk.cut(depth);
     let whole = closed_all(alloc, rows, term)?;
     Ok(whole)
@@ -94,7 +91,7 @@ fn open_row<'a>(
     ensures fine { IfOk result (λ o. MatchOption o (StaysClosed walk.old walk.new rows.old.items rows.new.items tree.now) (λ last. OpensRow walk.old walk.new rows.old.items rows.new.items tree.now last.now)) }
     ensures refused { IfErr result (Complains (complaint (takes walk.old.here) tree.now)) }
 {
-    match &tree.node {
+    match &*tree.node {
         Node::If(test, then, last) => {
             let test = resolve(alloc, walk, test)?;
             let then = resolve(alloc, walk, then)?;
@@ -138,7 +135,7 @@ fn resolve_row(alloc: Global, walk: &mut Walk<'_>, tree: &Expr) -> Result<TermNo
     ensures fine { IfOk result (λ n. ResolvesRow walk.old walk.new tree.now (node_view n)) }
     ensures refused { IfErr result (Complains (complaint (takes walk.old.here) tree.now)) }
 {
-    match &tree.node {
+    match &*tree.node {
         Node::Number(number) => Ok(TermNode::Known(Value::int(*number))),
         Node::Str(text) => Ok(known_text(text)?),
         Node::Truth(truth) => Ok(TermNode::Known(Value::boolean(*truth))),
@@ -148,7 +145,7 @@ fn resolve_row(alloc: Global, walk: &mut Walk<'_>, tree: &Expr) -> Result<TermNo
         Node::At => use_of(alloc, walk, &Text::from_text(alloc, "@")?, tree.at),
         Node::Parenthesized(inner) => {
             let inner = resolve(alloc, walk, inner)?;
-            Ok(parenthesized(alloc, inner)?)
+            Ok(TermNode::Parenthesized(inner))
         }
         Node::Junction(bullet, items) => {
             let terms = resolve_each(alloc, walk, items)?;
@@ -156,7 +153,7 @@ fn resolve_row(alloc: Global, walk: &mut Walk<'_>, tree: &Expr) -> Result<TermNo
         }
         Node::Prefix(operator, operand) => {
             let operand = resolve(alloc, walk, operand)?;
-            Ok(prefix(alloc, *operator, operand)?)
+            Ok(TermNode::Prefix(*operator, operand))
         }
         Node::Infix(operator, operands, last) => {
             let operands = resolve_operands(alloc, walk, operands)?;
@@ -167,7 +164,7 @@ fn resolve_row(alloc: Global, walk: &mut Walk<'_>, tree: &Expr) -> Result<TermNo
             let base = resolve(alloc, walk, base)?;
             let steps = resolve_steps(alloc, walk, steps)?;
             let last = resolve_step(alloc, walk, last)?;
-            Ok(postfix(alloc, base, steps, last)?)
+            Ok(TermNode::Postfix(base, steps, last))
         }
         Node::SetOf(items) => {
             let terms = resolve_each(alloc, walk, items)?;
@@ -176,12 +173,12 @@ fn resolve_row(alloc: Global, walk: &mut Walk<'_>, tree: &Expr) -> Result<TermNo
         Node::Filter(name, set, test) => {
             let set = resolve(alloc, walk, set)?;
             let test = resolve_under(alloc, walk, name, test)?;
-            Ok(filter(alloc, set, test)?)
+            Ok(TermNode::Filter(set, test))
         }
         Node::Map(value, bounds) => {
             let value = resolve_within(alloc, walk, value, bounds)?;
             let sets = resolve_bounds(alloc, walk, bounds)?;
-            Ok(map(alloc, value, sets)?)
+            Ok(TermNode::Map(value, sets))
         }
         Node::Tuple(items) => {
             let terms = resolve_each(alloc, walk, items)?;
@@ -190,12 +187,12 @@ fn resolve_row(alloc: Global, walk: &mut Walk<'_>, tree: &Expr) -> Result<TermNo
         Node::Function(bounds, value) => {
             let sets = resolve_bounds(alloc, walk, bounds)?;
             let value = resolve_within(alloc, walk, value, bounds)?;
-            Ok(function(alloc, sets, value)?)
+            Ok(TermNode::Function(sets, value))
         }
         Node::FunctionSet(domain, range) => {
             let domain = resolve(alloc, walk, domain)?;
             let range = resolve(alloc, walk, range)?;
-            Ok(function_set(alloc, domain, range)?)
+            Ok(TermNode::FunctionSet(domain, range))
         }
         Node::Record(fields) => {
             let fields = resolve_fields(alloc, walk, fields)?;
@@ -208,7 +205,7 @@ fn resolve_row(alloc: Global, walk: &mut Walk<'_>, tree: &Expr) -> Result<TermNo
         Node::Except(function, changes) => {
             let function = resolve(alloc, walk, function)?;
             let changes = resolve_changes(alloc, walk, changes)?;
-            Ok(except(alloc, function, changes)?)
+            Ok(TermNode::Except(function, changes))
         }
         Node::Case(arms, None) => {
             let arms = resolve_arms(alloc, walk, arms)?;
@@ -217,22 +214,22 @@ fn resolve_row(alloc: Global, walk: &mut Walk<'_>, tree: &Expr) -> Result<TermNo
         Node::Case(arms, Some(other)) => {
             let arms = resolve_arms(alloc, walk, arms)?;
             let other = resolve(alloc, walk, other)?;
-            Ok(case_other(alloc, arms, other)?)
+            Ok(TermNode::Case(arms, Some(other)))
         }
         Node::BoxAction(action, subscript) => {
             let action = resolve(alloc, walk, action)?;
             let subscript = resolve(alloc, walk, subscript)?;
-            Ok(box_action(alloc, action, subscript)?)
+            Ok(TermNode::BoxAction(action, subscript))
         }
         Node::AngleAction(action, subscript) => {
             let action = resolve(alloc, walk, action)?;
             let subscript = resolve(alloc, walk, subscript)?;
-            Ok(angle_action(alloc, action, subscript)?)
+            Ok(TermNode::AngleAction(action, subscript))
         }
         Node::Fairness(subscript, action) => {
             let subscript = resolve(alloc, walk, subscript)?;
             let action = resolve(alloc, walk, action)?;
-            Ok(fairness(alloc, subscript, action)?)
+            Ok(TermNode::Fairness(subscript, action))
         }
         Node::Quantified(_, _, _) => unreachable!(),
         Node::Choose(_, _, _) => unreachable!(),

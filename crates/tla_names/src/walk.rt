@@ -155,10 +155,10 @@ impl<'a> Walk<'a> {
     }
 
     /// The term of this meaning at a place.
-    pub fn placed(&self, at: Place, node: TermNode) -> Term
-        ensures { result ≡ Placed at (level_for self.now.table (node_view node)) (node_view node) }
+    pub fn placed(&self, alloc: Global, at: Place, node: TermNode) -> Result<Term, NoMemory>
+        ensures { IfOk result (λ e. e ≡ Placed at (level_for self.now.table (node_view node)) (node_view node)) }
     {
         let level = level_for(&self.table, &node);
-        Term { at, level, node }
+        Term::new(alloc, at, level, node)
     }
 }

@@ -70,7 +70,7 @@ pub fn mentions(name: &Text, tree: &Expr) -> bool
         if !reaches_right(tree) {
             return mentions_row(name, tree);
         }
-        match &tree.node {
+        match &*tree.node {
             Node::If(test, then, last) => {
                 if mentions(name, test) {
                     return true;
@@ -118,7 +118,7 @@ fn mentions_row(name: &Text, tree: &Expr) -> bool
     requires { reaches_right tree.now ≡ false }
     ensures { result ≡ mentions name.now tree.now }
 {
-    match &tree.node {
+    match &*tree.node {
         Node::Number(_) => false,
         Node::Str(_) => false,
         Node::Truth(_) => false,

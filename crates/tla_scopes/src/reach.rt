@@ -9,7 +9,7 @@ use tla_ast::{Expr, Node};
 pub fn reaches_right(tree: &Expr) -> bool
     ensures { result ≡ reaches_right tree.now }
 {
-    match &tree.node {
+    match &*tree.node {
         Node::Quantified(_, _, _) => true,
         Node::Choose(_, _, _) => true,
         Node::If(_, _, _) => true,

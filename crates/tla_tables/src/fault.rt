@@ -35,11 +35,8 @@ fn placeholder(alloc: Global) -> Result<Operator, NoMemory>
     ensures { IfOk result (λ o. (k : ℕ) → MentionsBelow k o.body) }
 {
     let name = Text::from_text(alloc, "")?;
-    let body = Term {
-        at: NOWHERE,
-        level: Level::Constant,
-        node: TermNode::Known(Value::boolean(false)),
-    };
+    let node = TermNode::Known(Value::boolean(false));
+    let body = Term::new(alloc, NOWHERE, Level::Constant, node)?;
     Ok(Operator {
         name,
         outer: 0,

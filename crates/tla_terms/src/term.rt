@@ -2,8 +2,8 @@
 
 ghost use Rattle.std.specs.Prelude.{◌≡◌, IfOk, OnErr, OnOk, length, option_copied, option_map, slice_get};
 ghost use Rattle.tla_terms.specs.Lists.{terms_list, steps_list, bounds_list, fields_list, changes_list, arms_list};
-ghost use Rattle.tla_terms.specs.Terms.{First, MoreArms, MoreBounds, MoreChanges, MoreFields, MoreSteps, MoreTerms, Next, NoArms, NoBounds, NoChanges, NoFields, NoSteps, NoTerms};
-ghost use Rattle.tla_terms.specs.TermViews.{step_item, bound_item, field_item, change_item, arm_item, are_none, steps_are_none, step_view, terms_of, steps_of, bounds_of, fields_of, changes_of, arms_of, operands_of};
+ghost use Rattle.tla_terms.specs.Terms.{Placed, First, MoreArms, MoreBounds, MoreChanges, MoreFields, MoreSteps, MoreTerms, Next, NoArms, NoBounds, NoChanges, NoFields, NoSteps, NoTerms};
+ghost use Rattle.tla_terms.specs.TermViews.{node_view, step_item, bound_item, field_item, change_item, arm_item, are_none, steps_are_none, step_view, terms_of, steps_of, bounds_of, fields_of, changes_of, arms_of, operands_of};
 
 use crate::ids::{DefId, DefIds};
 use crate::level::Level;
@@ -22,7 +22,7 @@ use trace_base::{NoMemory, Place, Text};
 pub struct Term {
     pub at: Place,
     pub level: Level,
-    pub node: TermNode,
+    pub node: Box<TermNode>,
 }
 
 /// A loop over the rows whose last part may hold any number of rows like it, as a long `ELSE IF`: such a row takes no stack.
@@ -35,23 +35,23 @@ impl Drop for Term {
                 level: _,
                 node,
             } = self;
-            match node {
+            match Box::into_inner(node) {
                 TermNode::If(test, then, last) => {
                     drop(test);
                     drop(then);
-                    self = Box::into_inner(last);
+                    self = last;
                 }
                 TermNode::Quantified(_, bounds, last) => {
                     drop(bounds);
-                    self = Box::into_inner(last);
+                    self = last;
                 }
                 TermNode::Choose(set, last) => {
                     drop(set);
-                    self = Box::into_inner(last);
+                    self = last;
                 }
                 TermNode::Scoped(definitions, last) => {
                     drop(definitions);
-                    self = Box::into_inner(last);
+                    self = last;
                 }
                 other => return drop(other),
             }
@@ -72,34 +72,34 @@ pub enum TermNode {
     /// A definition on these arguments.
     Use(DefId, Terms),
     Standard(StandardOperator, Terms),
-    Parenthesized(Box<Term>),
+    Parenthesized(Term),
     /// The definitions of a LET, as written, and what stands behind its IN.
-    Scoped(DefIds, Box<Term>),
+    Scoped(DefIds, Term),
     /// A chain or a junction list of `/\`.
     All(Terms),
     /// A chain or a junction list of `\/`.
     Any(Terms),
-    Prefix(PrefixOperator, Box<Term>),
+    Prefix(PrefixOperator, Term),
     /// A chain of one operator other than `/\` and `\/`: its operands, the last apart.
-    Infix(InfixOperator, Operands, Box<Term>),
+    Infix(InfixOperator, Operands, Term),
     /// A primary and one or more steps behind it, the last apart.
-    Postfix(Box<Term>, Steps, Step),
+    Postfix(Term, Steps, Step),
     SetOf(Terms),
-    Filter(Box<Term>, Box<Term>),
-    Map(Box<Term>, Bounds),
+    Filter(Term, Term),
+    Map(Term, Bounds),
     Tuple(Terms),
-    Function(Bounds, Box<Term>),
-    FunctionSet(Box<Term>, Box<Term>),
+    Function(Bounds, Term),
+    FunctionSet(Term, Term),
     Record(Fields),
     RecordSet(Fields),
-    Except(Box<Term>, Changes),
-    Quantified(Quantifier, Bounds, Box<Term>),
-    Choose(Box<Term>, Box<Term>),
-    If(Box<Term>, Box<Term>, Box<Term>),
-    Case(Arms, Option<Box<Term>>),
-    BoxAction(Box<Term>, Box<Term>),
-    AngleAction(Box<Term>, Box<Term>),
-    Fairness(Box<Term>, Box<Term>),
+    Except(Term, Changes),
+    Quantified(Quantifier, Bounds, Term),
+    Choose(Term, Term),
+    If(Term, Term, Term),
+    Case(Arms, Option<Term>),
+    BoxAction(Term, Term),
+    AngleAction(Term, Term),
+    Fairness(Term, Term),
 }
 
 /// A postfix step: `'`, `[a, b]` or `.h`.
@@ -221,13 +221,13 @@ impl Model for Term {
     ghost use Rattle.tla_terms.specs.Terms.{Placed};
     ghost use Rattle.tla_terms.specs.TermViews.{node_view};
 
-    ghost view = { λ a. Placed a.at a.level (node_view a.node) };
+    ghost view = { λ a. Placed a.at a.level (node_view a.node.value) };
 
     ghost size = { term_size };
 
     ghost use Rattle.tla_terms.specs.TermFalls.{term_falls};
 
-    ghost size_decreases = { λ a h. term_falls a.at a.level a.node };
+    ghost size_decreases = { λ a h. term_falls a.at a.level a.node.value };
 }
 
 impl Model for Terms {
@@ -368,6 +368,16 @@ impl Model for Operands {
     ghost use Rattle.tla_terms.specs.TermFalls.{operands_falls};
 
     ghost size_decreases = { λ a h. operands_falls a.first.value a.others.items };
+}
+
+impl Term {
+    /// The term of a node, which gets a box of its own.
+    pub fn new(alloc: Global, at: Place, level: Level, node: TermNode) -> Result<Term, NoMemory>
+        ensures { IfOk result (λ t. t ≡ Placed at level (node_view node)) }
+    {
+        let node = Box::new(alloc, node)?;
+        Ok(Term { at, level, node })
+    }
 }
 
 impl Terms {

@@ -36,12 +36,12 @@ fn defined(
             body: e,
         }),
         Form::Function(q, bounds) => {
-            let node = Node::Function(bounds, Box::new(alloc, e)?);
+            let node = Node::Function(bounds, e);
             Ok(Definition {
                 name,
                 at,
                 params: Names::new(alloc),
-                body: Expr { at: q, node },
+                body: Expr::new(alloc, q, node)?,
             })
         }
     }
@@ -241,14 +241,14 @@ fn item_closes(
 }
 
 /// The end of a junction list.
-fn list_closes(frame: Frame, e: Expr) -> Result<Stepped, NoMemory>
+fn list_closes(alloc: Global, frame: Frame, e: Expr) -> Result<Stepped, NoMemory>
     ensures { IfOk result (λ r. (fs : List Frame) → Does r fs (list_closes frame fs e)) }
 {
     match frame {
         Frame::Junction(bullet, at, mut items) => {
             items.push(e)?;
             let node = Node::Junction(bullet, items);
-            Ok(Stepped::Reads(Mode::Have(Expr { at, node })))
+            Ok(Stepped::Reads(Mode::Have(Expr::new(alloc, at, node)?)))
         }
         other => {
             drop(other);
@@ -306,7 +306,7 @@ fn laid_closes(
             Ok(Stepped::Stops)
         }
         Laid::ListItem(bullet, _) => item_closes(*bullet, frame, stack, e),
-        Laid::ListClose(_) => list_closes(frame, e),
+        Laid::ListClose(_) => list_closes(alloc, frame, e),
     }
 }
 

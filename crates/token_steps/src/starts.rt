@@ -43,7 +43,7 @@ fn name_follows(
 {
     push(stack, frame)?;
     let node = Node::Name(name);
-    follows(alloc, laid, stack, Expr { at, node })
+    follows(alloc, laid, stack, Expr::new(alloc, at, node)?)
 }
 
 pub fn bracket_start(
@@ -119,7 +119,7 @@ pub fn brace_start(
     match symbol {
         Symbol::CloseBrace => {
             let node = Node::SetOf(Exprs::new(alloc));
-            Ok(Stepped::Reads(Mode::Have(Expr { at, node })))
+            Ok(Stepped::Reads(Mode::Have(Expr::new(alloc, at, node)?)))
         }
         _ => begins_in(alloc, laid, stack, Frame::Braces(at, Exprs::new(alloc))),
     }
@@ -173,7 +173,7 @@ pub fn tuple_start(
     match symbol {
         Symbol::CloseTuple => {
             let node = Node::Tuple(Exprs::new(alloc));
-            deliver(alloc, stack, Expr { at, node })
+            deliver(alloc, stack, Expr::new(alloc, at, node)?)
         }
         _ => begins_in(alloc, laid, stack, Frame::Tuple(at, Exprs::new(alloc))),
     }
@@ -205,7 +205,7 @@ fn subscript_started(alloc: Global, laid: &Laid, stack: &mut Stack) -> Result<St
 {
     if let Some((name, at)) = name_at(laid)? {
         let node = Node::Name(name);
-        return deliver(alloc, stack, Expr { at, node });
+        return deliver(alloc, stack, Expr::new(alloc, at, node)?);
     }
     let Some((symbol, q)) = symbol_at(laid) else {
         return Ok(Stepped::Stops);

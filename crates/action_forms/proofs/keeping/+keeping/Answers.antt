@@ -1,4 +1,5 @@
-use Rattle.std.proofs.Common.{◌≤◌, ◌+◌, arith}
+use Rattle.std.proofs.Common.{◌≤◌, ◌+◌, arith, ◌∙◌, ap}
+use Rattle.tla_terms.specs.Terms.{Placed}
 use Rattle.tla_terms.specs.TermViews.{node_view}
 use Rattle.term_parts.specs.Weights.{weight, in_terms}
 use Rattle.early_reads.specs.Weight.{weights}
@@ -11,17 +12,17 @@ use Rattle.action_forms.proofs.keeping.+keeping.Goals as goal
 pub unchanged-unchanged_all-requires : goal.unchanged-unchanged_all-requires
 unchanged-unchanged_all-requires t c =
     let lighter : in_terms c.in-Tuple.terms.now + 1 + weights (table_of c.args.walk.now) c.behind-number.result.0 ≤ weight c.args.term.now + weights (table_of c.args.walk.now) c.args.bound =
-    tuple-lighter (table_of c.args.walk.now) c.args.bound c.args.term.now c.behind-number.result.1.now c.behind-number.result.0 c.found.inside.at c.found.inside.level (node_view c.found.inside.node) c.found.view_is c.in-Tuple.terms.now c.in-Tuple.ensures c.behind-number.ensures.lighter in
+    tuple-lighter (table_of c.args.walk.now) c.args.bound c.args.term.now c.behind-number.result.1.now c.behind-number.result.0 c.found.inside.at c.found.inside.level (node_view c.deref.result.now) (ap (λ n. Placed c.found.inside.at c.found.inside.level (node_view n)) c.deref.ensures ∙ c.found.view_is) c.in-Tuple.terms.now c.in-Tuple.ensures c.behind-number.ensures.lighter in
     (omega (arith, c.decreases), tt)
 
 pub unchanged-returns-in-Variable : goal.unchanged-returns-in-Variable
-unchanged-returns-in-Variable t c = kept-variable c.args.walk.now c.args.bound (shown c.args.before) c.args.at c.args.term.now c.behind-number.result.1.now c.behind-number.result.0 c.found.inside.at c.found.inside.level (node_view c.found.inside.node) c.found.view_is c.behind-number.ensures.same c.in-Variable.variable c.kept.result c.in-Variable.ensures c.kept.ensures
+unchanged-returns-in-Variable t c = kept-variable c.args.walk.now c.args.bound (shown c.args.before) c.args.at c.args.term.now c.behind-number.result.1.now c.behind-number.result.0 c.found.inside.at c.found.inside.level (node_view c.deref.result.now) (ap (λ n. Placed c.found.inside.at c.found.inside.level (node_view n)) c.deref.ensures ∙ c.found.view_is) c.behind-number.ensures.same c.in-Variable.variable c.kept.result c.in-Variable.ensures c.kept.ensures
 
 pub unchanged-returns-in-Tuple : goal.unchanged-returns-in-Tuple
-unchanged-returns-in-Tuple t c = kept-tuple c.args.walk.now c.args.bound (shown c.args.before) c.args.at c.args.term.now c.behind-number.result.1.now c.behind-number.result.0 c.found.inside.at c.found.inside.level (node_view c.found.inside.node) c.found.view_is c.behind-number.ensures.same c.in-Tuple.terms.now c.unchanged_all.result c.in-Tuple.ensures c.unchanged_all.ensures
+unchanged-returns-in-Tuple t c = kept-tuple c.args.walk.now c.args.bound (shown c.args.before) c.args.at c.args.term.now c.behind-number.result.1.now c.behind-number.result.0 c.found.inside.at c.found.inside.level (node_view c.deref.result.now) (ap (λ n. Placed c.found.inside.at c.found.inside.level (node_view n)) c.deref.ensures ∙ c.found.view_is) c.behind-number.ensures.same c.in-Tuple.terms.now c.unchanged_all.result c.in-Tuple.ensures c.unchanged_all.ensures
 
 pub unchanged-returns-in-Other : goal.unchanged-returns-in-Other
-unchanged-returns-in-Other t c = kept-other c.args.walk.now c.args.bound (shown c.args.before) c.args.at c.args.term.now c.behind-number.result.1.now c.behind-number.result.0 c.found.inside.at c.found.inside.level (node_view c.found.inside.node) c.found.view_is c.behind-number.ensures.same c.still.result c.in-Other.ensures c.still.ensures
+unchanged-returns-in-Other t c = kept-other c.args.walk.now c.args.bound (shown c.args.before) c.args.at c.args.term.now c.behind-number.result.1.now c.behind-number.result.0 c.found.inside.at c.found.inside.level (node_view c.deref.result.now) (ap (λ n. Placed c.found.inside.at c.found.inside.level (node_view n)) c.deref.ensures ∙ c.found.view_is) c.behind-number.ensures.same c.still.result c.in-Other.ensures c.still.ensures
 
 pub unchanged_all-loop-item-init : goal.unchanged_all-loop-item-init
 unchanged_all-loop-item-init t c = keeping-begin c.args.walk.now c.args.bound (shown c.args.before) c.args.at c.args.terms.now c.items-items.result.now c.items-items.ensures

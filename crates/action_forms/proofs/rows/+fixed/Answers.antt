@@ -1,4 +1,5 @@
 use Rattle.std.proofs.Common.{◌≤◌, ◌+◌, ◌∙◌, List, ap, arith, map, rules, subst, sym}
+use Rattle.tla_terms.specs.Terms.{Placed}
 use Rattle.tla_ast.specs.declared.operators.PrefixOperator.TheVariants as prefix
 use Rattle.tla_ast.specs.declared.operators.Quantifier.TheVariants as quantifier
 use Rattle.tla_terms.specs.Terms as term
@@ -23,59 +24,59 @@ use Rattle.action_forms.proofs.rows.+fixed.Goals as goal
 
 pub fixed_within-returns-in-Test : goal.fixed_within-returns-in-Test
 fixed_within-returns-in-Test t c =
-    test-fixed c.args.walk.now c.args.bound (shown c.args.before) c.args.term.now c.term.inside.at c.term.inside.level (node_view c.term.inside.node) c.tested-in-Test.result c.term.view_is c.in-Test.ensures c.tested-in-Test.ensures
+    test-fixed c.args.walk.now c.args.bound (shown c.args.before) c.args.term.now c.term.inside.at c.term.inside.level (node_view c.deref.result.now) c.tested-in-Test.result (ap (λ n. Placed c.term.inside.at c.term.inside.level (node_view n)) c.deref.ensures ∙ c.term.view_is) c.in-Test.ensures c.tested-in-Test.ensures
 
 pub fixed_within-returns-in-Given : goal.fixed_within-returns-in-Given
 fixed_within-returns-in-Given t c =
-    kind-fixed c.args.walk.now c.args.bound (shown c.args.before) c.args.term.now c.term.inside.at c.term.inside.level (node_view c.term.inside.node) (term.Infix c.in-Given.operator (term.First c.in-Given.left.now) c.in-Given.value.now) c.given.result c.term.view_is (sym c.is_taken.ensures ∙ c.if-not-is_taken.false) c.in-Given.ensures.0 (given-row c.args.walk.now c.args.bound (shown c.args.before) c.in-Given.operator c.in-Given.variable c.in-Given.left.now c.in-Given.value.now c.given.result c.in-Given.ensures.1 c.in-Given.ensures.2 c.given.ensures c.term.inside.at)
+    kind-fixed c.args.walk.now c.args.bound (shown c.args.before) c.args.term.now c.term.inside.at c.term.inside.level (node_view c.deref.result.now) (term.Infix c.in-Given.operator (term.First c.in-Given.left.now) c.in-Given.value.now) c.given.result (ap (λ n. Placed c.term.inside.at c.term.inside.level (node_view n)) c.deref.ensures ∙ c.term.view_is) (sym c.is_taken.ensures ∙ c.if-not-is_taken.false) c.in-Given.ensures.0 (given-row c.args.walk.now c.args.bound (shown c.args.before) c.in-Given.operator c.in-Given.variable c.in-Given.left.now c.in-Given.value.now c.given.result c.in-Given.ensures.1 c.in-Given.ensures.2 c.given.ensures c.term.inside.at)
 
 pub fixed_within-returns-in-Both : goal.fixed_within-returns-in-Both
 fixed_within-returns-in-Both t c =
-    kind-fixed c.args.walk.now c.args.bound (shown c.args.before) c.args.term.now c.term.inside.at c.term.inside.level (node_view c.term.inside.node) (term.All c.in-Both.terms.now) c.in_order.result c.term.view_is (sym c.is_taken.ensures ∙ c.if-not-is_taken.false) c.in-Both.ensures (c.in_order.ensures c.term.inside.at)
+    kind-fixed c.args.walk.now c.args.bound (shown c.args.before) c.args.term.now c.term.inside.at c.term.inside.level (node_view c.deref.result.now) (term.All c.in-Both.terms.now) c.in_order.result (ap (λ n. Placed c.term.inside.at c.term.inside.level (node_view n)) c.deref.ensures ∙ c.term.view_is) (sym c.is_taken.ensures ∙ c.if-not-is_taken.false) c.in-Both.ensures (c.in_order.ensures c.term.inside.at)
 
 pub fixed_within-returns-in-OneOf : goal.fixed_within-returns-in-OneOf
 fixed_within-returns-in-OneOf t c =
-    kind-fixed c.args.walk.now c.args.bound (shown c.args.before) c.args.term.now c.term.inside.at c.term.inside.level (node_view c.term.inside.node) (term.Any c.in-OneOf.terms.now) c.one_of.result c.term.view_is (sym c.is_taken.ensures ∙ c.if-not-is_taken.false) c.in-OneOf.ensures (c.one_of.ensures c.term.inside.at)
+    kind-fixed c.args.walk.now c.args.bound (shown c.args.before) c.args.term.now c.term.inside.at c.term.inside.level (node_view c.deref.result.now) (term.Any c.in-OneOf.terms.now) c.one_of.result (ap (λ n. Placed c.term.inside.at c.term.inside.level (node_view n)) c.deref.ensures ∙ c.term.view_is) (sym c.is_taken.ensures ∙ c.if-not-is_taken.false) c.in-OneOf.ensures (c.one_of.ensures c.term.inside.at)
 
 pub fixed_within-returns-in-Exists : goal.fixed_within-returns-in-Exists
 fixed_within-returns-in-Exists t c =
-    kind-fixed c.args.walk.now c.args.bound (shown c.args.before) c.args.term.now c.term.inside.at c.term.inside.level (node_view c.term.inside.node) (term.Quantified quantifier.Exists c.in-Exists.bounds.now c.in-Exists.body.now) c.exists.result c.term.view_is (sym c.is_taken.ensures ∙ c.if-not-is_taken.false) c.in-Exists.ensures (c.exists.ensures c.term.inside.at)
+    kind-fixed c.args.walk.now c.args.bound (shown c.args.before) c.args.term.now c.term.inside.at c.term.inside.level (node_view c.deref.result.now) (term.Quantified quantifier.Exists c.in-Exists.bounds.now c.in-Exists.body.now) c.exists.result (ap (λ n. Placed c.term.inside.at c.term.inside.level (node_view n)) c.deref.ensures ∙ c.term.view_is) (sym c.is_taken.ensures ∙ c.if-not-is_taken.false) c.in-Exists.ensures (c.exists.ensures c.term.inside.at)
 
 pub fixed_within-returns-in-Branch : goal.fixed_within-returns-in-Branch
 fixed_within-returns-in-Branch t c =
-    kind-fixed c.args.walk.now c.args.bound (shown c.args.before) c.args.term.now c.term.inside.at c.term.inside.level (node_view c.term.inside.node) (term.If c.in-Branch.test.now c.in-Branch.then.now c.in-Branch.other.now) c.conditional.result c.term.view_is (sym c.is_taken.ensures ∙ c.if-not-is_taken.false) c.in-Branch.ensures (c.conditional.ensures c.term.inside.at)
+    kind-fixed c.args.walk.now c.args.bound (shown c.args.before) c.args.term.now c.term.inside.at c.term.inside.level (node_view c.deref.result.now) (term.If c.in-Branch.test.now c.in-Branch.then.now c.in-Branch.other.now) c.conditional.result (ap (λ n. Placed c.term.inside.at c.term.inside.level (node_view n)) c.deref.ensures ∙ c.term.view_is) (sym c.is_taken.ensures ∙ c.if-not-is_taken.false) c.in-Branch.ensures (c.conditional.ensures c.term.inside.at)
 
 pub fixed_within-returns-in-Case : goal.fixed_within-returns-in-Case
 fixed_within-returns-in-Case t c =
-    kind-fixed c.args.walk.now c.args.bound (shown c.args.before) c.args.term.now c.term.inside.at c.term.inside.level (node_view c.term.inside.node) (term.Case c.in-Case.arms.now) c.case.result c.term.view_is (sym c.is_taken.ensures ∙ c.if-not-is_taken.false) c.in-Case.ensures (c.case.ensures c.term.inside.at)
+    kind-fixed c.args.walk.now c.args.bound (shown c.args.before) c.args.term.now c.term.inside.at c.term.inside.level (node_view c.deref.result.now) (term.Case c.in-Case.arms.now) c.case.result (ap (λ n. Placed c.term.inside.at c.term.inside.level (node_view n)) c.deref.ensures ∙ c.term.view_is) (sym c.is_taken.ensures ∙ c.if-not-is_taken.false) c.in-Case.ensures (c.case.ensures c.term.inside.at)
 
 pub fixed_within-returns-in-CaseOther : goal.fixed_within-returns-in-CaseOther
 fixed_within-returns-in-CaseOther t c =
-    kind-fixed c.args.walk.now c.args.bound (shown c.args.before) c.args.term.now c.term.inside.at c.term.inside.level (node_view c.term.inside.node) (term.CaseOther c.in-CaseOther.arms.now c.in-CaseOther.other.now) c.case_other.result c.term.view_is (sym c.is_taken.ensures ∙ c.if-not-is_taken.false) c.in-CaseOther.ensures (c.case_other.ensures c.term.inside.at)
+    kind-fixed c.args.walk.now c.args.bound (shown c.args.before) c.args.term.now c.term.inside.at c.term.inside.level (node_view c.deref.result.now) (term.CaseOther c.in-CaseOther.arms.now c.in-CaseOther.other.now) c.case_other.result (ap (λ n. Placed c.term.inside.at c.term.inside.level (node_view n)) c.deref.ensures ∙ c.term.view_is) (sym c.is_taken.ensures ∙ c.if-not-is_taken.false) c.in-CaseOther.ensures (c.case_other.ensures c.term.inside.at)
 
 pub fixed_within-returns-in-Scoped : goal.fixed_within-returns-in-Scoped
 fixed_within-returns-in-Scoped t c =
-    kind-fixed c.args.walk.now c.args.bound (shown c.args.before) c.args.term.now c.term.inside.at c.term.inside.level (node_view c.term.inside.node) (term.Scoped c.in-Scoped.definitions.now c.in-Scoped.inner.now) c.fixed_within.result c.term.view_is (sym c.is_taken.ensures ∙ c.if-not-is_taken.false) c.in-Scoped.ensures (scoped-row c.args.walk.now c.args.bound (shown c.args.before) c.in-Scoped.definitions.now c.in-Scoped.inner.now c.fixed_within.result c.fixed_within.ensures c.term.inside.at)
+    kind-fixed c.args.walk.now c.args.bound (shown c.args.before) c.args.term.now c.term.inside.at c.term.inside.level (node_view c.deref.result.now) (term.Scoped c.in-Scoped.definitions.now c.in-Scoped.inner.now) c.fixed_within.result (ap (λ n. Placed c.term.inside.at c.term.inside.level (node_view n)) c.deref.ensures ∙ c.term.view_is) (sym c.is_taken.ensures ∙ c.if-not-is_taken.false) c.in-Scoped.ensures (scoped-row c.args.walk.now c.args.bound (shown c.args.before) c.in-Scoped.definitions.now c.in-Scoped.inner.now c.fixed_within.result c.fixed_within.ensures c.term.inside.at)
 
 pub fixed_within-returns-in-Parenthesized : goal.fixed_within-returns-in-Parenthesized
 fixed_within-returns-in-Parenthesized t c =
-    kind-fixed c.args.walk.now c.args.bound (shown c.args.before) c.args.term.now c.term.inside.at c.term.inside.level (node_view c.term.inside.node) (term.Parenthesized c.in-Parenthesized.inner.now) c.fixed_within-in-Parenthesized.result c.term.view_is (sym c.is_taken.ensures ∙ c.if-not-is_taken.false) c.in-Parenthesized.ensures (parenthesized-row c.args.walk.now c.args.bound (shown c.args.before) c.in-Parenthesized.inner.now c.fixed_within-in-Parenthesized.result c.fixed_within-in-Parenthesized.ensures c.term.inside.at)
+    kind-fixed c.args.walk.now c.args.bound (shown c.args.before) c.args.term.now c.term.inside.at c.term.inside.level (node_view c.deref.result.now) (term.Parenthesized c.in-Parenthesized.inner.now) c.fixed_within-in-Parenthesized.result (ap (λ n. Placed c.term.inside.at c.term.inside.level (node_view n)) c.deref.ensures ∙ c.term.view_is) (sym c.is_taken.ensures ∙ c.if-not-is_taken.false) c.in-Parenthesized.ensures (parenthesized-row c.args.walk.now c.args.bound (shown c.args.before) c.in-Parenthesized.inner.now c.fixed_within-in-Parenthesized.result c.fixed_within-in-Parenthesized.ensures c.term.inside.at)
 
 pub fixed_within-returns-in-Call : goal.fixed_within-returns-in-Call
 fixed_within-returns-in-Call t c =
-    kind-fixed c.args.walk.now c.args.bound (shown c.args.before) c.args.term.now c.term.inside.at c.term.inside.level (node_view c.term.inside.node) (term.Use c.in-Call.number c.in-Call.terms.now) c.call.result c.term.view_is (sym c.is_taken.ensures ∙ c.if-not-is_taken.false) c.in-Call.ensures (c.call.ensures c.term.inside.at)
+    kind-fixed c.args.walk.now c.args.bound (shown c.args.before) c.args.term.now c.term.inside.at c.term.inside.level (node_view c.deref.result.now) (term.Use c.in-Call.number c.in-Call.terms.now) c.call.result (ap (λ n. Placed c.term.inside.at c.term.inside.level (node_view n)) c.deref.ensures ∙ c.term.view_is) (sym c.is_taken.ensures ∙ c.if-not-is_taken.false) c.in-Call.ensures (c.call.ensures c.term.inside.at)
 
 pub fixed_within-returns-in-BoxAction : goal.fixed_within-returns-in-BoxAction
 fixed_within-returns-in-BoxAction t c =
-    kind-fixed c.args.walk.now c.args.bound (shown c.args.before) c.args.term.now c.term.inside.at c.term.inside.level (node_view c.term.inside.node) (term.BoxAction c.in-BoxAction.action.now c.in-BoxAction.subscript.now) c.box_action.result c.term.view_is (sym c.is_taken.ensures ∙ c.if-not-is_taken.false) c.in-BoxAction.ensures c.box_action.ensures
+    kind-fixed c.args.walk.now c.args.bound (shown c.args.before) c.args.term.now c.term.inside.at c.term.inside.level (node_view c.deref.result.now) (term.BoxAction c.in-BoxAction.action.now c.in-BoxAction.subscript.now) c.box_action.result (ap (λ n. Placed c.term.inside.at c.term.inside.level (node_view n)) c.deref.ensures ∙ c.term.view_is) (sym c.is_taken.ensures ∙ c.if-not-is_taken.false) c.in-BoxAction.ensures c.box_action.ensures
 
 pub fixed_within-returns-in-AngleAction : goal.fixed_within-returns-in-AngleAction
 fixed_within-returns-in-AngleAction t c =
-    kind-fixed c.args.walk.now c.args.bound (shown c.args.before) c.args.term.now c.term.inside.at c.term.inside.level (node_view c.term.inside.node) (term.AngleAction c.in-AngleAction.action.now c.in-AngleAction.subscript.now) c.angle_action.result c.term.view_is (sym c.is_taken.ensures ∙ c.if-not-is_taken.false) c.in-AngleAction.ensures c.angle_action.ensures
+    kind-fixed c.args.walk.now c.args.bound (shown c.args.before) c.args.term.now c.term.inside.at c.term.inside.level (node_view c.deref.result.now) (term.AngleAction c.in-AngleAction.action.now c.in-AngleAction.subscript.now) c.angle_action.result (ap (λ n. Placed c.term.inside.at c.term.inside.level (node_view n)) c.deref.ensures ∙ c.term.view_is) (sym c.is_taken.ensures ∙ c.if-not-is_taken.false) c.in-AngleAction.ensures c.angle_action.ensures
 
 pub fixed_within-returns-in-Unchanged : goal.fixed_within-returns-in-Unchanged
 fixed_within-returns-in-Unchanged t c =
-    kind-fixed c.args.walk.now c.args.bound (shown c.args.before) c.args.term.now c.term.inside.at c.term.inside.level (node_view c.term.inside.node) (term.Prefix prefix.Unchanged c.in-Unchanged.inner.now) c.unchanged.result c.term.view_is (sym c.is_taken.ensures ∙ c.if-not-is_taken.false) c.in-Unchanged.ensures (unchanged-row c.args.walk.now c.args.bound (shown c.args.before) c.term.inside.at c.in-Unchanged.inner.now c.unchanged.result c.unchanged.ensures)
+    kind-fixed c.args.walk.now c.args.bound (shown c.args.before) c.args.term.now c.term.inside.at c.term.inside.level (node_view c.deref.result.now) (term.Prefix prefix.Unchanged c.in-Unchanged.inner.now) c.unchanged.result (ap (λ n. Placed c.term.inside.at c.term.inside.level (node_view n)) c.deref.ensures ∙ c.term.view_is) (sym c.is_taken.ensures ∙ c.if-not-is_taken.false) c.in-Unchanged.ensures (unchanged-row c.args.walk.now c.args.bound (shown c.args.before) c.term.inside.at c.in-Unchanged.inner.now c.unchanged.result c.unchanged.ensures)
 
 pub in_order-loop-item-init : goal.in_order-loop-item-init
 in_order-loop-item-init t c =

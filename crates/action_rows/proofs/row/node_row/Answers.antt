@@ -1,6 +1,5 @@
 use Rattle.std.proofs.Common.{ap, sym, ◌∙◌}
 use Rattle.tla_actions.specs.Forms.{meaning_form}
-use Rattle.tla_terms.specs.Terms.{Infix, Term}
 use Rattle.tla_terms.specs.TermViews.{node_view}
 use Rattle.tla_terms.specs.declared.term.TermNode.{TermNode}
 use Rattle.action_rows.specs.Rows.{setting}
@@ -11,4 +10,4 @@ returns-in-Infix c = λ at.
     let g = setting c.args.stage in
     let n = c.args.slots in
     c.infix_row.ensures c.args.slots at
-    ∙ ap (λ (e : Term). meaning_form g n at (Infix c.in-Infix.operator c.in-Infix.operands e)) c.deref-in-Infix.ensures ∙ ap (λ (x : TermNode). meaning_form g n at (node_view x)) (sym c.in-Infix.is)
+    ∙ ap (λ (x : TermNode). meaning_form g n at (node_view x)) (sym c.in-Infix.is)

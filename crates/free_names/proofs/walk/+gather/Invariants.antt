@@ -3,8 +3,8 @@ use Rattle.free_names.proofs.Items.{each_items, operands_items, steps_items, bou
 use Rattle.free_names.proofs.Walks.{Walks}
 use Rattle.free_names.proofs.walk.+gather.Given as goal
 
-abbrev pub invariant-gather-loop-tree : goal.invariant-gather-loop-tree
-invariant-gather-loop-tree l = Walks l.initial.hidden l.initial.found l.initial.tree l.hidden l.found l.tree
+abbrev pub invariant-gather-loop-test : goal.invariant-gather-loop-test
+invariant-gather-loop-test l = Walks l.initial.hidden l.initial.found l.initial.tree l.hidden l.found l.tree
 
 abbrev pub invariant-gather_each-loop-tree : goal.invariant-gather_each-loop-tree
 invariant-gather_each-loop-tree l =

@@ -1,4 +1,5 @@
 use Rattle.std.proofs.Common.{◌∙◌, ap, sym}
+use Rattle.tla_terms.specs.Terms.{Placed}
 use Rattle.tla_terms.specs.TermViews.{node_view}
 use Rattle.term_parts.specs.Parts.{part}
 use Rattle.term_parts.specs.Waiting.{waiting}
@@ -9,9 +10,9 @@ use Rattle.known_values.proofs.walk.knows_values.Goals as goal
 pub loop-pending-smaller : goal.loop-pending-smaller
 loop-pending-smaller c =
     let p = c.in-Some.pending in
-    way-less (part p.primed p.term.now) c.part.inside.at c.part.inside.level (node_view c.part.inside.node) (waiting c.loop-pending.stack.items) (waiting c.pop.new.self.items) (waiting c.push_parts.new.stack.items) (sym c.part.view_is) (ap waiting c.in-Some.ensures.items ∙ waiting-push c.pop.new.self.items p) c.in_ok-push_parts.ensures
+    way-less (part p.primed p.term.now) c.part.inside.at c.part.inside.level (node_view c.deref-node.result.now) (waiting c.loop-pending.stack.items) (waiting c.pop.new.self.items) (waiting c.push_parts.new.stack.items) (sym (ap (λ n. Placed c.part.inside.at c.part.inside.level (node_view n)) c.deref-node.ensures ∙ c.part.view_is)) (ap waiting c.in-Some.ensures.items ∙ waiting-push c.pop.new.self.items p) c.in_ok-push_parts.ensures
 
 pub loop-pending-preserved : goal.loop-pending-preserved
 loop-pending-preserved c =
     let p = c.in-Some.pending in
-    way-on c.args.term.now (part p.primed p.term.now) c.part.inside.at c.part.inside.level (node_view c.part.inside.node) (waiting c.loop-pending.stack.items) (waiting c.pop.new.self.items) (waiting c.push_parts.new.stack.items) (sym c.part.view_is) (ap waiting c.in-Some.ensures.items ∙ waiting-push c.pop.new.self.items p) c.knows_own.ensures c.in_ok-push_parts.ensures c.loop-pending.invariant
+    way-on c.args.term.now (part p.primed p.term.now) c.part.inside.at c.part.inside.level (node_view c.deref-node.result.now) (waiting c.loop-pending.stack.items) (waiting c.pop.new.self.items) (waiting c.push_parts.new.stack.items) (sym (ap (λ n. Placed c.part.inside.at c.part.inside.level (node_view n)) c.deref-node.ensures ∙ c.part.view_is)) (ap waiting c.in-Some.ensures.items ∙ waiting-push c.pop.new.self.items p) c.knows_own.ensures c.in_ok-push_parts.ensures c.loop-pending.invariant

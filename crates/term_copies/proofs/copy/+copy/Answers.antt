@@ -1,5 +1,7 @@
-use Rattle.std.proofs.Common.{◌<◌, arith}
+use Rattle.std.proofs.Common.{◌≡◌, ◌∙◌, ◌<◌, ap, arith}
 use Rattle.tla_terms.specs.TermSizes.{term_size}
+use Rattle.tla_terms.specs.TermViews.{node_view}
+use Rattle.term_copies.specs.Rows.{begun_meaning}
 use Rattle.term_copies.proofs.Copied.{term_below, first_below, operand_below, step_below, set_below, field_below, path_below, change_below, test_below, arm_below, step_falls}
 use Rattle.term_copies.proofs.Closing.{opened_same, opened_below}
 use Rattle.term_copies.proofs.copy.+copy.Goals as goal
@@ -45,8 +47,9 @@ copy_arms-copy_term-requires-in-loop-arm t c =
 
 pub copy_term-loop-rows-preserved : goal.copy_term-loop-rows-preserved
 copy_term-loop-rows-preserved t c =
-    let below : term_size c.in-Open.last.now < term_size c.loop-rows.rest.now = opened_below c.in_ok-begun.begun c.in-Open.opening c.in-Open.last c.rest.inside.at c.rest.inside.level c.rest.inside.node c.loop-rows.rest.now c.in-Open.is c.in_ok-begun.ensures c.rest.view_is in
+    let met : begun_meaning c.in_ok-begun.begun ≡ node_view c.rest.inside.node.value = c.in_ok-begun.ensures ∙ ap (λ n. node_view n) c.deref.ensures in
+    let below : term_size c.in-Open.last.now < term_size c.loop-rows.rest.now = opened_below c.in_ok-begun.begun c.in-Open.opening c.in-Open.last c.rest.inside.at c.rest.inside.level c.rest.inside.node.value c.loop-rows.rest.now c.in-Open.is met c.rest.view_is in
     record {
-      same = opened_same c.loop-rows.rows.items c.push.new.self.items c.in_ok-begun.begun c.in-Open.opening c.in-Open.last c.rest.inside.at c.rest.inside.level c.rest.inside.node c.loop-rows.rest.now c.args.term.now c.in_ok-push-in-Open.ensures.items c.in-Open.is c.in_ok-begun.ensures c.rest.view_is c.loop-rows.invariant.same;
+      same = opened_same c.loop-rows.rows.items c.push.new.self.items c.in_ok-begun.begun c.in-Open.opening c.in-Open.last c.rest.inside.at c.rest.inside.level c.rest.inside.node.value c.loop-rows.rest.now c.args.term.now c.in_ok-push-in-Open.ensures.items c.in-Open.is met c.rest.view_is c.loop-rows.invariant.same;
       within = omega (arith, below, c.loop-rows.invariant.within);
     }

@@ -10,4 +10,4 @@ pub returns : goal.returns
 returns c =
     let ops = c.args.table.now in
     let e = c.args.term.now in
-    subst (λ (o : Option LevelFault). MatchOption o ((f : LevelFault) → ¬ IsAssumptionFault ops e f) (IsFirst (IsAssumptionFault ops e))) (sym c.held.ensures) (assumption_told ops c.term.inside.at c.term.inside.level (node_view c.term.inside.node) e c.in_ok-note.note.fault c.term.view_is c.in_ok-note.ensures.fault)
+    subst (λ (o : Option LevelFault). MatchOption o ((f : LevelFault) → ¬ IsAssumptionFault ops e f) (IsFirst (IsAssumptionFault ops e))) (sym c.held.ensures) (assumption_told ops c.term.inside.at c.term.inside.level (node_view c.term.inside.node.value) e c.in_ok-note.note.fault c.term.view_is c.in_ok-note.ensures.fault)

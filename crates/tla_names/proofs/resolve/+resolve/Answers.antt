@@ -277,16 +277,16 @@ resolve_others-returns-clause-fine t c =
 
 pub resolve_row-returns-in-Name-clause-fine : goal.resolve_row-returns-in-Name-clause-fine
 resolve_row-returns-in-Name-clause-fine t c =
-    rows.name_answers c.args.walk.now c.in-Name.name c.tree.inside.at c.args.tree.now c.use_of.result (ap (node_view c.tree.inside.at) (sym c.in-Name.is) ∙ c.tree.view_is) c.use_of.ensures.fine
+    rows.name_answers c.args.walk.now c.in-Name.name c.tree.inside.at c.args.tree.now c.use_of.result (ap (node_view c.tree.inside.at) (sym c.in-Name.is ∙ c.deref.ensures) ∙ c.tree.view_is) c.use_of.ensures.fine
 
 pub resolve_row-returns-in_ok-from_text-in-At-clause-fine : goal.resolve_row-returns-in_ok-from_text-in-At-clause-fine
 resolve_row-returns-in_ok-from_text-in-At-clause-fine t c =
-    rows.at_answers c.args.walk.now c.in_ok-from_text-in-At.field-0 c.tree.inside.at c.args.tree.now c.use_of-in-At-2.result (ap (node_view c.tree.inside.at) (sym c.in-At.is) ∙ c.tree.view_is) c.in_ok-from_text-in-At.ensures c.use_of-in-At-2.ensures.fine
+    rows.at_answers c.args.walk.now c.in_ok-from_text-in-At.field-0 c.tree.inside.at c.args.tree.now c.use_of-in-At-2.result (ap (node_view c.tree.inside.at) (sym c.in-At.is ∙ c.deref.ensures) ∙ c.tree.view_is) c.in_ok-from_text-in-At.ensures c.use_of-in-At-2.ensures.fine
 
 pub resolve_to-returns-clause-fine : goal.resolve_to-returns-clause-fine
 resolve_to-returns-clause-fine t c =
-    opening.opens_to c.args.walk.now c.open.new.walk c.resolve_row.new.walk c.cut.new.self c.args.depth c.in_ok-rows.rows.items c.args.tree.now c.in_ok-rows.rest.now (terms.node_view c.in_ok-node.node) c.placed-term.result c.in_ok-whole.whole c.in_ok-rows.ensures.fine c.in_ok-node.ensures.fine
-    (c.placed-term.ensures ∙ ap (λ at. term.Placed at (level_for c.resolve_row.new.walk.table (terms.node_view c.in_ok-node.node)) (terms.node_view c.in_ok-node.node)) (sym (opening.place_is c.rest.inside.at c.rest.inside.node) ∙ ap place_of c.rest.view_is))
+    opening.opens_to c.args.walk.now c.open.new.walk c.resolve_row.new.walk c.cut.new.self c.args.depth c.in_ok-rows.rows.items c.args.tree.now c.in_ok-rows.rest.now (terms.node_view c.in_ok-node.node) c.in_ok-term.term c.in_ok-whole.whole c.in_ok-rows.ensures.fine c.in_ok-node.ensures.fine
+    (c.in_ok-term.ensures ∙ ap (λ at. term.Placed at (level_for c.resolve_row.new.walk.table (terms.node_view c.in_ok-node.node)) (terms.node_view c.in_ok-node.node)) (sym (opening.place_is c.rest.inside.at c.rest.inside.node.value) ∙ ap place_of c.rest.view_is))
     c.cut.ensures c.in_ok-whole.ensures
 
 pub resolve_within-returns-clause-fine : goal.resolve_within-returns-clause-fine
@@ -332,24 +332,24 @@ open-returns-clause-rest t c =
 
 pub open_row-returns-in_ok-add_row-in-If-clause-fine : goal.open_row-returns-in_ok-add_row-in-If-clause-fine
 open_row-returns-in_ok-add_row-in-If-clause-fine t c =
-    opening.if_opens c.args.walk.now c.resolve-in-If.new.walk c.args.rows.now.items c.add_row.new.rows.items c.tree.inside.at c.deref.result.now c.deref-in-If.result.now c.deref-in-If-2.result.now c.args.tree.now c.in_ok-test-in-If.test c.in_ok-then-in-If.then
-    (ap (λ p. tree.If c.tree.inside.at p c.deref-in-If.result.now c.deref-in-If-2.result.now) c.deref.ensures ∙ ap (λ a. tree.If c.tree.inside.at c.in-If.test.value a c.deref-in-If-2.result.now) c.deref-in-If.ensures ∙ ap (λ l. tree.If c.tree.inside.at c.in-If.test.value c.in-If.then.value l) c.deref-in-If-2.ensures ∙ ap (node_view c.tree.inside.at) (sym c.in-If.is) ∙ c.tree.view_is)
+    opening.if_opens c.args.walk.now c.resolve-in-If.new.walk c.args.rows.now.items c.add_row.new.rows.items c.tree.inside.at c.in-If.test c.in-If.then c.in-If.last c.args.tree.now c.in_ok-test-in-If.test c.in_ok-then-in-If.then
+    (ap (node_view c.tree.inside.at) (sym c.in-If.is ∙ c.deref.ensures) ∙ c.tree.view_is)
     c.in_ok-add_row-in-If.ensures (and_then c.args.walk.now c.resolve.new.walk c.resolve-in-If.new.walk c.in_ok-test-in-If.ensures.fine c.in_ok-then-in-If.ensures.fine)
 
 pub open_row-returns-in_ok-add_row-in-Quantified-clause-fine : goal.open_row-returns-in_ok-add_row-in-Quantified-clause-fine
 open_row-returns-in_ok-add_row-in-Quantified-clause-fine t c =
-    opening.quantified_opens c.args.walk.now c.resolve_bounds.new.walk c.bind_bounds.new.self c.args.rows.now.items c.add_row-in-Quantified.new.rows.items c.tree.inside.at c.in-Quantified.quantifier c.in-Quantified.bounds c.deref-in-Quantified.result.now c.args.tree.now c.in_ok-sets-in-Quantified.sets
-    (ap (λ a. tree.Quantified c.tree.inside.at c.in-Quantified.quantifier c.in-Quantified.bounds a) c.deref-in-Quantified.ensures ∙ ap (node_view c.tree.inside.at) (sym c.in-Quantified.is) ∙ c.tree.view_is)
+    opening.quantified_opens c.args.walk.now c.resolve_bounds.new.walk c.bind_bounds.new.self c.args.rows.now.items c.add_row-in-Quantified.new.rows.items c.tree.inside.at c.in-Quantified.quantifier c.in-Quantified.bounds c.in-Quantified.body c.args.tree.now c.in_ok-sets-in-Quantified.sets
+    (ap (node_view c.tree.inside.at) (sym c.in-Quantified.is ∙ c.deref.ensures) ∙ c.tree.view_is)
     c.in_ok-add_row-in-Quantified.ensures c.in_ok-sets-in-Quantified.ensures.fine c.in_ok-bind_bounds-in-Quantified.ensures
 
 pub open_row-returns-in_ok-add_row-in-Choose-clause-fine : goal.open_row-returns-in_ok-add_row-in-Choose-clause-fine
 open_row-returns-in_ok-add_row-in-Choose-clause-fine t c =
-    opening.choose_opens c.args.walk.now c.resolve-in-Choose.new.walk c.bind_name.new.self c.args.rows.now.items c.add_row-in-Choose.new.rows.items c.tree.inside.at c.in-Choose.name c.deref-in-Choose.result.now c.deref-in-Choose-2.result.now c.args.tree.now c.in_ok-set-in-Choose.set
-    (ap (λ s. tree.Choose c.tree.inside.at c.in-Choose.name s c.deref-in-Choose-2.result.now) c.deref-in-Choose.ensures ∙ ap (λ a. tree.Choose c.tree.inside.at c.in-Choose.name c.in-Choose.set.value a) c.deref-in-Choose-2.ensures ∙ ap (node_view c.tree.inside.at) (sym c.in-Choose.is) ∙ c.tree.view_is)
+    opening.choose_opens c.args.walk.now c.resolve-in-Choose.new.walk c.bind_name.new.self c.args.rows.now.items c.add_row-in-Choose.new.rows.items c.tree.inside.at c.in-Choose.name c.in-Choose.set c.in-Choose.body c.args.tree.now c.in_ok-set-in-Choose.set
+    (ap (node_view c.tree.inside.at) (sym c.in-Choose.is ∙ c.deref.ensures) ∙ c.tree.view_is)
     c.in_ok-add_row-in-Choose.ensures c.in_ok-set-in-Choose.ensures.fine c.in_ok-bind_name-in-Choose.ensures
 
 pub open_row-returns-in_ok-add_row-in-Let-clause-fine : goal.open_row-returns-in_ok-add_row-in-Let-clause-fine
 open_row-returns-in_ok-add_row-in-Let-clause-fine t c =
-    opening.let_opens c.args.walk.now c.resolve_definitions.new.walk c.args.rows.now.items c.add_row-in-Let.new.rows.items c.tree.inside.at c.in-Let.definitions c.deref-in-Let.result.now c.args.tree.now c.in_ok-numbers-in-Let.numbers
-    (ap (λ a. tree.Let c.tree.inside.at c.in-Let.definitions a) c.deref-in-Let.ensures ∙ ap (node_view c.tree.inside.at) (sym c.in-Let.is) ∙ c.tree.view_is)
+    opening.let_opens c.args.walk.now c.resolve_definitions.new.walk c.args.rows.now.items c.add_row-in-Let.new.rows.items c.tree.inside.at c.in-Let.definitions c.in-Let.body c.args.tree.now c.in_ok-numbers-in-Let.numbers
+    (ap (node_view c.tree.inside.at) (sym c.in-Let.is ∙ c.deref.ensures) ∙ c.tree.view_is)
     c.in_ok-add_row-in-Let.ensures c.in_ok-numbers-in-Let.ensures.fine

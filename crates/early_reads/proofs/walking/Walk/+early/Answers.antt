@@ -1,4 +1,5 @@
 use Rattle.std.proofs.Common.{◌≡◌, ◌∙◌, ◌∷◌, [], ap, sym, rules, false}
+use Rattle.tla_terms.specs.Terms.{Placed}
 use Rattle.tla_terms.specs.TermViews.{node_view}
 use Rattle.term_parts.specs.Parts.{part}
 use Rattle.term_parts.specs.Waiting.{waiting}
@@ -14,22 +15,22 @@ use Rattle.early_reads.proofs.walking.Walk.+early.Goals as goal
 pub early_all-loop-pending-smaller-then-not-is_taken : goal.early_all-loop-pending-smaller-then-not-is_taken
 early_all-loop-pending-smaller-then-not-is_taken t c =
     let p = c.in-Some.pending in
-    early-left-lighter c.args.self.now c.args.bound (shown c.args.before) (waiting c.args.stack.items) (part p.primed p.term.now) c.part.inside.at c.part.inside.level (node_view c.part.inside.node) c.loop-pending.found (waiting c.loop-pending.stack.items) (waiting c.pop.new.self.items) c.part.view_is (ap waiting c.in-Some.ensures.items ∙ waiting-push c.pop.new.self.items p) c.loop-pending.invariant
+    early-left-lighter c.args.self.now c.args.bound (shown c.args.before) (waiting c.args.stack.items) (part p.primed p.term.now) c.part.inside.at c.part.inside.level (node_view c.part.inside.node.value) c.loop-pending.found (waiting c.loop-pending.stack.items) (waiting c.pop.new.self.items) c.part.view_is (ap waiting c.in-Some.ensures.items ∙ waiting-push c.pop.new.self.items p) c.loop-pending.invariant
 
 pub early_all-loop-pending-preserved-then-not-is_taken : goal.early_all-loop-pending-preserved-then-not-is_taken
 early_all-loop-pending-preserved-then-not-is_taken t c =
     let p = c.in-Some.pending in
-    early-passes c.args.self.now c.args.bound (shown c.args.before) (waiting c.args.stack.items) (part p.primed p.term.now) c.part.inside.at c.part.inside.level (node_view c.part.inside.node) c.loop-pending.found (waiting c.loop-pending.stack.items) (waiting c.pop.new.self.items) c.part.view_is (ap waiting c.in-Some.ensures.items ∙ waiting-push c.pop.new.self.items p) c.loop-pending.invariant (sym c.is_taken.ensures ∙ c.if-not-is_taken.true)
+    early-passes c.args.self.now c.args.bound (shown c.args.before) (waiting c.args.stack.items) (part p.primed p.term.now) c.part.inside.at c.part.inside.level (node_view c.part.inside.node.value) c.loop-pending.found (waiting c.loop-pending.stack.items) (waiting c.pop.new.self.items) c.part.view_is (ap waiting c.in-Some.ensures.items ∙ waiting-push c.pop.new.self.items p) c.loop-pending.invariant (sym c.is_taken.ensures ∙ c.if-not-is_taken.true)
 
 pub early_all-loop-pending-smaller : goal.early_all-loop-pending-smaller
 early_all-loop-pending-smaller t c =
     let p = c.in-Some.pending in
-    early-lighter c.args.self.now c.args.bound (shown c.args.before) (waiting c.args.stack.items) (part p.primed p.term.now) c.part.inside.at c.part.inside.level (node_view c.part.inside.node) c.loop-pending.found (waiting c.loop-pending.stack.items) (waiting c.pop.new.self.items) c.part.view_is (ap waiting c.in-Some.ensures.items ∙ waiting-push c.pop.new.self.items p) c.loop-pending.invariant c.in_ok-found.found (waiting c.early_row.new.stack.items) (sym c.is_taken.ensures ∙ c.if-not-is_taken.false) c.in_ok-found.ensures
+    early-lighter c.args.self.now c.args.bound (shown c.args.before) (waiting c.args.stack.items) (part p.primed p.term.now) c.part.inside.at c.part.inside.level (node_view c.deref.result.now) c.loop-pending.found (waiting c.loop-pending.stack.items) (waiting c.pop.new.self.items) (ap (λ n. Placed c.part.inside.at c.part.inside.level (node_view n)) c.deref.ensures ∙ c.part.view_is) (ap waiting c.in-Some.ensures.items ∙ waiting-push c.pop.new.self.items p) c.loop-pending.invariant c.in_ok-found.found (waiting c.early_row.new.stack.items) (sym c.is_taken.ensures ∙ c.if-not-is_taken.false) c.in_ok-found.ensures
 
 pub early_all-loop-pending-preserved : goal.early_all-loop-pending-preserved
 early_all-loop-pending-preserved t c =
     let p = c.in-Some.pending in
-    early-goes c.args.self.now c.args.bound (shown c.args.before) (waiting c.args.stack.items) (part p.primed p.term.now) c.part.inside.at c.part.inside.level (node_view c.part.inside.node) c.loop-pending.found (waiting c.loop-pending.stack.items) (waiting c.pop.new.self.items) c.part.view_is (ap waiting c.in-Some.ensures.items ∙ waiting-push c.pop.new.self.items p) c.loop-pending.invariant c.in_ok-found.found (waiting c.early_row.new.stack.items) (sym c.is_taken.ensures ∙ c.if-not-is_taken.false) c.in_ok-found.ensures
+    early-goes c.args.self.now c.args.bound (shown c.args.before) (waiting c.args.stack.items) (part p.primed p.term.now) c.part.inside.at c.part.inside.level (node_view c.deref.result.now) c.loop-pending.found (waiting c.loop-pending.stack.items) (waiting c.pop.new.self.items) (ap (λ n. Placed c.part.inside.at c.part.inside.level (node_view n)) c.deref.ensures ∙ c.part.view_is) (ap waiting c.in-Some.ensures.items ∙ waiting-push c.pop.new.self.items p) c.loop-pending.invariant c.in_ok-found.found (waiting c.early_row.new.stack.items) (sym c.is_taken.ensures ∙ c.if-not-is_taken.false) c.in_ok-found.ensures
 
 pub early_all-loop-pending-init : goal.early_all-loop-pending-init
 early_all-loop-pending-init t c = early-begins c.args.self.now c.args.bound (shown c.args.before) (waiting c.args.stack.items)

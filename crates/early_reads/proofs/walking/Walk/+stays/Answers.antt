@@ -1,4 +1,5 @@
-use Rattle.std.proofs.Common.{◌≤◌, ◌+◌, arith, rules}
+use Rattle.std.proofs.Common.{◌≤◌, ◌+◌, arith, rules, ◌∙◌, ap}
+use Rattle.tla_terms.specs.Terms.{Placed}
 use Rattle.std.specs.Prelude.{Some, None}
 use Rattle.tla_terms.specs.TermViews.{node_view}
 use Rattle.term_parts.specs.Weights.{weight, in_terms}
@@ -13,17 +14,17 @@ use Rattle.early_reads.proofs.walking.Walk.+stays.Goals as goal
 pub stays-stays_all-requires : goal.stays-stays_all-requires
 stays-stays_all-requires t c =
     let lighter : in_terms c.in-Tuple.terms.now + 1 + weights (table_of c.args.self.now) c.behind-number.result.0 ≤ weight c.args.term.now + weights (table_of c.args.self.now) c.args.bound =
-    tuple-lighter (table_of c.args.self.now) c.args.bound c.args.term.now c.behind-number.result.1.now c.behind-number.result.0 c.found.inside.at c.found.inside.level (node_view c.found.inside.node) c.found.view_is c.in-Tuple.terms.now c.in-Tuple.ensures c.behind-number.ensures.lighter in
+    tuple-lighter (table_of c.args.self.now) c.args.bound c.args.term.now c.behind-number.result.1.now c.behind-number.result.0 c.found.inside.at c.found.inside.level (node_view c.deref.result.now) (ap (λ n. Placed c.found.inside.at c.found.inside.level (node_view n)) c.deref.ensures ∙ c.found.view_is) c.in-Tuple.terms.now c.in-Tuple.ensures c.behind-number.ensures.lighter in
     (omega (arith, c.decreases), tt)
 
 pub stays-returns-in-Tuple : goal.stays-returns-in-Tuple
 stays-returns-in-Tuple t c =
     if-ok c.stays_all.result (λ o. TellsItems c.args.self.now c.behind-number.result.0 (shown c.args.before) c.args.at c.in-Tuple.terms.now o) (λ o. TellsStays c.args.self.now c.args.bound (shown c.args.before) c.args.at c.args.term.now o)
-    (λ o h. stays-tuple c.args.self.now c.args.bound (shown c.args.before) c.args.at c.args.term.now c.behind-number.result.1.now c.behind-number.result.0 c.found.inside.at c.found.inside.level (node_view c.found.inside.node) c.found.view_is c.behind-number.ensures.same c.in-Tuple.terms.now o c.in-Tuple.ensures h) c.stays_all.ensures
+    (λ o h. stays-tuple c.args.self.now c.args.bound (shown c.args.before) c.args.at c.args.term.now c.behind-number.result.1.now c.behind-number.result.0 c.found.inside.at c.found.inside.level (node_view c.deref.result.now) (ap (λ n. Placed c.found.inside.at c.found.inside.level (node_view n)) c.deref.ensures ∙ c.found.view_is) c.behind-number.ensures.same c.in-Tuple.terms.now o c.in-Tuple.ensures h) c.stays_all.ensures
 
 pub stays-returns-in_ok-variable-in-Other : goal.stays-returns-in_ok-variable-in-Other
 stays-returns-in_ok-variable-in-Other t c =
-    stays-other c.args.self.now c.args.bound (shown c.args.before) c.args.at c.args.term.now c.behind-number.result.1.now c.behind-number.result.0 c.found.inside.at c.found.inside.level (node_view c.found.inside.node) c.found.view_is c.behind-number.ensures.same c.in_ok-variable-in-Other.variable c.too_early-in-Other.result c.in-Other.ensures (c.in_ok-variable-in-Other.ensures c.args.bound) c.too_early-in-Other.ensures
+    stays-other c.args.self.now c.args.bound (shown c.args.before) c.args.at c.args.term.now c.behind-number.result.1.now c.behind-number.result.0 c.found.inside.at c.found.inside.level (node_view c.deref.result.now) (ap (λ n. Placed c.found.inside.at c.found.inside.level (node_view n)) c.deref.ensures ∙ c.found.view_is) c.behind-number.ensures.same c.in_ok-variable-in-Other.variable c.too_early-in-Other.result c.in-Other.ensures (c.in_ok-variable-in-Other.ensures c.args.bound) c.too_early-in-Other.ensures
 
 pub stays_all-loop-item-init : goal.stays_all-loop-item-init
 stays_all-loop-item-init t c = items-begin c.args.self.now c.args.bound (shown c.args.before) c.args.at c.args.terms.now c.items-items.result.now c.items-items.ensures

@@ -1,7 +1,7 @@
 use Rattle.std.proofs.Common.{◌≡◌, ◌<◌, ◌≤◌, ◌++◌, ◌∷◌, [], List, length, map, ap, ◌∙◌, arith}
 use Rattle.tla_terms.specs.Terms.{Term, place_of}
 use Rattle.eval_parts.proofs.Loops.{cut_at, of_items, places_on, places_end}
-use Rattle.evaluator.proofs.evaluate.places_of.Goals as goal
+use Rattle.eval_parts.proofs.operands.places_of.Goals as goal
 
 pub loop-term-preserved : goal.loop-term-preserved
 loop-term-preserved c =

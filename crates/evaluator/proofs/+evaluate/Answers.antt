@@ -31,7 +31,7 @@ use Rattle.evaluator.proofs.Levels.{reads_node, evaluates_node, describes_node}
 use Rattle.evaluator.proofs.JoinedLoops.{joined_ends, joined_goes_on, joined_stops, joined_whole, joins_described, joins_told}
 use Rattle.eval_parts.proofs.Loops.{arm_passed, arm_stops, arm_taken, arms_are, arms_end, arms_read, chain_ends, chain_goes_on, chain_reads, chain_stops, chain_whole, cut_mapped, PassingSoFar, first_found, first_none, first_passed, first_stops, passing_ends, passing_goes_on, passing_stops, EachSoFar, cut_at, reads_at, to_items, of_items, each_begins, each_goes_on, each_stops, each_ends, each_length, none_is, all_denied, all_stops, all_ends, some_granted, some_stops, some_ends, all_goes_on}
 use Rattle.eval_parts.proofs.Rows.{joined_told, chain_told, gives_it, joined_described, made_described, next_told, one_true, plain_described, truth_told, is_plain, pair_told, stops_then}
-use Rattle.evaluator.proofs.evaluate.+evaluate.Goals as goal
+use Rattle.evaluator.proofs.+evaluate.Goals as goal
 use Rattle.trace_base.specs.declared.place.Place.{Place}
 use Rattle.eval_parts.specs.BoundSets.{BoundEvaluates, HasMembers, bound_members, bound_value}
 use Rattle.eval_parts.specs.Walks.{AllDiffer, AreWithin, Decided, at_places, left_from}
@@ -60,82 +60,82 @@ use Rattle.eval_parts.proofs.ProductLemmas.{chain_terms, ready_pushed}
 abbrev members : Bor (List Val) → List Val
 members x = x.now
 
-pub eval-eval_node-requires : goal.eval-eval_node-requires
-eval-eval_node-requires t c =
+pub evaluate::eval-eval_node-requires : goal.evaluate::eval-eval_node-requires
+evaluate::eval-eval_node-requires t c =
     let some : 0 < c.args.depth = omega (arith, c.if-depth-eq0.false) in
-    (omega (arith, c.if-depth-eq0.false, c.decreases), reads_node (table c.args.scene) c.args.depth (context c.args.scene) c.term.inside.at c.term.inside.level (node_view c.term.inside.node) c.args.term.now c.term.view_is some c.requires)
+    (omega (arith, c.if-depth-eq0.false, c.decreases), reads_node (table c.args.scene) c.args.depth (context c.args.scene) c.term.inside.at c.term.inside.level (node_view c.deref.result.now) c.args.term.now (ap (λ n. Placed c.term.inside.at c.term.inside.level (node_view n)) c.deref.ensures ∙ c.term.view_is) some c.requires)
 
-pub eval-returns : goal.eval-returns
-eval-returns t c =
+pub evaluate::eval-returns : goal.evaluate::eval-returns
+evaluate::eval-returns t c =
     let some : 0 < c.args.depth = omega (arith, c.if-depth-eq0.false) in
-    evaluates_node (table c.args.scene) c.args.depth (context c.args.scene) c.term.inside.at c.term.inside.level (node_view c.term.inside.node) c.args.term.now c.eval_node.result c.term.view_is some c.eval_node.ensures
+    evaluates_node (table c.args.scene) c.args.depth (context c.args.scene) c.term.inside.at c.term.inside.level (node_view c.deref.result.now) c.args.term.now c.eval_node.result (ap (λ n. Placed c.term.inside.at c.term.inside.level (node_view n)) c.deref.ensures ∙ c.term.view_is) some c.eval_node.ensures
 
-pub are_all_true-loop-term-init : goal.are_all_true-loop-term-init
-are_all_true-loop-term-init t c =
+pub evaluate::are_all_true-loop-term-init : goal.evaluate::are_all_true-loop-term-init
+evaluate::are_all_true-loop-term-init t c =
     ((λ r h. h), to_items (ReadsEach (Reads (table c.args.scene) c.args.depth) (context c.args.scene)) _ _ c.items-term-items.ensures c.requires)
 
-pub are_all_true-returns-in-Ok-false : goal.are_all_true-returns-in-Ok-false
-are_all_true-returns-in-Ok-false t c =
+pub evaluate::are_all_true-returns-in-Ok-false : goal.evaluate::are_all_true-returns-in-Ok-false
+evaluate::are_all_true-returns-in-Ok-false t c =
     let P = TruthOf (Evaluates (table c.args.scene) c.args.depth) (context c.args.scene) in
     let xs = c.items-term-items.result.now in
     let below : c.loop-term.term-index < length c.items-term-items.result.now = omega arith in
     of_items (λ es. AllTrue P es (Ok false)) xs c.args.terms.now c.items-term-items.ensures (all_denied P xs c.loop-term.term-index c.term-item.result (cut_at xs c.loop-term.term-index c.term-item.result below c.term-item.is) (subst (λ (b : Bool). P c.term-item.result (Ok b)) c.in-Ok-false.field-0-test c.in-Ok-false.ensures) c.loop-term.invariant.0)
 
-pub are_all_true-returns-in-Err : goal.are_all_true-returns-in-Err
-are_all_true-returns-in-Err t c =
+pub evaluate::are_all_true-returns-in-Err : goal.evaluate::are_all_true-returns-in-Err
+evaluate::are_all_true-returns-in-Err t c =
     let P = TruthOf (Evaluates (table c.args.scene) c.args.depth) (context c.args.scene) in
     let xs = c.items-term-items.result.now in
     let below : c.loop-term.term-index < length c.items-term-items.result.now = omega arith in
     of_items (λ es. Tells (Err c.in-Err.fault) (AllTrue P es)) xs c.args.terms.now c.items-term-items.ensures (all_stops P xs c.loop-term.term-index c.term-item.result c.in-Err.fault (cut_at xs c.loop-term.term-index c.term-item.result below c.term-item.is) c.in-Err.ensures c.loop-term.invariant.0)
 
-pub are_all_true-returns : goal.are_all_true-returns
-are_all_true-returns t c =
+pub evaluate::are_all_true-returns : goal.evaluate::are_all_true-returns
+evaluate::are_all_true-returns t c =
     let P = TruthOf (Evaluates (table c.args.scene) c.args.depth) (context c.args.scene) in
     let xs = c.items-term-items.result.now in
     let passed : length c.items-term-items.result.now ≤ c.loop-term.term-index = omega arith in
     of_items (λ es. AllTrue P es (Ok true)) xs c.args.terms.now c.items-term-items.ensures (all_ends P xs c.loop-term.term-index passed c.loop-term.invariant.0)
 
-pub is_some_true-loop-term-init : goal.is_some_true-loop-term-init
-is_some_true-loop-term-init t c =
+pub evaluate::is_some_true-loop-term-init : goal.evaluate::is_some_true-loop-term-init
+evaluate::is_some_true-loop-term-init t c =
     ((λ r h. h), to_items (ReadsEach (Reads (table c.args.scene) c.args.depth) (context c.args.scene)) _ _ c.items-term-items.ensures c.requires)
 
-pub is_some_true-returns-in-Ok-true : goal.is_some_true-returns-in-Ok-true
-is_some_true-returns-in-Ok-true t c =
+pub evaluate::is_some_true-returns-in-Ok-true : goal.evaluate::is_some_true-returns-in-Ok-true
+evaluate::is_some_true-returns-in-Ok-true t c =
     let P = TruthOf (Evaluates (table c.args.scene) c.args.depth) (context c.args.scene) in
     let xs = c.items-term-items.result.now in
     let below : c.loop-term.term-index < length c.items-term-items.result.now = omega arith in
     of_items (λ es. SomeTrue P es (Ok true)) xs c.args.terms.now c.items-term-items.ensures (some_granted P xs c.loop-term.term-index c.term-item.result (cut_at xs c.loop-term.term-index c.term-item.result below c.term-item.is) (subst (λ (b : Bool). P c.term-item.result (Ok b)) c.in-Ok-true.field-0-test c.in-Ok-true.ensures) c.loop-term.invariant.0)
 
-pub is_some_true-returns-in-Err : goal.is_some_true-returns-in-Err
-is_some_true-returns-in-Err t c =
+pub evaluate::is_some_true-returns-in-Err : goal.evaluate::is_some_true-returns-in-Err
+evaluate::is_some_true-returns-in-Err t c =
     let P = TruthOf (Evaluates (table c.args.scene) c.args.depth) (context c.args.scene) in
     let xs = c.items-term-items.result.now in
     let below : c.loop-term.term-index < length c.items-term-items.result.now = omega arith in
     of_items (λ es. Tells (Err c.in-Err.fault) (SomeTrue P es)) xs c.args.terms.now c.items-term-items.ensures (some_stops P xs c.loop-term.term-index c.term-item.result c.in-Err.fault (cut_at xs c.loop-term.term-index c.term-item.result below c.term-item.is) c.in-Err.ensures c.loop-term.invariant.0)
 
-pub is_some_true-returns : goal.is_some_true-returns
-is_some_true-returns t c =
+pub evaluate::is_some_true-returns : goal.evaluate::is_some_true-returns
+evaluate::is_some_true-returns t c =
     let P = TruthOf (Evaluates (table c.args.scene) c.args.depth) (context c.args.scene) in
     let xs = c.items-term-items.result.now in
     let passed : length c.items-term-items.result.now ≤ c.loop-term.term-index = omega arith in
     of_items (λ es. SomeTrue P es (Ok false)) xs c.args.terms.now c.items-term-items.ensures (some_ends P xs c.loop-term.term-index passed c.loop-term.invariant.0)
 
-pub eval_each-loop-term-init : goal.eval_each-loop-term-init
-eval_each-loop-term-init t c =
+pub evaluate::eval_each-loop-term-init : goal.evaluate::eval_each-loop-term-init
+evaluate::eval_each-loop-term-init t c =
     let P = Evaluates (table c.args.scene) c.args.depth (context c.args.scene) in (
       subst (λ (ys : List Val). EachSoFar P c.items-term-items.result.now 0 ys) (sym c.new-values.ensures.items) (each_begins P c.items-term-items.result.now),
       to_items (ReadsEach (Reads (table c.args.scene) c.args.depth) (context c.args.scene)) _ _ c.items-term-items.ensures c.requires,
     )
 
-pub eval_each-returns-in-Err-clause-fault : goal.eval_each-returns-in-Err-clause-fault
-eval_each-returns-in-Err-clause-fault t c =
+pub evaluate::eval_each-returns-in-Err-clause-fault : goal.evaluate::eval_each-returns-in-Err-clause-fault
+evaluate::eval_each-returns-in-Err-clause-fault t c =
     let P = Evaluates (table c.args.scene) c.args.depth (context c.args.scene) in
     let xs = c.items-term-items.result.now in
     let below : c.loop-term.term-index < length c.items-term-items.result.now = omega arith in
     of_items (λ es. Stops (Each P es) c.in-Err.fault) xs c.args.terms.now c.items-term-items.ensures (each_stops P xs c.loop-term.term-index c.term-item.result c.loop-term.values.items c.in-Err.fault (cut_at xs c.loop-term.term-index c.term-item.result below c.term-item.is) c.in-Err.ensures c.loop-term.invariant.0)
 
-pub eval_each-loop-term-preserved : goal.eval_each-loop-term-preserved
-eval_each-loop-term-preserved t c =
+pub evaluate::eval_each-loop-term-preserved : goal.evaluate::eval_each-loop-term-preserved
+evaluate::eval_each-loop-term-preserved t c =
     let P = Evaluates (table c.args.scene) c.args.depth (context c.args.scene) in
     let xs = c.items-term-items.result.now in
     let i = c.loop-term.term-index in
@@ -145,141 +145,141 @@ eval_each-loop-term-preserved t c =
       (reads_at (Reads (table c.args.scene) c.args.depth) (context c.args.scene) xs i c.term-item.result c.loop-term.invariant.1 cut).1,
     )
 
-pub eval_each-returns-clause-values : goal.eval_each-returns-clause-values
-eval_each-returns-clause-values t c =
+pub evaluate::eval_each-returns-clause-values : goal.evaluate::eval_each-returns-clause-values
+evaluate::eval_each-returns-clause-values t c =
     let P = Evaluates (table c.args.scene) c.args.depth (context c.args.scene) in
     let xs = c.items-term-items.result.now in
     let passed : length c.items-term-items.result.now ≤ c.loop-term.term-index = omega arith in
     of_items (λ es. Each P es (Ok c.loop-term.values.items)) xs c.args.terms.now c.items-term-items.ensures (each_ends P xs c.loop-term.term-index c.loop-term.values.items passed c.loop-term.invariant.0)
 
-pub eval_each-returns-clause-many : goal.eval_each-returns-clause-many
-eval_each-returns-clause-many t c =
+pub evaluate::eval_each-returns-clause-many : goal.evaluate::eval_each-returns-clause-many
+evaluate::eval_each-returns-clause-many t c =
     let P = Evaluates (table c.args.scene) c.args.depth (context c.args.scene) in
     let xs = c.items-term-items.result.now in
     let passed : length c.items-term-items.result.now ≤ c.loop-term.term-index = omega arith in
     of_items (λ es. length c.loop-term.values.items ≡ length es) xs c.args.terms.now c.items-term-items.ensures (each_length P xs c.loop-term.values.items (each_ends P xs c.loop-term.term-index c.loop-term.values.items passed c.loop-term.invariant.0))
 
-pub describe-describe_node-requires : goal.describe-describe_node-requires
-describe-describe_node-requires t c =
+pub evaluate::describe-describe_node-requires : goal.evaluate::describe-describe_node-requires
+evaluate::describe-describe_node-requires t c =
     let some : 0 < c.args.depth = omega (arith, c.if-depth-eq0.false) in
-    (omega (arith, c.if-depth-eq0.false, c.decreases), reads_node (table c.args.scene) c.args.depth (context c.args.scene) c.term.inside.at c.term.inside.level (node_view c.term.inside.node) c.args.term.now c.term.view_is some c.requires)
+    (omega (arith, c.if-depth-eq0.false, c.decreases), reads_node (table c.args.scene) c.args.depth (context c.args.scene) c.term.inside.at c.term.inside.level (node_view c.deref.result.now) c.args.term.now (ap (λ n. Placed c.term.inside.at c.term.inside.level (node_view n)) c.deref.ensures ∙ c.term.view_is) some c.requires)
 
-pub describe-returns-clause-fine : goal.describe-returns-clause-fine
-describe-returns-clause-fine t c =
+pub evaluate::describe-returns-clause-fine : goal.evaluate::describe-returns-clause-fine
+evaluate::describe-returns-clause-fine t c =
     let some : 0 < c.args.depth = omega (arith, c.if-depth-eq0.false) in
-    describes_node (table c.args.scene) c.args.depth (context c.args.scene) c.term.inside.at c.term.inside.level (node_view c.term.inside.node) c.args.term.now c.describe_node.result c.term.view_is some c.describe_node.ensures.fine
+    describes_node (table c.args.scene) c.args.depth (context c.args.scene) c.term.inside.at c.term.inside.level (node_view c.deref.result.now) c.args.term.now c.describe_node.result (ap (λ n. Placed c.term.inside.at c.term.inside.level (node_view n)) c.deref.ensures ∙ c.term.view_is) some c.describe_node.ensures.fine
 
-pub describe_functions-returns-in-Ok-describe-clause-fine : goal.describe_functions-returns-in-Ok-describe-clause-fine
-describe_functions-returns-in-Ok-describe-clause-fine t c =
+pub describing::describe_functions-returns-in-Ok-describe-clause-fine : goal.describing::describe_functions-returns-in-Ok-describe-clause-fine
+describing::describe_functions-returns-in-Ok-describe-clause-fine t c =
     let ev = Evaluates (table c.args.scene) c.args.depth (context c.args.scene) c.args.domain.now in
     let de = Describes (table c.args.scene) c.args.depth (context c.args.scene) c.args.range.now in
     tells_then ev (λ v. Then de (λ d. Then (members_at (place_of c.args.domain.now) v) (λ vs. Then (set_at (place_of c.args.range.now) d) (λ e. Gives (Functions v e))))) c.in-Ok.keys c.functions.result c.in-Ok.ensures
     (tells_then de (λ d. Then (members_at (place_of c.args.domain.now) c.in-Ok.keys) (λ vs. Then (set_at (place_of c.args.range.now) d) (λ e. Gives (Functions c.in-Ok.keys e)))) c.in-Ok-describe.part c.functions.result c.in-Ok-describe.ensures.fine c.functions.ensures.fine)
 
-pub describe_node-returns-in-FunctionSet-clause-fine : goal.describe_node-returns-in-FunctionSet-clause-fine
-describe_node-returns-in-FunctionSet-clause-fine t c =
-    rw (c.in-FunctionSet.is, ← c.deref-in-FunctionSet.ensures, ← c.deref-in-FunctionSet-2.ensures) c.describe_functions.ensures.fine
+pub evaluate::describe_node-returns-in-FunctionSet-clause-fine : goal.evaluate::describe_node-returns-in-FunctionSet-clause-fine
+evaluate::describe_node-returns-in-FunctionSet-clause-fine t c =
+    rw (c.in-FunctionSet.is) c.describe_functions.ensures.fine
 
-pub equivalent-returns-in-Ok-eval : goal.equivalent-returns-in-Ok-eval
-equivalent-returns-in-Ok-eval t c =
+pub operations::equivalent-returns-in-Ok-eval : goal.operations::equivalent-returns-in-Ok-eval
+operations::equivalent-returns-in-Ok-eval t c =
     let a = Evaluates (table c.args.scene) c.args.depth (context c.args.scene) c.args.left.now in
     let b = Evaluates (table c.args.scene) c.args.depth (context c.args.scene) c.args.right.now in
     tells_then a (λ v. Then b (λ w. Then (truth_at (place_of c.args.left.now) v) (λ x. Then (truth_at (place_of c.args.right.now) w) (λ y. Gives (both_or_neither x y))))) c.in-Ok.first c.are_equivalent.result c.in-Ok.ensures
     (tells_then b (λ w. Then (truth_at (place_of c.args.left.now) c.in-Ok.first) (λ x. Then (truth_at (place_of c.args.right.now) w) (λ y. Gives (both_or_neither x y)))) c.in-Ok-eval.second c.are_equivalent.result c.in-Ok-eval.ensures c.are_equivalent.ensures)
 
-pub is_subset-returns-in-Ok-describe : goal.is_subset-returns-in-Ok-describe
-is_subset-returns-in-Ok-describe t c =
+pub operations::is_subset-returns-in-Ok-describe : goal.operations::is_subset-returns-in-Ok-describe
+operations::is_subset-returns-in-Ok-describe t c =
     let a = Evaluates (table c.args.scene) c.args.depth (context c.args.scene) c.args.left.now in
     let b = Describes (table c.args.scene) c.args.depth (context c.args.scene) c.args.right.now in
     tells_then a (λ u. Then b (λ d. Then (members_at (place_of c.args.left.now) u) (λ us. Then (set_at (place_of c.args.right.now) d) (λ e. IsWithin e u)))) c.in-Ok.value c.is_part.result c.in-Ok.ensures
     (tells_then b (λ d. Then (members_at (place_of c.args.left.now) c.in-Ok.value) (λ us. Then (set_at (place_of c.args.right.now) d) (λ e. IsWithin e c.in-Ok.value))) c.in-Ok-describe.set c.is_part.result c.in-Ok-describe.ensures.fine c.is_part.ensures)
 
-pub eval_two-returns-in-Ok-eval : goal.eval_two-returns-in-Ok-eval
-eval_two-returns-in-Ok-eval t c =
+pub operations::eval_two-returns-in-Ok-eval : goal.operations::eval_two-returns-in-Ok-eval
+operations::eval_two-returns-in-Ok-eval t c =
     let a = Evaluates (table c.args.scene) c.args.depth (context c.args.scene) c.args.first.now in
     let b = Evaluates (table c.args.scene) c.args.depth (context c.args.scene) c.args.last.now in
     let p = place_in c.args.at (place_of c.args.first.now ∷ place_of c.args.last.now ∷ []) in
     tells_then a (λ v. Then b (λ w. Then (Operated (InfixAnswers c.args.operator v w) p) (λ u. Gives u))) c.in-Ok.left c.infix_on.result c.in-Ok.ensures
     (tells_then b (λ w. Then (Operated (InfixAnswers c.args.operator c.in-Ok.left w) p) (λ u. Gives u)) c.in-Ok-eval.right c.infix_on.result c.in-Ok-eval.ensures (gives_it (Operated (InfixAnswers c.args.operator c.in-Ok.left c.in-Ok-eval.right) p) c.infix_on.result c.infix_on.ensures))
 
-pub eval_use-returns-in-Ok : goal.eval_use-returns-in-Ok
-eval_use-returns-in-Ok t c =
+pub evaluate::eval_use-returns-in-Ok : goal.evaluate::eval_use-returns-in-Ok
+evaluate::eval_use-returns-in-Ok t c =
     let ops = table c.args.scene in
     let none = none_is c.args.arguments.now (sym c.len.ensures ∙ c.if-len-eq0.true) in
     let told = tells_then (UseDescribed ops (Describes ops c.args.depth) (context c.args.scene) c.args.number.0) (list_at c.args.at) c.in-Ok.set c.list_at.result c.in-Ok.ensures.fine c.list_at.ensures in
     subst (λ (ts : Terms). Tells c.list_at.result (UseEvaluates ops (Evaluates ops c.args.depth) (Describes ops c.args.depth) (context c.args.scene) c.args.number.0 ts c.args.at)) (sym none) told
 
-pub eval_use-eval_body-requires : goal.eval_use-eval_body-requires
-eval_use-eval_body-requires t c = (
+pub evaluate::eval_use-eval_body-requires : goal.evaluate::eval_use-eval_body-requires
+evaluate::eval_use-eval_body-requires t c = (
   omega (arith, c.decreases),
   (c.requires.0, c.requires.1, c.requires.2, c.requires.4 _ (ap length c.deref.ensures.value ∙ c.in-Ok-eval_each.ensures.many)),
 )
 
-pub eval_operation-standard-requires-clause-arguments : goal.eval_operation-standard-requires-clause-arguments
-eval_operation-standard-requires-clause-arguments t c = ap length c.deref.ensures.value ∙ c.in-Ok.ensures.many ∙ c.requires.many
+pub evaluate::eval_operation-standard-requires-clause-arguments : goal.evaluate::eval_operation-standard-requires-clause-arguments
+evaluate::eval_operation-standard-requires-clause-arguments t c = ap length c.deref.ensures.value ∙ c.in-Ok.ensures.many ∙ c.requires.many
 
-pub eval_pair-returns-in-Equal : goal.eval_pair-returns-in-Equal
-eval_pair-returns-in-Equal t c =
+pub operations::eval_pair-returns-in-Equal : goal.operations::eval_pair-returns-in-Equal
+operations::eval_pair-returns-in-Equal t c =
     pair_told (Evaluates (table c.args.scene) c.args.depth) (Describes (table c.args.scene) c.args.depth) (context c.args.scene) c.args.operator c.args.first.now c.args.last.now c.args.at c.eval_two.result (ap is_plain c.in-Equal.is) c.eval_two.ensures
 
-pub eval_pair-returns-in-NotEqual : goal.eval_pair-returns-in-NotEqual
-eval_pair-returns-in-NotEqual t c =
+pub operations::eval_pair-returns-in-NotEqual : goal.operations::eval_pair-returns-in-NotEqual
+operations::eval_pair-returns-in-NotEqual t c =
     pair_told (Evaluates (table c.args.scene) c.args.depth) (Describes (table c.args.scene) c.args.depth) (context c.args.scene) c.args.operator c.args.first.now c.args.last.now c.args.at c.eval_two-in-NotEqual.result (ap is_plain c.in-NotEqual.is) c.eval_two-in-NotEqual.ensures
 
-pub eval_pair-returns-in-Less : goal.eval_pair-returns-in-Less
-eval_pair-returns-in-Less t c =
+pub operations::eval_pair-returns-in-Less : goal.operations::eval_pair-returns-in-Less
+operations::eval_pair-returns-in-Less t c =
     pair_told (Evaluates (table c.args.scene) c.args.depth) (Describes (table c.args.scene) c.args.depth) (context c.args.scene) c.args.operator c.args.first.now c.args.last.now c.args.at c.eval_two-in-Less.result (ap is_plain c.in-Less.is) c.eval_two-in-Less.ensures
 
-pub eval_pair-returns-in-Greater : goal.eval_pair-returns-in-Greater
-eval_pair-returns-in-Greater t c =
+pub operations::eval_pair-returns-in-Greater : goal.operations::eval_pair-returns-in-Greater
+operations::eval_pair-returns-in-Greater t c =
     pair_told (Evaluates (table c.args.scene) c.args.depth) (Describes (table c.args.scene) c.args.depth) (context c.args.scene) c.args.operator c.args.first.now c.args.last.now c.args.at c.eval_two-in-Greater.result (ap is_plain c.in-Greater.is) c.eval_two-in-Greater.ensures
 
-pub eval_pair-returns-in-LessOrEqual : goal.eval_pair-returns-in-LessOrEqual
-eval_pair-returns-in-LessOrEqual t c =
+pub operations::eval_pair-returns-in-LessOrEqual : goal.operations::eval_pair-returns-in-LessOrEqual
+operations::eval_pair-returns-in-LessOrEqual t c =
     pair_told (Evaluates (table c.args.scene) c.args.depth) (Describes (table c.args.scene) c.args.depth) (context c.args.scene) c.args.operator c.args.first.now c.args.last.now c.args.at c.eval_two-in-LessOrEqual.result (ap is_plain c.in-LessOrEqual.is) c.eval_two-in-LessOrEqual.ensures
 
-pub eval_pair-returns-in-GreaterOrEqual : goal.eval_pair-returns-in-GreaterOrEqual
-eval_pair-returns-in-GreaterOrEqual t c =
+pub operations::eval_pair-returns-in-GreaterOrEqual : goal.operations::eval_pair-returns-in-GreaterOrEqual
+operations::eval_pair-returns-in-GreaterOrEqual t c =
     pair_told (Evaluates (table c.args.scene) c.args.depth) (Describes (table c.args.scene) c.args.depth) (context c.args.scene) c.args.operator c.args.first.now c.args.last.now c.args.at c.eval_two-in-GreaterOrEqual.result (ap is_plain c.in-GreaterOrEqual.is) c.eval_two-in-GreaterOrEqual.ensures
 
-pub eval_pair-returns-in-MergedFunctions : goal.eval_pair-returns-in-MergedFunctions
-eval_pair-returns-in-MergedFunctions t c =
+pub operations::eval_pair-returns-in-MergedFunctions : goal.operations::eval_pair-returns-in-MergedFunctions
+operations::eval_pair-returns-in-MergedFunctions t c =
     pair_told (Evaluates (table c.args.scene) c.args.depth) (Describes (table c.args.scene) c.args.depth) (context c.args.scene) c.args.operator c.args.first.now c.args.last.now c.args.at c.eval_two-in-MergedFunctions.result (ap is_plain c.in-MergedFunctions.is) c.eval_two-in-MergedFunctions.ensures
 
-pub eval_pair-returns-in-SingleFunction : goal.eval_pair-returns-in-SingleFunction
-eval_pair-returns-in-SingleFunction t c =
+pub operations::eval_pair-returns-in-SingleFunction : goal.operations::eval_pair-returns-in-SingleFunction
+operations::eval_pair-returns-in-SingleFunction t c =
     pair_told (Evaluates (table c.args.scene) c.args.depth) (Describes (table c.args.scene) c.args.depth) (context c.args.scene) c.args.operator c.args.first.now c.args.last.now c.args.at c.eval_two-in-SingleFunction.result (ap is_plain c.in-SingleFunction.is) c.eval_two-in-SingleFunction.ensures
 
-pub eval_pair-returns-in-Plus : goal.eval_pair-returns-in-Plus
-eval_pair-returns-in-Plus t c =
+pub operations::eval_pair-returns-in-Plus : goal.operations::eval_pair-returns-in-Plus
+operations::eval_pair-returns-in-Plus t c =
     pair_told (Evaluates (table c.args.scene) c.args.depth) (Describes (table c.args.scene) c.args.depth) (context c.args.scene) c.args.operator c.args.first.now c.args.last.now c.args.at c.eval_two-in-Plus.result (ap is_plain c.in-Plus.is) c.eval_two-in-Plus.ensures
 
-pub eval_pair-returns-in-Minus : goal.eval_pair-returns-in-Minus
-eval_pair-returns-in-Minus t c =
+pub operations::eval_pair-returns-in-Minus : goal.operations::eval_pair-returns-in-Minus
+operations::eval_pair-returns-in-Minus t c =
     pair_told (Evaluates (table c.args.scene) c.args.depth) (Describes (table c.args.scene) c.args.depth) (context c.args.scene) c.args.operator c.args.first.now c.args.last.now c.args.at c.eval_two-in-Minus.result (ap is_plain c.in-Minus.is) c.eval_two-in-Minus.ensures
 
-pub eval_pair-returns-in-Times : goal.eval_pair-returns-in-Times
-eval_pair-returns-in-Times t c =
+pub operations::eval_pair-returns-in-Times : goal.operations::eval_pair-returns-in-Times
+operations::eval_pair-returns-in-Times t c =
     pair_told (Evaluates (table c.args.scene) c.args.depth) (Describes (table c.args.scene) c.args.depth) (context c.args.scene) c.args.operator c.args.first.now c.args.last.now c.args.at c.eval_two-in-Times.result (ap is_plain c.in-Times.is) c.eval_two-in-Times.ensures
 
-pub eval_pair-returns-in-Quotient : goal.eval_pair-returns-in-Quotient
-eval_pair-returns-in-Quotient t c =
+pub operations::eval_pair-returns-in-Quotient : goal.operations::eval_pair-returns-in-Quotient
+operations::eval_pair-returns-in-Quotient t c =
     pair_told (Evaluates (table c.args.scene) c.args.depth) (Describes (table c.args.scene) c.args.depth) (context c.args.scene) c.args.operator c.args.first.now c.args.last.now c.args.at c.eval_two-in-Quotient.result (ap is_plain c.in-Quotient.is) c.eval_two-in-Quotient.ensures
 
-pub eval_pair-returns-in-Remainder : goal.eval_pair-returns-in-Remainder
-eval_pair-returns-in-Remainder t c =
+pub operations::eval_pair-returns-in-Remainder : goal.operations::eval_pair-returns-in-Remainder
+operations::eval_pair-returns-in-Remainder t c =
     pair_told (Evaluates (table c.args.scene) c.args.depth) (Describes (table c.args.scene) c.args.depth) (context c.args.scene) c.args.operator c.args.first.now c.args.last.now c.args.at c.eval_two-in-Remainder.result (ap is_plain c.in-Remainder.is) c.eval_two-in-Remainder.ensures
 
-pub eval_pair-returns-in-Power : goal.eval_pair-returns-in-Power
-eval_pair-returns-in-Power t c =
+pub operations::eval_pair-returns-in-Power : goal.operations::eval_pair-returns-in-Power
+operations::eval_pair-returns-in-Power t c =
     pair_told (Evaluates (table c.args.scene) c.args.depth) (Describes (table c.args.scene) c.args.depth) (context c.args.scene) c.args.operator c.args.first.now c.args.last.now c.args.at c.eval_two-in-Power.result (ap is_plain c.in-Power.is) c.eval_two-in-Power.ensures
 
-pub eval_pair-returns-in-Concatenation : goal.eval_pair-returns-in-Concatenation
-eval_pair-returns-in-Concatenation t c =
+pub operations::eval_pair-returns-in-Concatenation : goal.operations::eval_pair-returns-in-Concatenation
+operations::eval_pair-returns-in-Concatenation t c =
     pair_told (Evaluates (table c.args.scene) c.args.depth) (Describes (table c.args.scene) c.args.depth) (context c.args.scene) c.args.operator c.args.first.now c.args.last.now c.args.at c.eval_two-in-Concatenation.result (ap is_plain c.in-Concatenation.is) c.eval_two-in-Concatenation.ensures
 
-pub chosen-returns-in-Ok-true : goal.chosen-returns-in-Ok-true
-chosen-returns-in-Ok-true t c =
+pub binding::chosen-returns-in-Ok-true : goal.binding::chosen-returns-in-Ok-true
+binding::chosen-returns-in-Ok-true t c =
     let P : Val → Outcome Bool = (λ v. TruthOf (Evaluates (table c.args.scene) c.args.depth) (bind (context c.args.scene) (v ∷ [])) c.args.test.now) in
     let xs = c.members-members.result.now in
     let i = c.loop-member.member-index in
@@ -289,8 +289,8 @@ chosen-returns-in-Ok-true t c =
     subst (λ (us : List Val). FirstThat c.args.at P us (Ok c.in_ok-copy-in-Ok-true.field-0)) c.members-members.ensures
     (subst (λ (v : Val). FirstThat c.args.at P xs (Ok v)) (sym c.in_ok-copy-in-Ok-true.ensures) (first_found c.args.at P xs i c.member-item.result cut holds c.loop-member.invariant))
 
-pub chosen-returns-in-Err : goal.chosen-returns-in-Err
-chosen-returns-in-Err t c =
+pub binding::chosen-returns-in-Err : goal.binding::chosen-returns-in-Err
+binding::chosen-returns-in-Err t c =
     let P : Val → Outcome Bool = (λ v. TruthOf (Evaluates (table c.args.scene) c.args.depth) (bind (context c.args.scene) (v ∷ [])) c.args.test.now) in
     let xs = c.members-members.result.now in
     let i = c.loop-member.member-index in
@@ -298,8 +298,8 @@ chosen-returns-in-Err t c =
     let cut = cut_at xs i c.member-item.result below c.member-item.is in
     subst (λ (us : List Val). Tells {A = Val} (Err c.in-Err.fault) (FirstThat c.args.at P us)) c.members-members.ensures (first_stops c.args.at P xs i c.member-item.result c.in-Err.fault cut c.in-Err.ensures c.loop-member.invariant)
 
-pub chosen-loop-member-preserved : goal.chosen-loop-member-preserved
-chosen-loop-member-preserved t c =
+pub binding::chosen-loop-member-preserved : goal.binding::chosen-loop-member-preserved
+binding::chosen-loop-member-preserved t c =
     let P : Val → Outcome Bool = (λ v. TruthOf (Evaluates (table c.args.scene) c.args.depth) (bind (context c.args.scene) (v ∷ [])) c.args.test.now) in
     let xs = c.members-members.result.now in
     let i = c.loop-member.member-index in
@@ -307,36 +307,36 @@ chosen-loop-member-preserved t c =
     let cut = cut_at xs i c.member-item.result below c.member-item.is in
     first_passed c.args.at P xs i c.member-item.result cut (subst (λ (b : Bool). P c.member-item.result (Ok b)) c.in-Ok-false.field-0-test c.in-Ok-false.ensures) c.loop-member.invariant
 
-pub chosen-returns : goal.chosen-returns
-chosen-returns t c =
+pub binding::chosen-returns : goal.binding::chosen-returns
+binding::chosen-returns t c =
     let P : Val → Outcome Bool = (λ v. TruthOf (Evaluates (table c.args.scene) c.args.depth) (bind (context c.args.scene) (v ∷ [])) c.args.test.now) in
     let xs = c.members-members.result.now in
     let i = c.loop-member.member-index in
     let passed : length c.members-members.result.now ≤ c.loop-member.member-index = omega arith in
     subst (λ (us : List Val). FirstThat c.args.at P us (Err (fault NoChoice c.args.at))) c.members-members.ensures (first_none c.args.at P xs i passed c.loop-member.invariant)
 
-pub eval_choose-returns-in-Ok : goal.eval_choose-returns-in-Ok
-eval_choose-returns-in-Ok t c =
+pub binding::eval_choose-returns-in-Ok : goal.binding::eval_choose-returns-in-Ok
+binding::eval_choose-returns-in-Ok t c =
     let P : Val → Outcome Bool = (λ v. TruthOf (Evaluates (table c.args.scene) c.args.depth) (bind (context c.args.scene) (v ∷ [])) c.args.test.now) in
     tells_then (MembersOf (Evaluates (table c.args.scene) c.args.depth) (context c.args.scene) c.args.set.now) (FirstThat c.args.at P) (items_of c.in-Ok.all) c.chosen.result c.in-Ok.ensures.values c.chosen.ensures
 
-pub eval_filter-returns-in-Ok : goal.eval_filter-returns-in-Ok
-eval_filter-returns-in-Ok t c =
+pub binding::eval_filter-returns-in-Ok : goal.binding::eval_filter-returns-in-Ok
+binding::eval_filter-returns-in-Ok t c =
     let P : Val → Outcome Bool = (λ v. TruthOf (Evaluates (table c.args.scene) c.args.depth) (bind (context c.args.scene) (v ∷ [])) c.args.test.now) in
     tells_then (MembersOf (Evaluates (table c.args.scene) c.args.depth) (context c.args.scene) c.args.set.now) (λ vs. Then (Passing P vs) (SetOfAll c.args.at)) (items_of c.in-Ok.all) c.filtered.result c.in-Ok.ensures.values c.filtered.ensures
 
-pub filtered-returns-in-Ok : goal.filtered-returns-in-Ok
-filtered-returns-in-Ok t c =
+pub binding::filtered-returns-in-Ok : goal.binding::filtered-returns-in-Ok
+binding::filtered-returns-in-Ok t c =
     let P : Val → Outcome Bool = (λ v. TruthOf (Evaluates (table c.args.scene) c.args.depth) (bind (context c.args.scene) (v ∷ [])) c.args.test.now) in
     tells_then (Passing P (items_of c.args.all.now)) (SetOfAll c.args.at) c.in-Ok.values.items c.set_of.result c.in-Ok.ensures.values c.set_of.ensures
 
-pub filtered-returns-in-Err : goal.filtered-returns-in-Err
-filtered-returns-in-Err t c =
+pub binding::filtered-returns-in-Err : goal.binding::filtered-returns-in-Err
+binding::filtered-returns-in-Err t c =
     let P : Val → Outcome Bool = (λ v. TruthOf (Evaluates (table c.args.scene) c.args.depth) (bind (context c.args.scene) (v ∷ [])) c.args.test.now) in
     stops_then (Passing P (items_of c.args.all.now)) (SetOfAll c.args.at) c.in-Err.fault c.in-Err.ensures.fault
 
-pub passing-returns-in-Err-clause-fault : goal.passing-returns-in-Err-clause-fault
-passing-returns-in-Err-clause-fault t c =
+pub binding::passing-returns-in-Err-clause-fault : goal.binding::passing-returns-in-Err-clause-fault
+binding::passing-returns-in-Err-clause-fault t c =
     let P : Val → Outcome Bool = (λ v. TruthOf (Evaluates (table c.args.scene) c.args.depth) (bind (context c.args.scene) (v ∷ [])) c.args.test.now) in
     let xs = c.members-members.result.now in
     let i = c.loop-member.member-index in
@@ -344,8 +344,8 @@ passing-returns-in-Err-clause-fault t c =
     let cut = cut_at xs i c.member-item.result below c.member-item.is in
     subst (λ (us : List Val). Stops (Passing P us) c.in-Err.fault) c.members-members.ensures (passing_stops P xs i c.member-item.result c.loop-member.values.items c.in-Err.fault cut c.in-Err.ensures c.loop-member.invariant)
 
-pub passing-loop-member-preserved : goal.passing-loop-member-preserved
-passing-loop-member-preserved t c =
+pub binding::passing-loop-member-preserved : goal.binding::passing-loop-member-preserved
+binding::passing-loop-member-preserved t c =
     let P : Val → Outcome Bool = (λ v. TruthOf (Evaluates (table c.args.scene) c.args.depth) (bind (context c.args.scene) (v ∷ [])) c.args.test.now) in
     let xs = c.members-members.result.now in
     let i = c.loop-member.member-index in
@@ -353,95 +353,95 @@ passing-loop-member-preserved t c =
     let cut = cut_at xs i c.member-item.result below c.member-item.is in
     subst (λ (ys : List Val). PassingSoFar P xs (i + 1) ys) (sym c.in_ok-push_if-in-Ok.ensures) (passing_goes_on P xs i c.member-item.result c.loop-member.values.items c.in-Ok.passes cut c.in-Ok.ensures c.loop-member.invariant)
 
-pub passing-returns-clause-values : goal.passing-returns-clause-values
-passing-returns-clause-values t c =
+pub binding::passing-returns-clause-values : goal.binding::passing-returns-clause-values
+binding::passing-returns-clause-values t c =
     let P : Val → Outcome Bool = (λ v. TruthOf (Evaluates (table c.args.scene) c.args.depth) (bind (context c.args.scene) (v ∷ [])) c.args.test.now) in
     let xs = c.members-members.result.now in
     let i = c.loop-member.member-index in
     let passed : length c.members-members.result.now ≤ c.loop-member.member-index = omega arith in
     subst (λ (us : List Val). Passing P us (Ok c.loop-member.values.items)) c.members-members.ensures (passing_ends P xs i c.loop-member.values.items passed c.loop-member.invariant)
 
-pub eval_functions-returns-in-Ok : goal.eval_functions-returns-in-Ok
-eval_functions-returns-in-Ok t c =
+pub operations::eval_functions-returns-in-Ok : goal.operations::eval_functions-returns-in-Ok
+operations::eval_functions-returns-in-Ok t c =
     tells_then (FunctionsDescribed (Evaluates (table c.args.scene) c.args.depth) (Describes (table c.args.scene) c.args.depth) (context c.args.scene) c.args.domain.now c.args.range.now) (list_at c.args.at) c.in-Ok.set c.list_at.result c.in-Ok.ensures.fine c.list_at.ensures
 
-pub eval_node-returns-in-FunctionSet : goal.eval_node-returns-in-FunctionSet
-eval_node-returns-in-FunctionSet t c = rw (c.in-FunctionSet.is, ← c.deref-in-FunctionSet.ensures, ← c.deref-in-FunctionSet-2.ensures) c.eval_functions.ensures
+pub evaluate::eval_node-returns-in-FunctionSet : goal.evaluate::eval_node-returns-in-FunctionSet
+evaluate::eval_node-returns-in-FunctionSet t c = rw (c.in-FunctionSet.is) c.eval_functions.ensures
 
-pub eval_node-returns-in-Filter : goal.eval_node-returns-in-Filter
-eval_node-returns-in-Filter t c = rw (c.in-Filter.is, ← c.deref-in-Filter.ensures, ← c.deref-in-Filter-2.ensures) c.eval_filter.ensures
+pub evaluate::eval_node-returns-in-Filter : goal.evaluate::eval_node-returns-in-Filter
+evaluate::eval_node-returns-in-Filter t c = rw (c.in-Filter.is) c.eval_filter.ensures
 
-pub eval_node-returns-in-Choose : goal.eval_node-returns-in-Choose
-eval_node-returns-in-Choose t c = rw (c.in-Choose.is, ← c.deref-in-Choose.ensures, ← c.deref-in-Choose-2.ensures) c.eval_choose.ensures
+pub evaluate::eval_node-returns-in-Choose : goal.evaluate::eval_node-returns-in-Choose
+evaluate::eval_node-returns-in-Choose t c = rw (c.in-Choose.is) c.eval_choose.ensures
 
-pub eval_chain-returns-in-Ok : goal.eval_chain-returns-in-Ok
-eval_chain-returns-in-Ok t c =
+pub operations::eval_chain-returns-in-Ok : goal.operations::eval_chain-returns-in-Ok
+operations::eval_chain-returns-in-Ok t c =
     let ev = Evaluates (table c.args.scene) c.args.depth in
     let b = subst (λ (e : Term). ev (context c.args.scene) e (Ok c.in-Ok.value)) c.first_of-first.ensures c.in-Ok.ensures in
     tells_then (ev (context c.args.scene) (first_operand c.args.operands.now)) (λ v. ChainEvaluates ev (context c.args.scene) c.args.operator (place_of (first_operand c.args.operands.now)) v (other_operands (Next c.args.operands.now c.args.at c.args.last.now))) c.in-Ok.value c.eval_rest.result b c.eval_rest.ensures
 
-pub eval_long-returns-in-Equal : goal.eval_long-returns-in-Equal
-eval_long-returns-in-Equal t c =
+pub operations::eval_long-returns-in-Equal : goal.operations::eval_long-returns-in-Equal
+operations::eval_long-returns-in-Equal t c =
     chain_told (Evaluates (table c.args.scene) c.args.depth) (Describes (table c.args.scene) c.args.depth) (context c.args.scene) c.args.operator c.args.operands.now c.args.last.now c.args.at c.eval_chain.result (ap is_plain c.in-Equal.is) c.eval_chain.ensures
 
-pub eval_long-returns-in-NotEqual : goal.eval_long-returns-in-NotEqual
-eval_long-returns-in-NotEqual t c =
+pub operations::eval_long-returns-in-NotEqual : goal.operations::eval_long-returns-in-NotEqual
+operations::eval_long-returns-in-NotEqual t c =
     chain_told (Evaluates (table c.args.scene) c.args.depth) (Describes (table c.args.scene) c.args.depth) (context c.args.scene) c.args.operator c.args.operands.now c.args.last.now c.args.at c.eval_chain-in-NotEqual.result (ap is_plain c.in-NotEqual.is) c.eval_chain-in-NotEqual.ensures
 
-pub eval_long-returns-in-Less : goal.eval_long-returns-in-Less
-eval_long-returns-in-Less t c =
+pub operations::eval_long-returns-in-Less : goal.operations::eval_long-returns-in-Less
+operations::eval_long-returns-in-Less t c =
     chain_told (Evaluates (table c.args.scene) c.args.depth) (Describes (table c.args.scene) c.args.depth) (context c.args.scene) c.args.operator c.args.operands.now c.args.last.now c.args.at c.eval_chain-in-Less.result (ap is_plain c.in-Less.is) c.eval_chain-in-Less.ensures
 
-pub eval_long-returns-in-Greater : goal.eval_long-returns-in-Greater
-eval_long-returns-in-Greater t c =
+pub operations::eval_long-returns-in-Greater : goal.operations::eval_long-returns-in-Greater
+operations::eval_long-returns-in-Greater t c =
     chain_told (Evaluates (table c.args.scene) c.args.depth) (Describes (table c.args.scene) c.args.depth) (context c.args.scene) c.args.operator c.args.operands.now c.args.last.now c.args.at c.eval_chain-in-Greater.result (ap is_plain c.in-Greater.is) c.eval_chain-in-Greater.ensures
 
-pub eval_long-returns-in-LessOrEqual : goal.eval_long-returns-in-LessOrEqual
-eval_long-returns-in-LessOrEqual t c =
+pub operations::eval_long-returns-in-LessOrEqual : goal.operations::eval_long-returns-in-LessOrEqual
+operations::eval_long-returns-in-LessOrEqual t c =
     chain_told (Evaluates (table c.args.scene) c.args.depth) (Describes (table c.args.scene) c.args.depth) (context c.args.scene) c.args.operator c.args.operands.now c.args.last.now c.args.at c.eval_chain-in-LessOrEqual.result (ap is_plain c.in-LessOrEqual.is) c.eval_chain-in-LessOrEqual.ensures
 
-pub eval_long-returns-in-GreaterOrEqual : goal.eval_long-returns-in-GreaterOrEqual
-eval_long-returns-in-GreaterOrEqual t c =
+pub operations::eval_long-returns-in-GreaterOrEqual : goal.operations::eval_long-returns-in-GreaterOrEqual
+operations::eval_long-returns-in-GreaterOrEqual t c =
     chain_told (Evaluates (table c.args.scene) c.args.depth) (Describes (table c.args.scene) c.args.depth) (context c.args.scene) c.args.operator c.args.operands.now c.args.last.now c.args.at c.eval_chain-in-GreaterOrEqual.result (ap is_plain c.in-GreaterOrEqual.is) c.eval_chain-in-GreaterOrEqual.ensures
 
-pub eval_long-returns-in-MergedFunctions : goal.eval_long-returns-in-MergedFunctions
-eval_long-returns-in-MergedFunctions t c =
+pub operations::eval_long-returns-in-MergedFunctions : goal.operations::eval_long-returns-in-MergedFunctions
+operations::eval_long-returns-in-MergedFunctions t c =
     chain_told (Evaluates (table c.args.scene) c.args.depth) (Describes (table c.args.scene) c.args.depth) (context c.args.scene) c.args.operator c.args.operands.now c.args.last.now c.args.at c.eval_chain-in-MergedFunctions.result (ap is_plain c.in-MergedFunctions.is) c.eval_chain-in-MergedFunctions.ensures
 
-pub eval_long-returns-in-SingleFunction : goal.eval_long-returns-in-SingleFunction
-eval_long-returns-in-SingleFunction t c =
+pub operations::eval_long-returns-in-SingleFunction : goal.operations::eval_long-returns-in-SingleFunction
+operations::eval_long-returns-in-SingleFunction t c =
     chain_told (Evaluates (table c.args.scene) c.args.depth) (Describes (table c.args.scene) c.args.depth) (context c.args.scene) c.args.operator c.args.operands.now c.args.last.now c.args.at c.eval_chain-in-SingleFunction.result (ap is_plain c.in-SingleFunction.is) c.eval_chain-in-SingleFunction.ensures
 
-pub eval_long-returns-in-Plus : goal.eval_long-returns-in-Plus
-eval_long-returns-in-Plus t c =
+pub operations::eval_long-returns-in-Plus : goal.operations::eval_long-returns-in-Plus
+operations::eval_long-returns-in-Plus t c =
     chain_told (Evaluates (table c.args.scene) c.args.depth) (Describes (table c.args.scene) c.args.depth) (context c.args.scene) c.args.operator c.args.operands.now c.args.last.now c.args.at c.eval_chain-in-Plus.result (ap is_plain c.in-Plus.is) c.eval_chain-in-Plus.ensures
 
-pub eval_long-returns-in-Minus : goal.eval_long-returns-in-Minus
-eval_long-returns-in-Minus t c =
+pub operations::eval_long-returns-in-Minus : goal.operations::eval_long-returns-in-Minus
+operations::eval_long-returns-in-Minus t c =
     chain_told (Evaluates (table c.args.scene) c.args.depth) (Describes (table c.args.scene) c.args.depth) (context c.args.scene) c.args.operator c.args.operands.now c.args.last.now c.args.at c.eval_chain-in-Minus.result (ap is_plain c.in-Minus.is) c.eval_chain-in-Minus.ensures
 
-pub eval_long-returns-in-Times : goal.eval_long-returns-in-Times
-eval_long-returns-in-Times t c =
+pub operations::eval_long-returns-in-Times : goal.operations::eval_long-returns-in-Times
+operations::eval_long-returns-in-Times t c =
     chain_told (Evaluates (table c.args.scene) c.args.depth) (Describes (table c.args.scene) c.args.depth) (context c.args.scene) c.args.operator c.args.operands.now c.args.last.now c.args.at c.eval_chain-in-Times.result (ap is_plain c.in-Times.is) c.eval_chain-in-Times.ensures
 
-pub eval_long-returns-in-Quotient : goal.eval_long-returns-in-Quotient
-eval_long-returns-in-Quotient t c =
+pub operations::eval_long-returns-in-Quotient : goal.operations::eval_long-returns-in-Quotient
+operations::eval_long-returns-in-Quotient t c =
     chain_told (Evaluates (table c.args.scene) c.args.depth) (Describes (table c.args.scene) c.args.depth) (context c.args.scene) c.args.operator c.args.operands.now c.args.last.now c.args.at c.eval_chain-in-Quotient.result (ap is_plain c.in-Quotient.is) c.eval_chain-in-Quotient.ensures
 
-pub eval_long-returns-in-Remainder : goal.eval_long-returns-in-Remainder
-eval_long-returns-in-Remainder t c =
+pub operations::eval_long-returns-in-Remainder : goal.operations::eval_long-returns-in-Remainder
+operations::eval_long-returns-in-Remainder t c =
     chain_told (Evaluates (table c.args.scene) c.args.depth) (Describes (table c.args.scene) c.args.depth) (context c.args.scene) c.args.operator c.args.operands.now c.args.last.now c.args.at c.eval_chain-in-Remainder.result (ap is_plain c.in-Remainder.is) c.eval_chain-in-Remainder.ensures
 
-pub eval_long-returns-in-Power : goal.eval_long-returns-in-Power
-eval_long-returns-in-Power t c =
+pub operations::eval_long-returns-in-Power : goal.operations::eval_long-returns-in-Power
+operations::eval_long-returns-in-Power t c =
     chain_told (Evaluates (table c.args.scene) c.args.depth) (Describes (table c.args.scene) c.args.depth) (context c.args.scene) c.args.operator c.args.operands.now c.args.last.now c.args.at c.eval_chain-in-Power.result (ap is_plain c.in-Power.is) c.eval_chain-in-Power.ensures
 
-pub eval_long-returns-in-Concatenation : goal.eval_long-returns-in-Concatenation
-eval_long-returns-in-Concatenation t c =
+pub operations::eval_long-returns-in-Concatenation : goal.operations::eval_long-returns-in-Concatenation
+operations::eval_long-returns-in-Concatenation t c =
     chain_told (Evaluates (table c.args.scene) c.args.depth) (Describes (table c.args.scene) c.args.depth) (context c.args.scene) c.args.operator c.args.operands.now c.args.last.now c.args.at c.eval_chain-in-Concatenation.result (ap is_plain c.in-Concatenation.is) c.eval_chain-in-Concatenation.ensures
 
-pub eval_rest-eval_next-requires : goal.eval_rest-eval_next-requires
-eval_rest-eval_next-requires t c =
+pub operations::eval_rest-eval_next-requires : goal.operations::eval_rest-eval_next-requires
+operations::eval_rest-eval_next-requires t c =
     let ev = Evaluates (table c.args.scene) c.args.depth in
     let ctx = context c.args.scene in
     let others = c.others_of-others.result.now in
@@ -452,8 +452,8 @@ eval_rest-eval_next-requires t c =
     let cut = cut_mapped operand_item others i c.other-item.result (cut_at others i c.other-item.result below c.other-item.is) in
     (omega (arith, c.decreases), (c.requires.operation, (chain_reads (Reads (table c.args.scene) c.args.depth) ctx xs end i c.other-item.result.at c.other-item.result.value cut c.loop-other.invariant.1).0))
 
-pub eval_rest-returns-in-Err : goal.eval_rest-returns-in-Err
-eval_rest-returns-in-Err t c =
+pub operations::eval_rest-returns-in-Err : goal.operations::eval_rest-returns-in-Err
+operations::eval_rest-returns-in-Err t c =
     let ev = Evaluates (table c.args.scene) c.args.depth in
     let ctx = context c.args.scene in
     let others = c.others_of-others.result.now in
@@ -466,8 +466,8 @@ eval_rest-returns-in-Err t c =
     chain_whole ev ctx c.args.operator c.args.operands.now xs end c.place_at-place.result c.args.value (Err c.in-Err.fault) start c.others_of-others.ensures
     (chain_stops ev ctx c.args.operator xs end c.place_at-place.result c.args.value i c.loop-other.place c.loop-other.value c.other-item.result.at c.other-item.result.value c.in-Err.fault cut c.in-Err.ensures c.loop-other.invariant.0)
 
-pub eval_rest-loop-other-preserved : goal.eval_rest-loop-other-preserved
-eval_rest-loop-other-preserved t c =
+pub operations::eval_rest-loop-other-preserved : goal.operations::eval_rest-loop-other-preserved
+operations::eval_rest-loop-other-preserved t c =
     let ev = Evaluates (table c.args.scene) c.args.depth in
     let ctx = context c.args.scene in
     let others = c.others_of-others.result.now in
@@ -480,8 +480,8 @@ eval_rest-loop-other-preserved t c =
       (chain_reads (Reads (table c.args.scene) c.args.depth) ctx xs end i c.other-item.result.at c.other-item.result.value cut c.loop-other.invariant.1).1,
     )
 
-pub eval_rest-returns : goal.eval_rest-returns
-eval_rest-returns t c =
+pub operations::eval_rest-returns : goal.operations::eval_rest-returns
+operations::eval_rest-returns t c =
     let ev = Evaluates (table c.args.scene) c.args.depth in
     let ctx = context c.args.scene in
     let others = c.others_of-others.result.now in
@@ -494,8 +494,8 @@ eval_rest-returns t c =
     chain_whole ev ctx c.args.operator c.args.operands.now xs end c.place_at-place.result c.args.value c.eval_next-2.result start c.others_of-others.ensures
     (chain_ends ev ctx c.args.operator xs c.args.at c.args.last.now c.place_at-place.result c.args.value i c.loop-other.place c.loop-other.value c.eval_next-2.result over c.eval_next-2.ensures c.loop-other.invariant.0)
 
-pub describe_interval-returns-in-Ok-eval-clause-fine : goal.describe_interval-returns-in-Ok-eval-clause-fine
-describe_interval-returns-in-Ok-eval-clause-fine t c =
+pub describing::describe_interval-returns-in-Ok-eval-clause-fine : goal.describing::describe_interval-returns-in-Ok-eval-clause-fine
+describing::describe_interval-returns-in-Ok-eval-clause-fine t c =
     let a = Evaluates (table c.args.scene) c.args.depth (context c.args.scene) c.args.first.now in
     let b = Evaluates (table c.args.scene) c.args.depth (context c.args.scene) c.args.last.now in
     let p = place_of c.args.first.now in
@@ -503,8 +503,8 @@ describe_interval-returns-in-Ok-eval-clause-fine t c =
     tells_then a (λ v. Then b (IntervalDescribed c.args.at p q v)) c.in-Ok.left c.interval_of.result c.in-Ok.ensures
     (tells_then b (IntervalDescribed c.args.at p q c.in-Ok.left) c.in-Ok-eval.right c.interval_of.result c.in-Ok-eval.ensures (c.interval_of.ensures.fine c.args.at))
 
-pub describe_two-returns-in-Ok-describe-clause-fine : goal.describe_two-returns-in-Ok-describe-clause-fine
-describe_two-returns-in-Ok-describe-clause-fine t c =
+pub describing::describe_two-returns-in-Ok-describe-clause-fine : goal.describing::describe_two-returns-in-Ok-describe-clause-fine
+describing::describe_two-returns-in-Ok-describe-clause-fine t c =
     let a = Describes (table c.args.scene) c.args.depth (context c.args.scene) c.args.first.now in
     let b = Describes (table c.args.scene) c.args.depth (context c.args.scene) c.args.last.now in
     let p = place_of c.args.first.now in
@@ -513,24 +513,24 @@ describe_two-returns-in-Ok-describe-clause-fine t c =
     tells_then a (λ d. Then b (λ f. Then (Joined o c.args.at p q d f) (λ g. Gives g))) c.in-Ok.left c.joined_of.result c.in-Ok.ensures.fine
     (tells_then b (λ f. Then (Joined o c.args.at p q c.in-Ok.left f) (λ g. Gives g)) c.in-Ok-describe.right c.joined_of.result c.in-Ok-describe.ensures.fine (gives_it (Joined o c.args.at p q c.in-Ok.left c.in-Ok-describe.right) c.joined_of.result c.joined_of.ensures.fine))
 
-pub eval_pair-returns-in-Union : goal.eval_pair-returns-in-Union
-eval_pair-returns-in-Union t c =
+pub operations::eval_pair-returns-in-Union : goal.operations::eval_pair-returns-in-Union
+operations::eval_pair-returns-in-Union t c =
     joined_told (Evaluates (table c.args.scene) c.args.depth) (Describes (table c.args.scene) c.args.depth) (context c.args.scene) c.args.operator c.args.first.now c.args.last.now c.args.at c.eval_joined.result (ap is_joining c.in-Union.is) c.eval_joined.ensures
 
-pub eval_pair-returns-in-Intersection : goal.eval_pair-returns-in-Intersection
-eval_pair-returns-in-Intersection t c =
+pub operations::eval_pair-returns-in-Intersection : goal.operations::eval_pair-returns-in-Intersection
+operations::eval_pair-returns-in-Intersection t c =
     joined_told (Evaluates (table c.args.scene) c.args.depth) (Describes (table c.args.scene) c.args.depth) (context c.args.scene) c.args.operator c.args.first.now c.args.last.now c.args.at c.eval_joined-in-Intersection.result (ap is_joining c.in-Intersection.is) c.eval_joined-in-Intersection.ensures
 
-pub eval_pair-returns-in-Difference : goal.eval_pair-returns-in-Difference
-eval_pair-returns-in-Difference t c =
+pub operations::eval_pair-returns-in-Difference : goal.operations::eval_pair-returns-in-Difference
+operations::eval_pair-returns-in-Difference t c =
     joined_told (Evaluates (table c.args.scene) c.args.depth) (Describes (table c.args.scene) c.args.depth) (context c.args.scene) c.args.operator c.args.first.now c.args.last.now c.args.at c.eval_joined-in-Difference.result (ap is_joining c.in-Difference.is) c.eval_joined-in-Difference.ensures
 
-pub eval_case-loop-arm-init : goal.eval_case-loop-arm-init
-eval_case-loop-arm-init t c =
+pub evaluate::eval_case-loop-arm-init : goal.evaluate::eval_case-loop-arm-init
+evaluate::eval_case-loop-arm-init t c =
     ((λ r h. h), subst (λ (es : List (Term × Term)). ArmsRead (Reads (table c.args.scene) c.args.depth) (context c.args.scene) es) (sym (arms_are c.items-arm-items.result.now c.args.arms.now c.items-arm-items.ensures)) c.requires.arms)
 
-pub eval_case-eval_truth-requires : goal.eval_case-eval_truth-requires
-eval_case-eval_truth-requires t c =
+pub evaluate::eval_case-eval_truth-requires : goal.evaluate::eval_case-eval_truth-requires
+evaluate::eval_case-eval_truth-requires t c =
     let ev = Evaluates (table c.args.scene) c.args.depth in
     let ctx = context c.args.scene in
     let other : Outcome Val = OtherEvaluates (Evaluates (table c.args.scene) c.args.depth) (context c.args.scene) c.args.at (option_copied c.args.other) in
@@ -542,8 +542,8 @@ eval_case-eval_truth-requires t c =
     let cut = cut_mapped arm_item items i c.arm-item.result (cut_at items i c.arm-item.result below c.arm-item.is) in
     (omega (arith, c.decreases), (arms_read (Reads (table c.args.scene) c.args.depth) ctx xs i (arm_item c.arm-item.result) cut c.loop-arm.invariant.1).0)
 
-pub eval_case-eval-requires : goal.eval_case-eval-requires
-eval_case-eval-requires t c =
+pub evaluate::eval_case-eval-requires : goal.evaluate::eval_case-eval-requires
+evaluate::eval_case-eval-requires t c =
     let ev = Evaluates (table c.args.scene) c.args.depth in
     let ctx = context c.args.scene in
     let other : Outcome Val = OtherEvaluates (Evaluates (table c.args.scene) c.args.depth) (context c.args.scene) c.args.at (option_copied c.args.other) in
@@ -555,8 +555,8 @@ eval_case-eval-requires t c =
     let cut = cut_mapped arm_item items i c.arm-item.result (cut_at items i c.arm-item.result below c.arm-item.is) in
     (omega (arith, c.decreases), (arms_read (Reads (table c.args.scene) c.args.depth) ctx xs i (arm_item c.arm-item.result) cut c.loop-arm.invariant.1).1)
 
-pub eval_case-returns-in-Ok-true : goal.eval_case-returns-in-Ok-true
-eval_case-returns-in-Ok-true t c =
+pub evaluate::eval_case-returns-in-Ok-true : goal.evaluate::eval_case-returns-in-Ok-true
+evaluate::eval_case-returns-in-Ok-true t c =
     let ev = Evaluates (table c.args.scene) c.args.depth in
     let ctx = context c.args.scene in
     let other : Outcome Val = OtherEvaluates (Evaluates (table c.args.scene) c.args.depth) (context c.args.scene) c.args.at (option_copied c.args.other) in
@@ -569,8 +569,8 @@ eval_case-returns-in-Ok-true t c =
     let holds = subst (λ (b : Bool). TruthOf ev ctx c.arm-item.result.test (Ok b)) c.in-Ok-true.field-0-test c.in-Ok-true.ensures in
     subst (λ (es : List (Term × Term)). Tells c.eval.result (FirstArm ev ctx other es)) are (arm_taken ev ctx other xs i (arm_item c.arm-item.result) c.eval.result cut holds c.eval.ensures c.loop-arm.invariant.0)
 
-pub eval_case-returns-in-Err : goal.eval_case-returns-in-Err
-eval_case-returns-in-Err t c =
+pub evaluate::eval_case-returns-in-Err : goal.evaluate::eval_case-returns-in-Err
+evaluate::eval_case-returns-in-Err t c =
     let ev = Evaluates (table c.args.scene) c.args.depth in
     let ctx = context c.args.scene in
     let other : Outcome Val = OtherEvaluates (Evaluates (table c.args.scene) c.args.depth) (context c.args.scene) c.args.at (option_copied c.args.other) in
@@ -582,8 +582,8 @@ eval_case-returns-in-Err t c =
     let cut = cut_mapped arm_item items i c.arm-item.result (cut_at items i c.arm-item.result below c.arm-item.is) in
     subst (λ (es : List (Term × Term)). Tells {A = Val} (Err c.in-Err.fault) (FirstArm ev ctx other es)) are (arm_stops ev ctx other xs i (arm_item c.arm-item.result) c.in-Err.fault cut c.in-Err.ensures c.loop-arm.invariant.0)
 
-pub eval_case-loop-arm-preserved : goal.eval_case-loop-arm-preserved
-eval_case-loop-arm-preserved t c =
+pub evaluate::eval_case-loop-arm-preserved : goal.evaluate::eval_case-loop-arm-preserved
+evaluate::eval_case-loop-arm-preserved t c =
     let ev = Evaluates (table c.args.scene) c.args.depth in
     let ctx = context c.args.scene in
     let other : Outcome Val = OtherEvaluates (Evaluates (table c.args.scene) c.args.depth) (context c.args.scene) c.args.at (option_copied c.args.other) in
@@ -596,8 +596,8 @@ eval_case-loop-arm-preserved t c =
     let fails = subst (λ (b : Bool). TruthOf ev ctx c.arm-item.result.test (Ok b)) c.in-Ok-false.field-0-test c.in-Ok-false.ensures in
     (arm_passed ev ctx other xs i (arm_item c.arm-item.result) cut fails c.loop-arm.invariant.0, (arms_read (Reads (table c.args.scene) c.args.depth) ctx xs i (arm_item c.arm-item.result) cut c.loop-arm.invariant.1).2)
 
-pub describe_two-returns-in-Err-describe-clause-fine : goal.describe_two-returns-in-Err-describe-clause-fine
-describe_two-returns-in-Err-describe-clause-fine t c =
+pub describing::describe_two-returns-in-Err-describe-clause-fine : goal.describing::describe_two-returns-in-Err-describe-clause-fine
+describing::describe_two-returns-in-Err-describe-clause-fine t c =
     let a = Describes (table c.args.scene) c.args.depth (context c.args.scene) c.args.first.now in
     let b = Describes (table c.args.scene) c.args.depth (context c.args.scene) c.args.last.now in
     let p = place_of c.args.first.now in
@@ -606,42 +606,42 @@ describe_two-returns-in-Err-describe-clause-fine t c =
     tells_then a (λ d. Then b (λ f. Then (Joined o c.args.at p q d f) (λ g. Gives g))) c.in-Ok.left (Err c.in-Err-describe.fault) c.in-Ok.ensures.fine
     (tells_stop b (λ f. Then (Joined o c.args.at p q c.in-Ok.left f) (λ g. Gives g)) c.in-Err-describe.fault c.in-Err-describe.ensures.fine)
 
-pub eval_interval-returns-in-Ok : goal.eval_interval-returns-in-Ok
-eval_interval-returns-in-Ok t c =
+pub operations::eval_interval-returns-in-Ok : goal.operations::eval_interval-returns-in-Ok
+operations::eval_interval-returns-in-Ok t c =
     let a = Evaluates (table c.args.scene) c.args.depth (context c.args.scene) c.args.first.now in
     let b = Evaluates (table c.args.scene) c.args.depth (context c.args.scene) c.args.last.now in
     tells_then (Then a (λ v. Then b (IntervalDescribed c.args.at (place_of c.args.first.now) (place_of c.args.last.now) v))) (list_at c.args.at) c.in-Ok.set c.list_at.result c.in-Ok.ensures.fine c.list_at.ensures
 
-pub describe_node-returns-in-Map-clause-fine : goal.describe_node-returns-in-Map-clause-fine
-describe_node-returns-in-Map-clause-fine t c =
+pub evaluate::describe_node-returns-in-Map-clause-fine : goal.evaluate::describe_node-returns-in-Map-clause-fine
+evaluate::describe_node-returns-in-Map-clause-fine t c =
     let ops = table c.args.scene in
     let r = c.described_value-in-Map.result in
     let value = subst (λ (n : TermNode). Tells r (IsValueOf (MeaningEvaluates ops (Evaluates ops c.args.depth) (Describes ops c.args.depth) (context c.args.scene) c.args.at (node_view n)))) c.in-Map.is c.described_value-in-Map.ensures.fine in
     subst (λ (n : TermNode). Tells r (MeaningDescribes ops (Evaluates ops c.args.depth) (Describes ops c.args.depth) (context c.args.scene) c.args.at (node_view n))) (sym c.in-Map.is) value
 
-pub describe_node-returns-in-Function-clause-fine : goal.describe_node-returns-in-Function-clause-fine
-describe_node-returns-in-Function-clause-fine t c =
+pub evaluate::describe_node-returns-in-Function-clause-fine : goal.evaluate::describe_node-returns-in-Function-clause-fine
+evaluate::describe_node-returns-in-Function-clause-fine t c =
     let ops = table c.args.scene in
     let r = c.described_value-in-Function.result in
     let value = subst (λ (n : TermNode). Tells r (IsValueOf (MeaningEvaluates ops (Evaluates ops c.args.depth) (Describes ops c.args.depth) (context c.args.scene) c.args.at (node_view n)))) c.in-Function.is c.described_value-in-Function.ensures.fine in
     subst (λ (n : TermNode). Tells r (MeaningDescribes ops (Evaluates ops c.args.depth) (Describes ops c.args.depth) (context c.args.scene) c.args.at (node_view n))) (sym c.in-Function.is) value
 
-pub describe_node-returns-in-BoxAction-clause-fine : goal.describe_node-returns-in-BoxAction-clause-fine
-describe_node-returns-in-BoxAction-clause-fine t c =
+pub evaluate::describe_node-returns-in-BoxAction-clause-fine : goal.evaluate::describe_node-returns-in-BoxAction-clause-fine
+evaluate::describe_node-returns-in-BoxAction-clause-fine t c =
     let ops = table c.args.scene in
     let r = c.described_value-in-BoxAction.result in
     let value = subst (λ (n : TermNode). Tells r (IsValueOf (MeaningEvaluates ops (Evaluates ops c.args.depth) (Describes ops c.args.depth) (context c.args.scene) c.args.at (node_view n)))) c.in-BoxAction.is c.described_value-in-BoxAction.ensures.fine in
     subst (λ (n : TermNode). Tells r (MeaningDescribes ops (Evaluates ops c.args.depth) (Describes ops c.args.depth) (context c.args.scene) c.args.at (node_view n))) (sym c.in-BoxAction.is) value
 
-pub describe_node-returns-in-AngleAction-clause-fine : goal.describe_node-returns-in-AngleAction-clause-fine
-describe_node-returns-in-AngleAction-clause-fine t c =
+pub evaluate::describe_node-returns-in-AngleAction-clause-fine : goal.evaluate::describe_node-returns-in-AngleAction-clause-fine
+evaluate::describe_node-returns-in-AngleAction-clause-fine t c =
     let ops = table c.args.scene in
     let r = c.described_value-in-AngleAction.result in
     let value = subst (λ (n : TermNode). Tells r (IsValueOf (MeaningEvaluates ops (Evaluates ops c.args.depth) (Describes ops c.args.depth) (context c.args.scene) c.args.at (node_view n)))) c.in-AngleAction.is c.described_value-in-AngleAction.ensures.fine in
     subst (λ (n : TermNode). Tells r (MeaningDescribes ops (Evaluates ops c.args.depth) (Describes ops c.args.depth) (context c.args.scene) c.args.at (node_view n))) (sym c.in-AngleAction.is) value
 
-pub eval_case-returns-in-Some : goal.eval_case-returns-in-Some
-eval_case-returns-in-Some t c =
+pub evaluate::eval_case-returns-in-Some : goal.evaluate::eval_case-returns-in-Some
+evaluate::eval_case-returns-in-Some t c =
     let ev = Evaluates (table c.args.scene) c.args.depth in
     let ctx = context c.args.scene in
     let xs = map arm_item c.items-arm-items.result.now in
@@ -653,8 +653,8 @@ eval_case-returns-in-Some t c =
     let told = subst (λ (o : Option (Bor Term)). Tells c.eval-in-Some.result (OtherEvaluates ev ctx c.args.at (option_copied o))) (sym c.in-Some.is) c.eval-in-Some.ensures in
     subst (λ (es : List (Term × Term)). Tells c.eval-in-Some.result (FirstArm ev ctx other es)) are (arms_end ev ctx other xs i c.eval-in-Some.result over told c.loop-arm.invariant.0)
 
-pub eval_case-returns-in-None : goal.eval_case-returns-in-None
-eval_case-returns-in-None t c =
+pub evaluate::eval_case-returns-in-None : goal.evaluate::eval_case-returns-in-None
+evaluate::eval_case-returns-in-None t c =
     let ev = Evaluates (table c.args.scene) c.args.depth in
     let ctx = context c.args.scene in
     let xs = map arm_item c.items-arm-items.result.now in
@@ -666,8 +666,8 @@ eval_case-returns-in-None t c =
     let told = subst (λ (o : Option (Bor Term)). OtherEvaluates ev ctx c.args.at (option_copied o) (Err (fault NoCase c.args.at))) (sym c.in-None.is) refl in
     subst (λ (es : List (Term × Term)). FirstArm ev ctx other es (Err (fault NoCase c.args.at))) are (arms_end ev ctx other xs i (Err (Refused NoCase c.args.at)) over told c.loop-arm.invariant.0)
 
-pub eval_fields-loop-field-init : goal.eval_fields-loop-field-init
-eval_fields-loop-field-init t c =
+pub evaluate::eval_fields-loop-field-init : goal.evaluate::eval_fields-loop-field-init
+evaluate::eval_fields-loop-field-init t c =
     let P = FieldEvaluates (Evaluates (table c.args.scene) c.args.depth) (context c.args.scene) in
     let items = c.items-field-items.result.now in
     let are = fields_are items c.args.fields.now c.items-field-items.ensures in (
@@ -675,8 +675,8 @@ eval_fields-loop-field-init t c =
       subst (λ (fs : List (List ℕ × Term)). ReadsEach (Reads (table c.args.scene) c.args.depth) (context c.args.scene) (map (λ (f : List ℕ × Term). f.1) fs)) (sym are) c.requires,
     )
 
-pub eval_fields-returns-in-Err-clause-fault : goal.eval_fields-returns-in-Err-clause-fault
-eval_fields-returns-in-Err-clause-fault t c =
+pub evaluate::eval_fields-returns-in-Err-clause-fault : goal.evaluate::eval_fields-returns-in-Err-clause-fault
+evaluate::eval_fields-returns-in-Err-clause-fault t c =
     let P = FieldEvaluates (Evaluates (table c.args.scene) c.args.depth) (context c.args.scene) in
     let items = c.items-field-items.result.now in
     let are = fields_are items c.args.fields.now c.items-field-items.ensures in
@@ -685,16 +685,16 @@ eval_fields-returns-in-Err-clause-fault t c =
     let cut = cut_mapped field_item items i c.field-item.result (cut_at items i c.field-item.result below c.field-item.is) in
     subst (λ (fs : List (List ℕ × Term)). Stops (Each P fs) c.in-Err.fault) are (each_stops P (map field_item items) i (field_item c.field-item.result) c.loop-field.pairs.items c.in-Err.fault cut c.in-Err.ensures c.loop-field.invariant.0)
 
-pub eval_fields-eval_field-requires : goal.eval_fields-eval_field-requires
-eval_fields-eval_field-requires t c =
+pub evaluate::eval_fields-eval_field-requires : goal.evaluate::eval_fields-eval_field-requires
+evaluate::eval_fields-eval_field-requires t c =
     let items = c.items-field-items.result.now in
     let i = c.loop-field.field-index in
     let below : c.loop-field.field-index < length c.items-field-items.result.now = omega arith in
     let cut = cut_mapped field_item items i c.field-item.result (cut_at items i c.field-item.result below c.field-item.is) in
     (omega (arith, c.decreases), (fields_read (Reads (table c.args.scene) c.args.depth) (context c.args.scene) (map field_item items) i (field_item c.field-item.result) cut c.loop-field.invariant.1).0)
 
-pub eval_fields-loop-field-preserved : goal.eval_fields-loop-field-preserved
-eval_fields-loop-field-preserved t c =
+pub evaluate::eval_fields-loop-field-preserved : goal.evaluate::eval_fields-loop-field-preserved
+evaluate::eval_fields-loop-field-preserved t c =
     let P = FieldEvaluates (Evaluates (table c.args.scene) c.args.depth) (context c.args.scene) in
     let items = c.items-field-items.result.now in
     let xs = map field_item c.items-field-items.result.now in
@@ -705,8 +705,8 @@ eval_fields-loop-field-preserved t c =
       (fields_read (Reads (table c.args.scene) c.args.depth) (context c.args.scene) xs i (field_item c.field-item.result) cut c.loop-field.invariant.1).1,
     )
 
-pub eval_fields-returns-clause-pairs : goal.eval_fields-returns-clause-pairs
-eval_fields-returns-clause-pairs t c =
+pub evaluate::eval_fields-returns-clause-pairs : goal.evaluate::eval_fields-returns-clause-pairs
+evaluate::eval_fields-returns-clause-pairs t c =
     let P = FieldEvaluates (Evaluates (table c.args.scene) c.args.depth) (context c.args.scene) in
     let items = c.items-field-items.result.now in
     let xs = map field_item c.items-field-items.result.now in
@@ -716,27 +716,27 @@ eval_fields-returns-clause-pairs t c =
     let over : length xs ≤ c.loop-field.field-index = omega (arith, passed, length-map c.items-field-items.result.now field_item) in
     subst (λ (fs : List (List ℕ × Term)). Each P fs (Ok c.loop-field.pairs.items)) are (each_ends P xs i c.loop-field.pairs.items over c.loop-field.invariant.0)
 
-pub eval_record-function_of-requires : goal.eval_record-function_of-requires
-eval_record-function_of-requires t c =
+pub evaluate::eval_record-function_of-requires : goal.evaluate::eval_record-function_of-requires
+evaluate::eval_record-function_of-requires t c =
     fields_once (Evaluates (table c.args.scene) c.args.depth) (context c.args.scene) (fields_list c.args.fields.now) c.in-Ok.pairs.items c.requires.different c.in-Ok.ensures.pairs
 
-pub eval_record-returns-in-Ok : goal.eval_record-returns-in-Ok
-eval_record-returns-in-Ok t c =
+pub evaluate::eval_record-returns-in-Ok : goal.evaluate::eval_record-returns-in-Ok
+evaluate::eval_record-returns-in-Ok t c =
     let P = FieldEvaluates (Evaluates (table c.args.scene) c.args.depth) (context c.args.scene) in
     tells_then (Each P (fields_list c.args.fields.now)) (FunctionOfAll c.args.at) c.in-Ok.pairs.items c.function_of.result c.in-Ok.ensures.pairs c.function_of.ensures
 
-pub eval_record-returns-in-Err : goal.eval_record-returns-in-Err
-eval_record-returns-in-Err t c =
+pub evaluate::eval_record-returns-in-Err : goal.evaluate::eval_record-returns-in-Err
+evaluate::eval_record-returns-in-Err t c =
     let P = FieldEvaluates (Evaluates (table c.args.scene) c.args.depth) (context c.args.scene) in
     stops_then (Each P (fields_list c.args.fields.now)) (FunctionOfAll c.args.at) c.in-Err.fault c.in-Err.ensures.fault
 
-pub eval_node-returns-in-AngleAction : goal.eval_node-returns-in-AngleAction
-eval_node-returns-in-AngleAction t c =
-    let P = HoldsAndChanges (Evaluates (table c.args.scene) c.args.depth) (context c.args.scene) c.args.at c.deref-in-AngleAction.result.now c.deref-in-AngleAction-2.result.now in
-    rw (c.in-AngleAction.is, ← c.deref-in-AngleAction.ensures, ← c.deref-in-AngleAction-2.ensures, c.truth_value-in-AngleAction.ensures) (truth_told P c.holds_and_changes.result c.holds_and_changes.ensures)
+pub evaluate::eval_node-returns-in-AngleAction : goal.evaluate::eval_node-returns-in-AngleAction
+evaluate::eval_node-returns-in-AngleAction t c =
+    let P = HoldsAndChanges (Evaluates (table c.args.scene) c.args.depth) (context c.args.scene) c.args.at c.in-AngleAction.action c.in-AngleAction.subscript in
+    rw (c.in-AngleAction.is, c.truth_value-in-AngleAction.ensures) (truth_told P c.holds_and_changes.result c.holds_and_changes.ensures)
 
-pub eval_difference-returns-in-Ok : goal.eval_difference-returns-in-Ok
-eval_difference-returns-in-Ok t c =
+pub stepping::eval_difference-returns-in-Ok : goal.stepping::eval_difference-returns-in-Ok
+stepping::eval_difference-returns-in-Ok t c =
     let ev = Evaluates (table c.args.scene) c.args.depth in
     let ctx = context c.args.scene in
     let at = c.args.at in
@@ -745,77 +745,77 @@ eval_difference-returns-in-Ok t c =
     tells_then (ev ctx (prime_of at e)) (λ v. ChainEvaluates ev ctx infix_operator.NotEqual at v ((at, e) ∷ [])) v c.eval_next.result c.in-Ok.ensures
     (next_told (ev ctx e) (λ w. Operated (InfixAnswers infix_operator.NotEqual v w) (place_in at (at ∷ place_of e ∷ []))) c.eval_next.result c.eval_next.ensures)
 
-pub eval_changed-eval_difference-requires : goal.eval_changed-eval_difference-requires
-eval_changed-eval_difference-requires t c =
+pub stepping::eval_changed-eval_difference-requires : goal.stepping::eval_changed-eval_difference-requires
+stepping::eval_changed-eval_difference-requires t c =
     let some : 0 < c.args.depth = omega (arith, c.if-depth-eq0.false) in
     let e = c.args.term.now in
     let read = reads_node (table c.args.scene) c.args.depth (context c.args.scene) c.args.at levels.Action (term.Infix infix_operator.NotEqual (term.First (prime_of c.args.at e)) e) (changed_of c.args.at e) refl some c.requires in
     (omega (arith, c.if-depth-eq0.false, c.decreases), (read.1, read.2))
 
-pub eval_changed-returns : goal.eval_changed-returns
-eval_changed-returns t c =
+pub stepping::eval_changed-returns : goal.stepping::eval_changed-returns
+stepping::eval_changed-returns t c =
     let some : 0 < c.args.depth = omega (arith, c.if-depth-eq0.false) in
     let e = c.args.term.now in
     evaluates_node (table c.args.scene) c.args.depth (context c.args.scene) c.args.at levels.Action (term.Infix infix_operator.NotEqual (term.First (prime_of c.args.at e)) e) (changed_of c.args.at e) c.eval_difference.result refl some c.eval_difference.ensures
 
-pub eval_prime-eval-requires : goal.eval_prime-eval-requires
-eval_prime-eval-requires t c =
+pub stepping::eval_prime-eval-requires : goal.stepping::eval_prime-eval-requires
+stepping::eval_prime-eval-requires t c =
     let some : 0 < c.args.depth = omega (arith, c.if-depth-eq0.false) in
     let e = c.args.term.now in
     let read = reads_node (table c.args.scene) c.args.depth (context c.args.scene) c.args.at levels.Action (term.Postfix e term.NoSteps term.Prime) (prime_of c.args.at e) refl some c.requires in
     (omega (arith, c.if-depth-eq0.false, c.decreases), rw (c.primed.ensures.table, c.primed.ensures.context) read)
 
-pub eval_prime-returns : goal.eval_prime-returns
-eval_prime-returns t c =
+pub stepping::eval_prime-returns : goal.stepping::eval_prime-returns
+stepping::eval_prime-returns t c =
     let some : 0 < c.args.depth = omega (arith, c.if-depth-eq0.false) in
     let e = c.args.term.now in
     let same = subst (λ (ops : Table). Tells c.eval.result (Evaluates ops (c.args.depth - 1) (context c.primed.result) e)) c.primed.ensures.table c.eval.ensures in
     let told = subst (λ (x : Context). Tells c.eval.result (Evaluates (table c.args.scene) (c.args.depth - 1) x e)) c.primed.ensures.context same in
     evaluates_node (table c.args.scene) c.args.depth (context c.args.scene) c.args.at levels.Action (term.Postfix e term.NoSteps term.Prime) (prime_of c.args.at e) c.eval.result refl some told
 
-pub is_changed-returns-in-Ok : goal.is_changed-returns-in-Ok
-is_changed-returns-in-Ok t c =
+pub stepping::is_changed-returns-in-Ok : goal.stepping::is_changed-returns-in-Ok
+stepping::is_changed-returns-in-Ok t c =
     let ev = Evaluates (table c.args.scene) c.args.depth in
     let ctx = context c.args.scene in
     let x = changed_of c.args.at c.args.term.now in
     one_true (TruthOf ev ctx) x c.truth_at.result (tells_then (ev ctx x) (truth_at c.args.at) c.in-Ok.value c.truth_at.result c.in-Ok.ensures c.truth_at.ensures)
 
-pub is_changed-returns-in-Err : goal.is_changed-returns-in-Err
-is_changed-returns-in-Err t c =
+pub stepping::is_changed-returns-in-Err : goal.stepping::is_changed-returns-in-Err
+stepping::is_changed-returns-in-Err t c =
     let ev = Evaluates (table c.args.scene) c.args.depth in
     let ctx = context c.args.scene in
     let x = changed_of c.args.at c.args.term.now in
     one_true (TruthOf ev ctx) x (Err c.in-Err.fault) (tells_stop (ev ctx x) (truth_at c.args.at) c.in-Err.fault c.in-Err.ensures)
 
-pub described_plain-returns-clause-fine : goal.described_plain-returns-clause-fine
-described_plain-returns-clause-fine t c =
+pub describing::described_plain-returns-clause-fine : goal.describing::described_plain-returns-clause-fine
+describing::described_plain-returns-clause-fine t c =
     let told = subst (λ (m : Meaning). Tells c.described_value.result (IsValueOf (MeaningEvaluates (table c.args.scene) (Evaluates (table c.args.scene) c.args.depth) (Describes (table c.args.scene) c.args.depth) (context c.args.scene) c.args.at m))) c.requires.node c.described_value.ensures.fine in
     plain_described (table c.args.scene) (Evaluates (table c.args.scene) c.args.depth) (Describes (table c.args.scene) c.args.depth) (context c.args.scene) c.args.operator c.args.operands.now c.args.last.now c.args.at c.described_value.result c.requires.plain told
 
-pub described_made-returns-clause-fine : goal.described_made-returns-clause-fine
-described_made-returns-clause-fine t c =
+pub describing::described_made-returns-clause-fine : goal.describing::described_made-returns-clause-fine
+describing::described_made-returns-clause-fine t c =
     made_described (table c.args.scene) (Evaluates (table c.args.scene) c.args.depth) (Describes (table c.args.scene) c.args.depth) (context c.args.scene) c.args.operator c.args.operands.now c.args.last.now c.args.at c.describe_operands.result c.requires.made c.describe_operands.ensures.fine
 
-pub describe_pair-returns-in-Union-clause-fine : goal.describe_pair-returns-in-Union-clause-fine
-describe_pair-returns-in-Union-clause-fine t c =
+pub describing::describe_pair-returns-in-Union-clause-fine : goal.describing::describe_pair-returns-in-Union-clause-fine
+describing::describe_pair-returns-in-Union-clause-fine t c =
     joined_described (Evaluates (table c.args.scene) c.args.depth) (Describes (table c.args.scene) c.args.depth) (context c.args.scene) c.args.operator c.args.first.now c.args.last.now c.args.at c.describe_two.result (ap is_joining c.in-Union.is) c.describe_two.ensures.fine
 
-pub describe_pair-returns-in-Intersection-clause-fine : goal.describe_pair-returns-in-Intersection-clause-fine
-describe_pair-returns-in-Intersection-clause-fine t c =
+pub describing::describe_pair-returns-in-Intersection-clause-fine : goal.describing::describe_pair-returns-in-Intersection-clause-fine
+describing::describe_pair-returns-in-Intersection-clause-fine t c =
     joined_described (Evaluates (table c.args.scene) c.args.depth) (Describes (table c.args.scene) c.args.depth) (context c.args.scene) c.args.operator c.args.first.now c.args.last.now c.args.at c.describe_two-in-Intersection.result (ap is_joining c.in-Intersection.is) c.describe_two-in-Intersection.ensures.fine
 
-pub describe_pair-returns-in-Difference-clause-fine : goal.describe_pair-returns-in-Difference-clause-fine
-describe_pair-returns-in-Difference-clause-fine t c =
+pub describing::describe_pair-returns-in-Difference-clause-fine : goal.describing::describe_pair-returns-in-Difference-clause-fine
+describing::describe_pair-returns-in-Difference-clause-fine t c =
     joined_described (Evaluates (table c.args.scene) c.args.depth) (Describes (table c.args.scene) c.args.depth) (context c.args.scene) c.args.operator c.args.first.now c.args.last.now c.args.at c.describe_two-in-Difference.result (ap is_joining c.in-Difference.is) c.describe_two-in-Difference.ensures.fine
 
-pub describe_chain-returns-in-Ok-clause-fine : goal.describe_chain-returns-in-Ok-clause-fine
-describe_chain-returns-in-Ok-clause-fine t c =
+pub describing::describe_chain-returns-in-Ok-clause-fine : goal.describing::describe_chain-returns-in-Ok-clause-fine
+describing::describe_chain-returns-in-Ok-clause-fine t c =
     let ev = Describes (table c.args.scene) c.args.depth in
     let b = subst (λ (e : Term). ev (context c.args.scene) e (Ok c.in-Ok.set)) c.first_of-first.ensures c.in-Ok.ensures.fine in
     tells_then (ev (context c.args.scene) (first_operand c.args.operands.now)) (λ v. ChainDescribed ev (context c.args.scene) c.args.operator (place_of (first_operand c.args.operands.now)) v (other_operands (Next c.args.operands.now c.args.at c.args.last.now))) c.in-Ok.set c.describe_rest.result b c.describe_rest.ensures.fine
 
-pub describe_rest-describe_next-requires : goal.describe_rest-describe_next-requires
-describe_rest-describe_next-requires t c =
+pub describing::describe_rest-describe_next-requires : goal.describing::describe_rest-describe_next-requires
+describing::describe_rest-describe_next-requires t c =
     let ev = Describes (table c.args.scene) c.args.depth in
     let ctx = context c.args.scene in
     let others = c.others_of-others.result.now in
@@ -826,8 +826,8 @@ describe_rest-describe_next-requires t c =
     let cut = cut_mapped operand_item others i c.other-item.result (cut_at others i c.other-item.result below c.other-item.is) in
     (omega (arith, c.decreases), (c.requires.operator, (c.loop-other.invariant.2, (chain_reads (Reads (table c.args.scene) c.args.depth) ctx xs end i c.other-item.result.at c.other-item.result.value cut c.loop-other.invariant.1).0)))
 
-pub describe_rest-returns-in-Err-clause-fine : goal.describe_rest-returns-in-Err-clause-fine
-describe_rest-returns-in-Err-clause-fine t c =
+pub describing::describe_rest-returns-in-Err-clause-fine : goal.describing::describe_rest-returns-in-Err-clause-fine
+describing::describe_rest-returns-in-Err-clause-fine t c =
     let ev = Describes (table c.args.scene) c.args.depth in
     let ctx = context c.args.scene in
     let others = c.others_of-others.result.now in
@@ -840,8 +840,8 @@ describe_rest-returns-in-Err-clause-fine t c =
     joined_whole ev ctx c.args.operator c.args.operands.now xs end c.place_at-place.result c.args.set (Err c.in-Err.fault) start c.others_of-others.ensures
     (joined_stops ev ctx c.args.operator xs end c.place_at-place.result c.args.set i c.loop-other.place c.loop-other.set c.other-item.result.at c.other-item.result.value c.in-Err.fault cut c.in-Err.ensures.fine c.loop-other.invariant.0)
 
-pub describe_rest-loop-other-preserved : goal.describe_rest-loop-other-preserved
-describe_rest-loop-other-preserved t c =
+pub describing::describe_rest-loop-other-preserved : goal.describing::describe_rest-loop-other-preserved
+describing::describe_rest-loop-other-preserved t c =
     let ev = Describes (table c.args.scene) c.args.depth in
     let ctx = context c.args.scene in
     let others = c.others_of-others.result.now in
@@ -855,8 +855,8 @@ describe_rest-loop-other-preserved t c =
       c.in-Ok.ensures.ready,
     )
 
-pub describe_rest-returns-clause-fine : goal.describe_rest-returns-clause-fine
-describe_rest-returns-clause-fine t c =
+pub describing::describe_rest-returns-clause-fine : goal.describing::describe_rest-returns-clause-fine
+describing::describe_rest-returns-clause-fine t c =
     let ev = Describes (table c.args.scene) c.args.depth in
     let ctx = context c.args.scene in
     let others = c.others_of-others.result.now in
@@ -869,40 +869,40 @@ describe_rest-returns-clause-fine t c =
     joined_whole ev ctx c.args.operator c.args.operands.now xs end c.place_at-place.result c.args.set c.describe_next-2.result start c.others_of-others.ensures
     (joined_ends ev ctx c.args.operator xs c.args.at c.args.last.now c.place_at-place.result c.args.set i c.loop-other.place c.loop-other.set c.describe_next-2.result over c.describe_next-2.ensures.fine c.loop-other.invariant.0)
 
-pub describe_long-returns-in-Union-clause-fine : goal.describe_long-returns-in-Union-clause-fine
-describe_long-returns-in-Union-clause-fine t c =
+pub describing::describe_long-returns-in-Union-clause-fine : goal.describing::describe_long-returns-in-Union-clause-fine
+describing::describe_long-returns-in-Union-clause-fine t c =
     joins_described (Evaluates (table c.args.scene) c.args.depth) (Describes (table c.args.scene) c.args.depth) (context c.args.scene) c.args.operator c.args.operands.now c.args.last.now c.args.at c.describe_chain.result (ap is_joining c.in-Union.is) c.describe_chain.ensures.fine
 
-pub eval_long-returns-in-Union : goal.eval_long-returns-in-Union
-eval_long-returns-in-Union t c =
+pub operations::eval_long-returns-in-Union : goal.operations::eval_long-returns-in-Union
+operations::eval_long-returns-in-Union t c =
     joins_told (Evaluates (table c.args.scene) c.args.depth) (Describes (table c.args.scene) c.args.depth) (context c.args.scene) c.args.operator c.args.operands.now c.args.last.now c.args.at c.eval_joins.result (ap is_joining c.in-Union.is) c.eval_joins.ensures
 
-pub describe_long-returns-in-Intersection-clause-fine : goal.describe_long-returns-in-Intersection-clause-fine
-describe_long-returns-in-Intersection-clause-fine t c =
+pub describing::describe_long-returns-in-Intersection-clause-fine : goal.describing::describe_long-returns-in-Intersection-clause-fine
+describing::describe_long-returns-in-Intersection-clause-fine t c =
     joins_described (Evaluates (table c.args.scene) c.args.depth) (Describes (table c.args.scene) c.args.depth) (context c.args.scene) c.args.operator c.args.operands.now c.args.last.now c.args.at c.describe_chain-in-Intersection.result (ap is_joining c.in-Intersection.is) c.describe_chain-in-Intersection.ensures.fine
 
-pub eval_long-returns-in-Intersection : goal.eval_long-returns-in-Intersection
-eval_long-returns-in-Intersection t c =
+pub operations::eval_long-returns-in-Intersection : goal.operations::eval_long-returns-in-Intersection
+operations::eval_long-returns-in-Intersection t c =
     joins_told (Evaluates (table c.args.scene) c.args.depth) (Describes (table c.args.scene) c.args.depth) (context c.args.scene) c.args.operator c.args.operands.now c.args.last.now c.args.at c.eval_joins-in-Intersection.result (ap is_joining c.in-Intersection.is) c.eval_joins-in-Intersection.ensures
 
-pub describe_long-returns-in-Difference-clause-fine : goal.describe_long-returns-in-Difference-clause-fine
-describe_long-returns-in-Difference-clause-fine t c =
+pub describing::describe_long-returns-in-Difference-clause-fine : goal.describing::describe_long-returns-in-Difference-clause-fine
+describing::describe_long-returns-in-Difference-clause-fine t c =
     joins_described (Evaluates (table c.args.scene) c.args.depth) (Describes (table c.args.scene) c.args.depth) (context c.args.scene) c.args.operator c.args.operands.now c.args.last.now c.args.at c.describe_chain-in-Difference.result (ap is_joining c.in-Difference.is) c.describe_chain-in-Difference.ensures.fine
 
-pub eval_long-returns-in-Difference : goal.eval_long-returns-in-Difference
-eval_long-returns-in-Difference t c =
+pub operations::eval_long-returns-in-Difference : goal.operations::eval_long-returns-in-Difference
+operations::eval_long-returns-in-Difference t c =
     joins_told (Evaluates (table c.args.scene) c.args.depth) (Describes (table c.args.scene) c.args.depth) (context c.args.scene) c.args.operator c.args.operands.now c.args.last.now c.args.at c.eval_joins-in-Difference.result (ap is_joining c.in-Difference.is) c.eval_joins-in-Difference.ensures
 
 -- --- Bound names rows
 
-pub eval_quantified-quantified-requires : goal.eval_quantified-quantified-requires
-eval_quantified-quantified-requires t c =
+pub binding::eval_quantified-quantified-requires : goal.binding::eval_quantified-quantified-requires
+binding::eval_quantified-quantified-requires t c =
     let R : ℕ → Type 0 = λ n. ReadsUnder (Reads (table c.args.scene) c.args.depth) (context c.args.scene) n c.args.body.now in
     let S : List BoundSet → Type 0 = λ sets. R (length (ranges (map bound_members sets))) in
     (omega (arith, c.decreases), subst S (sym c.deref.ensures.value) (subst R (sym c.in-Ok.ensures.many) c.requires.body))
 
-pub eval_quantified-returns-in-Ok : goal.eval_quantified-returns-in-Ok
-eval_quantified-returns-in-Ok t c =
+pub binding::eval_quantified-returns-in-Ok : goal.binding::eval_quantified-returns-in-Ok
+binding::eval_quantified-returns-in-Ok t c =
     let ev = Evaluates (table c.args.scene) c.args.depth in
     let ctx = context c.args.scene in
     let P : List Val → Outcome Bool = λ chosen. TruthOf (Evaluates (table c.args.scene) c.args.depth) (bind (context c.args.scene) chosen) c.args.body.now in
@@ -911,148 +911,148 @@ eval_quantified-returns-in-Ok t c =
     quantified_told ev ctx c.args.quantifier c.args.bounds.now c.args.body.now c.quantified.result
     (tells_then (BoundValues ev ctx c.args.bounds.now) K (combinations (ranges (map bound_members c.deref.result.now))) c.quantified.result (subst V (sym c.deref.ensures.value) c.in-Ok.ensures.values) c.quantified.ensures)
 
-pub eval_quantified-returns-in-Err : goal.eval_quantified-returns-in-Err
-eval_quantified-returns-in-Err t c =
+pub binding::eval_quantified-returns-in-Err : goal.binding::eval_quantified-returns-in-Err
+binding::eval_quantified-returns-in-Err t c =
     let ev = Evaluates (table c.args.scene) c.args.depth in
     let ctx = context c.args.scene in
     let P : List Val → Outcome Bool = λ chosen. TruthOf (Evaluates (table c.args.scene) c.args.depth) (bind (context c.args.scene) chosen) c.args.body.now in
     quantified_told ev ctx c.args.quantifier c.args.bounds.now c.args.body.now (Err c.in-Err.fault) (stops_then (BoundValues ev ctx c.args.bounds.now) (Decided c.args.quantifier P) c.in-Err.fault c.in-Err.ensures.fault)
 
-pub eval_map-mapped-requires : goal.eval_map-mapped-requires
-eval_map-mapped-requires t c =
+pub binding::eval_map-mapped-requires : goal.binding::eval_map-mapped-requires
+binding::eval_map-mapped-requires t c =
     let R : ℕ → Type 0 = λ n. ReadsUnder (Reads (table c.args.scene) c.args.depth) (context c.args.scene) n c.args.term.now in
     let S : List BoundSet → Type 0 = λ sets. R (length (ranges (map bound_members sets))) in
     (omega (arith, c.decreases), subst S (sym c.deref.ensures.value) (subst R (sym c.in-Ok.ensures.many) c.requires.term))
 
-pub eval_map-returns-in-Ok : goal.eval_map-returns-in-Ok
-eval_map-returns-in-Ok t c =
+pub binding::eval_map-returns-in-Ok : goal.binding::eval_map-returns-in-Ok
+binding::eval_map-returns-in-Ok t c =
     let ev = Evaluates (table c.args.scene) c.args.depth in
     let ctx = context c.args.scene in
     let P : List Val → Outcome Val = λ chosen. Evaluates (table c.args.scene) c.args.depth (bind (context c.args.scene) chosen) c.args.term.now in
     let V : List BoundSet → Type 0 = λ sets. BoundValues (Evaluates (table c.args.scene) c.args.depth) (context c.args.scene) c.args.bounds.now (Ok (combinations (ranges (map bound_members sets)))) in
     tells_then (BoundValues ev ctx c.args.bounds.now) (λ all. Then (Each P all) (SetOfAll c.args.at)) (combinations (ranges (map bound_members c.deref.result.now))) c.mapped.result (subst V (sym c.deref.ensures.value) c.in-Ok.ensures.values) c.mapped.ensures
 
-pub eval_map-returns-in-Err : goal.eval_map-returns-in-Err
-eval_map-returns-in-Err t c =
+pub binding::eval_map-returns-in-Err : goal.binding::eval_map-returns-in-Err
+binding::eval_map-returns-in-Err t c =
     let ev = Evaluates (table c.args.scene) c.args.depth in
     let ctx = context c.args.scene in
     let P : List Val → Outcome Val = λ chosen. Evaluates (table c.args.scene) c.args.depth (bind (context c.args.scene) chosen) c.args.term.now in
     stops_then (BoundValues ev ctx c.args.bounds.now) (λ all. Then (Each P all) (SetOfAll c.args.at)) c.in-Err.fault c.in-Err.ensures.fault
 
-pub eval_function-function_over-requires : goal.eval_function-function_over-requires
-eval_function-function_over-requires t c =
+pub binding::eval_function-function_over-requires : goal.binding::eval_function-function_over-requires
+binding::eval_function-function_over-requires t c =
     let R : ℕ → Type 0 = λ n. ReadsUnder (Reads (table c.args.scene) c.args.depth) (context c.args.scene) n c.args.term.now in
     let S : List BoundSet → Type 0 = λ sets. R (length (ranges (map bound_members sets))) in
     (omega (arith, c.decreases), subst S (sym c.deref.ensures.value) (subst R (sym c.in-Ok.ensures.many) c.requires.term))
 
-pub eval_function-returns-in-Ok : goal.eval_function-returns-in-Ok
-eval_function-returns-in-Ok t c =
+pub binding::eval_function-returns-in-Ok : goal.binding::eval_function-returns-in-Ok
+binding::eval_function-returns-in-Ok t c =
     let ev = Evaluates (table c.args.scene) c.args.depth in
     let ctx = context c.args.scene in
     let P : List Val → Outcome (Val × Val) = PairOf (Evaluates (table c.args.scene) c.args.depth) (context c.args.scene) c.args.at c.args.term.now in
     let V : List BoundSet → Type 0 = λ sets. BoundValues (Evaluates (table c.args.scene) c.args.depth) (context c.args.scene) c.args.bounds.now (Ok (combinations (ranges (map bound_members sets)))) in
     tells_then (BoundValues ev ctx c.args.bounds.now) (λ all. Then (Each P all) (FunctionOfAll c.args.at)) (combinations (ranges (map bound_members c.deref.result.now))) c.function_over.result (subst V (sym c.deref.ensures.value) c.in-Ok.ensures.values) c.function_over.ensures
 
-pub eval_function-returns-in-Err : goal.eval_function-returns-in-Err
-eval_function-returns-in-Err t c =
+pub binding::eval_function-returns-in-Err : goal.binding::eval_function-returns-in-Err
+binding::eval_function-returns-in-Err t c =
     let ev = Evaluates (table c.args.scene) c.args.depth in
     let ctx = context c.args.scene in
     let P : List Val → Outcome (Val × Val) = PairOf (Evaluates (table c.args.scene) c.args.depth) (context c.args.scene) c.args.at c.args.term.now in
     stops_then (BoundValues ev ctx c.args.bounds.now) (λ all. Then (Each P all) (FunctionOfAll c.args.at)) c.in-Err.fault c.in-Err.ensures.fault
 
-pub quantified-holds_for_all-requires : goal.quantified-holds_for_all-requires
-quantified-holds_for_all-requires t c =
+pub binding::quantified-holds_for_all-requires : goal.binding::quantified-holds_for_all-requires
+binding::quantified-holds_for_all-requires t c =
     let R : List (List Val) → Type 0 = λ ls. ReadsUnder (Reads (table c.args.scene) c.args.depth) (context c.args.scene) (length ls) c.args.body.now in
     let S : List (Bor (List Val)) → Type 0 = λ ls. R (map members ls) in
     (omega (arith, c.decreases), subst S (sym c.deref.ensures.value) (subst R (sym c.in_ok-lists.ensures.members) c.requires))
 
-pub quantified-holds_for_some-requires : goal.quantified-holds_for_some-requires
-quantified-holds_for_some-requires t c =
+pub binding::quantified-holds_for_some-requires : goal.binding::quantified-holds_for_some-requires
+binding::quantified-holds_for_some-requires t c =
     let R : List (List Val) → Type 0 = λ ls. ReadsUnder (Reads (table c.args.scene) c.args.depth) (context c.args.scene) (length ls) c.args.body.now in
     let S : List (Bor (List Val)) → Type 0 = λ ls. R (map members ls) in
     (omega (arith, c.decreases), subst S (sym c.deref-in-Exists.ensures.value) (subst R (sym c.in_ok-lists.ensures.members) c.requires))
 
-pub quantified-returns-in-ForAll : goal.quantified-returns-in-ForAll
-quantified-returns-in-ForAll t c =
+pub binding::quantified-returns-in-ForAll : goal.binding::quantified-returns-in-ForAll
+binding::quantified-returns-in-ForAll t c =
     let P : List Val → Outcome Bool = λ chosen. TruthOf (Evaluates (table c.args.scene) c.args.depth) (bind (context c.args.scene) chosen) c.args.body.now in
     let same = ap (λ (ls : List (Bor (List Val))). combinations (map members ls)) c.deref.ensures.value ∙ ap combinations c.in_ok-lists.ensures.members in
     all_decided c.args.quantifier P (combinations (ranges (map bound_members c.args.sets.now))) (combinations (map members c.deref.result.now)) c.holds_for_all.result c.in-ForAll.is same c.holds_for_all.ensures
 
-pub quantified-returns : goal.quantified-returns
-quantified-returns t c =
+pub binding::quantified-returns : goal.binding::quantified-returns
+binding::quantified-returns t c =
     let P : List Val → Outcome Bool = λ chosen. TruthOf (Evaluates (table c.args.scene) c.args.depth) (bind (context c.args.scene) chosen) c.args.body.now in
     let same = ap (λ (ls : List (Bor (List Val))). combinations (map members ls)) c.deref-in-Exists.ensures.value ∙ ap combinations c.in_ok-lists.ensures.members in
     some_decided c.args.quantifier P (combinations (ranges (map bound_members c.args.sets.now))) (combinations (map members c.deref-in-Exists.result.now)) c.holds_for_some.result c.in-Exists.is same c.holds_for_some.ensures
 
-pub mapped-values_for_each-requires : goal.mapped-values_for_each-requires
-mapped-values_for_each-requires t c =
+pub binding::mapped-values_for_each-requires : goal.binding::mapped-values_for_each-requires
+binding::mapped-values_for_each-requires t c =
     let R : List (List Val) → Type 0 = λ ls. ReadsUnder (Reads (table c.args.scene) c.args.depth) (context c.args.scene) (length ls) c.args.term.now in
     let S : List (Bor (List Val)) → Type 0 = λ ls. R (map members ls) in
     (omega (arith, c.decreases), subst S (sym c.deref.ensures.value) (subst R (sym c.in_ok-lists.ensures.members) c.requires))
 
-pub mapped-returns-in-Ok : goal.mapped-returns-in-Ok
-mapped-returns-in-Ok t c =
+pub binding::mapped-returns-in-Ok : goal.binding::mapped-returns-in-Ok
+binding::mapped-returns-in-Ok t c =
     let P : List Val → Outcome (Val) = λ chosen. Evaluates (table c.args.scene) c.args.depth (bind (context c.args.scene) chosen) c.args.term.now in
     let all = combinations (ranges (map bound_members c.args.sets.now)) in
     let same = ap (map members) c.deref.ensures.value ∙ c.in_ok-lists.ensures.members in
     let values = subst (λ (ls : List (List Val)). Each P (combinations ls) (Ok c.in-Ok.values.items)) same c.in-Ok.ensures.values in
     tells_then (Each P all) (SetOfAll c.args.at) c.in-Ok.values.items c.set_of.result values c.set_of.ensures
 
-pub mapped-returns : goal.mapped-returns
-mapped-returns t c =
+pub binding::mapped-returns : goal.binding::mapped-returns
+binding::mapped-returns t c =
     let P : List Val → Outcome (Val) = λ chosen. Evaluates (table c.args.scene) c.args.depth (bind (context c.args.scene) chosen) c.args.term.now in
     let all = combinations (ranges (map bound_members c.args.sets.now)) in
     let same = ap (map members) c.deref.ensures.value ∙ c.in_ok-lists.ensures.members in
     let stop = subst (λ (ls : List (List Val)). Stops (Each P (combinations ls)) c.in-Err.fault) same c.in-Err.ensures.fault in
     stops_then (Each P all) (SetOfAll c.args.at) c.in-Err.fault stop
 
-pub function_over-pairs_for_each-requires : goal.function_over-pairs_for_each-requires
-function_over-pairs_for_each-requires t c =
+pub binding::function_over-pairs_for_each-requires : goal.binding::function_over-pairs_for_each-requires
+binding::function_over-pairs_for_each-requires t c =
     let R : List (List Val) → Type 0 = λ ls. ReadsUnder (Reads (table c.args.scene) c.args.depth) (context c.args.scene) (length ls) c.args.term.now in
     let S : List (Bor (List Val)) → Type 0 = λ ls. R (map members ls) in
     (omega (arith, c.decreases), subst S (sym c.deref.ensures.value) (subst R (sym c.in_ok-lists.ensures.members) c.requires))
 
-pub function_over-returns-in-Ok : goal.function_over-returns-in-Ok
-function_over-returns-in-Ok t c =
+pub binding::function_over-returns-in-Ok : goal.binding::function_over-returns-in-Ok
+binding::function_over-returns-in-Ok t c =
     let P : List Val → Outcome (Val × Val) = PairOf (Evaluates (table c.args.scene) c.args.depth) (context c.args.scene) c.args.at c.args.term.now in
     let all = combinations (ranges (map bound_members c.args.sets.now)) in
     let same = ap (map members) c.deref.ensures.value ∙ c.in_ok-lists.ensures.members in
     let pairs = subst (λ (ls : List (List Val)). Each P (combinations ls) (Ok c.in-Ok.pairs.items)) same c.in-Ok.ensures.pairs in
     tells_then (Each P all) (FunctionOfAll c.args.at) c.in-Ok.pairs.items c.function_of.result pairs c.function_of.ensures
 
-pub function_over-returns : goal.function_over-returns
-function_over-returns t c =
+pub binding::function_over-returns : goal.binding::function_over-returns
+binding::function_over-returns t c =
     let P : List Val → Outcome (Val × Val) = PairOf (Evaluates (table c.args.scene) c.args.depth) (context c.args.scene) c.args.at c.args.term.now in
     let all = combinations (ranges (map bound_members c.args.sets.now)) in
     let same = ap (map members) c.deref.ensures.value ∙ c.in_ok-lists.ensures.members in
     let stop = subst (λ (ls : List (List Val)). Stops (Each P (combinations ls)) c.in-Err.fault) same c.in-Err.ensures.fault in
     stops_then (Each P all) (FunctionOfAll c.args.at) c.in-Err.fault stop
 
-pub function_over-function_of-requires : goal.function_over-function_of-requires
-function_over-function_of-requires t c =
+pub binding::function_over-function_of-requires : goal.binding::function_over-function_of-requires
+binding::function_over-function_of-requires t c =
     let differ = subst (λ (ls : List (Bor (List Val))). AllDiffer (map members ls)) (sym c.deref.ensures.value) c.in_ok-lists.ensures.differ in
     keys_once (Evaluates (table c.args.scene) c.args.depth) (context c.args.scene) c.args.at c.args.term.now (map members c.deref.result.now) c.in-Ok.pairs.items differ c.in-Ok.ensures.pairs
 
-pub eval_bounds-returns-in-Ok-expect_sets-clause-values : goal.eval_bounds-returns-in-Ok-expect_sets-clause-values
-eval_bounds-returns-in-Ok-expect_sets-clause-values t c =
+pub binding::eval_bounds-returns-in-Ok-expect_sets-clause-values : goal.binding::eval_bounds-returns-in-Ok-expect_sets-clause-values
+binding::eval_bounds-returns-in-Ok-expect_sets-clause-values t c =
     let Q : List BoundSet → Type 0 = λ sets. Each HasMembers (map bound_value sets) (Ok (map bound_members sets)) in
     bound_values (Evaluates (table c.args.scene) c.args.depth) (context c.args.scene) c.args.bounds.now c.in-Ok.sets.items c.in-Ok.ensures.values (subst Q c.deref.ensures.value c.in-Ok-expect_sets.ensures.fine)
 
-pub eval_bounds-returns-in-Ok-expect_sets-clause-many : goal.eval_bounds-returns-in-Ok-expect_sets-clause-many
-eval_bounds-returns-in-Ok-expect_sets-clause-many t c =
+pub binding::eval_bounds-returns-in-Ok-expect_sets-clause-many : goal.binding::eval_bounds-returns-in-Ok-expect_sets-clause-many
+binding::eval_bounds-returns-in-Ok-expect_sets-clause-many t c =
     as_many_lists (Evaluates (table c.args.scene) c.args.depth) (context c.args.scene) c.args.bounds.now c.in-Ok.sets.items c.in-Ok.ensures.values
 
-pub eval_bounds-returns-in-Err-expect_sets-clause-fault : goal.eval_bounds-returns-in-Err-expect_sets-clause-fault
-eval_bounds-returns-in-Err-expect_sets-clause-fault t c =
+pub binding::eval_bounds-returns-in-Err-expect_sets-clause-fault : goal.binding::eval_bounds-returns-in-Err-expect_sets-clause-fault
+binding::eval_bounds-returns-in-Err-expect_sets-clause-fault t c =
     let Q : List BoundSet → Type 0 = λ sets. Stops (Each HasMembers (map bound_value sets)) c.in-Err-expect_sets.fault in
     second_stage_stops (Evaluates (table c.args.scene) c.args.depth) (context c.args.scene) c.args.bounds.now c.in-Ok.sets.items c.in-Err-expect_sets.fault c.in-Ok.ensures.values (subst Q c.deref.ensures.value c.in-Err-expect_sets.ensures.fault)
 
-pub eval_bounds-returns-in-Err-clause-fault : goal.eval_bounds-returns-in-Err-clause-fault
-eval_bounds-returns-in-Err-clause-fault t c =
+pub binding::eval_bounds-returns-in-Err-clause-fault : goal.binding::eval_bounds-returns-in-Err-clause-fault
+binding::eval_bounds-returns-in-Err-clause-fault t c =
     first_stage_stops (Evaluates (table c.args.scene) c.args.depth) (context c.args.scene) c.args.bounds.now c.in-Err.fault c.in-Err.ensures.fault
 
-pub eval_each_bound-loop-bound-init : goal.eval_each_bound-loop-bound-init
-eval_each_bound-loop-bound-init t c =
+pub binding::eval_each_bound-loop-bound-init : goal.binding::eval_each_bound-loop-bound-init
+binding::eval_each_bound-loop-bound-init t c =
     let P = BoundEvaluates (Evaluates (table c.args.scene) c.args.depth) (context c.args.scene) in
     let items = c.items-bound-items.result.now in
     let are = bounds_are items c.args.bounds.now c.items-bound-items.ensures in (
@@ -1060,8 +1060,8 @@ eval_each_bound-loop-bound-init t c =
       subst (λ (bs : List (ℕ × Term)). ReadsEach (Reads (table c.args.scene) c.args.depth) (context c.args.scene) (map (λ (b : ℕ × Term). b.1) bs)) (sym are) c.requires,
     )
 
-pub eval_each_bound-returns-in-Err-clause-fault : goal.eval_each_bound-returns-in-Err-clause-fault
-eval_each_bound-returns-in-Err-clause-fault t c =
+pub binding::eval_each_bound-returns-in-Err-clause-fault : goal.binding::eval_each_bound-returns-in-Err-clause-fault
+binding::eval_each_bound-returns-in-Err-clause-fault t c =
     let P = BoundEvaluates (Evaluates (table c.args.scene) c.args.depth) (context c.args.scene) in
     let items = c.items-bound-items.result.now in
     let are = bounds_are items c.args.bounds.now c.items-bound-items.ensures in
@@ -1070,16 +1070,16 @@ eval_each_bound-returns-in-Err-clause-fault t c =
     let cut = cut_mapped bound_item items i c.bound-item.result (cut_at items i c.bound-item.result below c.bound-item.is) in
     subst (λ (bs : List (ℕ × Term)). Stops (Each P bs) c.in-Err.fault) are (bound_stops P (map bound_item items) i (bound_item c.bound-item.result) (map bound_value c.loop-bound.sets.items) c.in-Err.fault cut c.in-Err.ensures.fault c.loop-bound.invariant.0)
 
-pub eval_each_bound-eval_bound-requires : goal.eval_each_bound-eval_bound-requires
-eval_each_bound-eval_bound-requires t c =
+pub binding::eval_each_bound-eval_bound-requires : goal.binding::eval_each_bound-eval_bound-requires
+binding::eval_each_bound-eval_bound-requires t c =
     let items = c.items-bound-items.result.now in
     let i = c.loop-bound.bound-index in
     let below : c.loop-bound.bound-index < length c.items-bound-items.result.now = omega arith in
     let cut = cut_mapped bound_item items i c.bound-item.result (cut_at items i c.bound-item.result below c.bound-item.is) in
     (omega (arith, c.decreases), (bounds_read (Reads (table c.args.scene) c.args.depth) (context c.args.scene) (map bound_item items) i (bound_item c.bound-item.result) cut c.loop-bound.invariant.1).0)
 
-pub eval_each_bound-loop-bound-preserved : goal.eval_each_bound-loop-bound-preserved
-eval_each_bound-loop-bound-preserved t c =
+pub binding::eval_each_bound-loop-bound-preserved : goal.binding::eval_each_bound-loop-bound-preserved
+binding::eval_each_bound-loop-bound-preserved t c =
     let P = BoundEvaluates (Evaluates (table c.args.scene) c.args.depth) (context c.args.scene) in
     let items = c.items-bound-items.result.now in
     let xs = map bound_item c.items-bound-items.result.now in
@@ -1092,8 +1092,8 @@ eval_each_bound-loop-bound-preserved t c =
       (bounds_read (Reads (table c.args.scene) c.args.depth) (context c.args.scene) xs i (bound_item c.bound-item.result) cut c.loop-bound.invariant.1).1,
     )
 
-pub eval_each_bound-returns-clause-values : goal.eval_each_bound-returns-clause-values
-eval_each_bound-returns-clause-values t c =
+pub binding::eval_each_bound-returns-clause-values : goal.binding::eval_each_bound-returns-clause-values
+binding::eval_each_bound-returns-clause-values t c =
     let P = BoundEvaluates (Evaluates (table c.args.scene) c.args.depth) (context c.args.scene) in
     let items = c.items-bound-items.result.now in
     let xs = map bound_item c.items-bound-items.result.now in
@@ -1103,27 +1103,27 @@ eval_each_bound-returns-clause-values t c =
     let over : length xs ≤ c.loop-bound.bound-index = omega (arith, passed, length-map c.items-bound-items.result.now bound_item) in
     subst (λ (bs : List (ℕ × Term)). Each P bs (Ok (map bound_value c.loop-bound.sets.items))) are (each_ends P xs i (map bound_value c.loop-bound.sets.items) over c.loop-bound.invariant.0)
 
-pub holds_for_all-loop-more-init : goal.holds_for_all-loop-more-init
-holds_for_all-loop-more-init t c =
+pub binding::holds_for_all-loop-more-init : goal.binding::holds_for_all-loop-more-init
+binding::holds_for_all-loop-more-init t c =
     let P : List Val → Outcome Bool = λ chosen. TruthOf (Evaluates (table c.args.scene) c.args.depth) (bind (context c.args.scene) chosen) c.args.body.now in
     let lists = map members c.args.lists.now in
     let more = c.has_combination-more.result in
     let places = c.in_ok-places.places.items in
     (every_begins P (combinations lists) (left_from more lists places) (left_begins lists more places c.in_ok-places.ensures c.has_combination-more.ensures), within_begins lists more places c.in_ok-places.ensures c.has_combination-more.ensures)
 
-pub holds_for_all-truth_with-requires : goal.holds_for_all-truth_with-requires
-holds_for_all-truth_with-requires t c =
+pub binding::holds_for_all-truth_with-requires : goal.binding::holds_for_all-truth_with-requires
+binding::holds_for_all-truth_with-requires t c =
     let lists = map members c.args.lists.now in
     let places = c.deref.result.now in
     let W : List ℕ → Type 0 = λ ps. AreWithin (map members c.args.lists.now) ps in
     let within = subst W (sym c.deref.ensures.value) (c.loop-more.invariant.1 c.loop-more-test.true) in
     (omega (arith, c.decreases), (within, c.requires (at_places lists places) (chosen_length lists places within)))
 
-pub holds_for_all-advance-more-requires : goal.holds_for_all-advance-more-requires
-holds_for_all-advance-more-requires t c = c.loop-more.invariant.1 c.loop-more-test.true
+pub binding::holds_for_all-advance-more-requires : goal.binding::holds_for_all-advance-more-requires
+binding::holds_for_all-advance-more-requires t c = c.loop-more.invariant.1 c.loop-more-test.true
 
-pub holds_for_all-loop-more-smaller : goal.holds_for_all-loop-more-smaller
-holds_for_all-loop-more-smaller t c =
+pub binding::holds_for_all-loop-more-smaller : goal.binding::holds_for_all-loop-more-smaller
+binding::holds_for_all-loop-more-smaller t c =
     let lists = map members c.args.lists.now in
     let more = c.loop-more.more in
     let places = c.loop-more.places.items in
@@ -1131,8 +1131,8 @@ holds_for_all-loop-more-smaller t c =
     let new = c.advance-more.new.places.items in
     fewer (left_from more lists places) (left_from again lists new) (at_places lists places) (left_is more again lists places new c.loop-more-test.true c.advance-more.ensures.left)
 
-pub holds_for_all-returns-in-Ok-false : goal.holds_for_all-returns-in-Ok-false
-holds_for_all-returns-in-Ok-false t c =
+pub binding::holds_for_all-returns-in-Ok-false : goal.binding::holds_for_all-returns-in-Ok-false
+binding::holds_for_all-returns-in-Ok-false t c =
     let P : List Val → Outcome (Bool) = λ chosen. TruthOf (Evaluates (table c.args.scene) c.args.depth) (bind (context c.args.scene) chosen) c.args.body.now in
     let lists = map members c.args.lists.now in
     let more = c.loop-more.more in
@@ -1142,8 +1142,8 @@ holds_for_all-returns-in-Ok-false t c =
     let decided = subst (λ (b : Bool). P (at_places lists places) (Ok b)) c.in-Ok-false.field-0-test there in
     every_denied P (combinations lists) (left_from more lists places) (at_places lists places) left.0 left.1 decided c.loop-more.invariant.0
 
-pub holds_for_all-returns-in-Err : goal.holds_for_all-returns-in-Err
-holds_for_all-returns-in-Err t c =
+pub binding::holds_for_all-returns-in-Err : goal.binding::holds_for_all-returns-in-Err
+binding::holds_for_all-returns-in-Err t c =
     let P : List Val → Outcome (Bool) = λ chosen. TruthOf (Evaluates (table c.args.scene) c.args.depth) (bind (context c.args.scene) chosen) c.args.body.now in
     let lists = map members c.args.lists.now in
     let more = c.loop-more.more in
@@ -1152,8 +1152,8 @@ holds_for_all-returns-in-Err t c =
     let there = subst (λ (ps : List ℕ). Tells {A = Bool} (Err c.in-Err.fault) (P (at_places lists ps))) c.deref.ensures.value c.in-Err.ensures in
     every_stops P (combinations lists) (left_from more lists places) (at_places lists places) left.0 c.in-Err.fault left.1 there c.loop-more.invariant.0
 
-pub holds_for_all-loop-more-preserved : goal.holds_for_all-loop-more-preserved
-holds_for_all-loop-more-preserved t c =
+pub binding::holds_for_all-loop-more-preserved : goal.binding::holds_for_all-loop-more-preserved
+binding::holds_for_all-loop-more-preserved t c =
     let P : List Val → Outcome (Bool) = λ chosen. TruthOf (Evaluates (table c.args.scene) c.args.depth) (bind (context c.args.scene) chosen) c.args.body.now in
     let lists = map members c.args.lists.now in
     let more = c.loop-more.more in
@@ -1165,35 +1165,35 @@ holds_for_all-loop-more-preserved t c =
     let decided = subst (λ (b : Bool). P (at_places lists places) (Ok b)) c.in-Ok-true.field-0-test there in
     (every_goes_on P (combinations lists) (left_from more lists places) (at_places lists places) (left_from again lists new) left decided c.loop-more.invariant.0, c.advance-more.ensures.within)
 
-pub holds_for_all-returns : goal.holds_for_all-returns
-holds_for_all-returns t c =
+pub binding::holds_for_all-returns : goal.binding::holds_for_all-returns
+binding::holds_for_all-returns t c =
     let P : List Val → Outcome (Bool) = λ chosen. TruthOf (Evaluates (table c.args.scene) c.args.depth) (bind (context c.args.scene) chosen) c.args.body.now in
     let lists = map members c.args.lists.now in
     let more = c.loop-more.more in
     let places = c.loop-more.places.items in
     every_ends P (combinations lists) (left_from more lists places) (none_more more lists places c.loop-more-test.false) c.loop-more.invariant.0
 
-pub holds_for_some-loop-more-init : goal.holds_for_some-loop-more-init
-holds_for_some-loop-more-init t c =
+pub binding::holds_for_some-loop-more-init : goal.binding::holds_for_some-loop-more-init
+binding::holds_for_some-loop-more-init t c =
     let P : List Val → Outcome Bool = λ chosen. TruthOf (Evaluates (table c.args.scene) c.args.depth) (bind (context c.args.scene) chosen) c.args.body.now in
     let lists = map members c.args.lists.now in
     let more = c.has_combination-more.result in
     let places = c.in_ok-places.places.items in
     (any_begins P (combinations lists) (left_from more lists places) (left_begins lists more places c.in_ok-places.ensures c.has_combination-more.ensures), within_begins lists more places c.in_ok-places.ensures c.has_combination-more.ensures)
 
-pub holds_for_some-truth_with-requires : goal.holds_for_some-truth_with-requires
-holds_for_some-truth_with-requires t c =
+pub binding::holds_for_some-truth_with-requires : goal.binding::holds_for_some-truth_with-requires
+binding::holds_for_some-truth_with-requires t c =
     let lists = map members c.args.lists.now in
     let places = c.deref.result.now in
     let W : List ℕ → Type 0 = λ ps. AreWithin (map members c.args.lists.now) ps in
     let within = subst W (sym c.deref.ensures.value) (c.loop-more.invariant.1 c.loop-more-test.true) in
     (omega (arith, c.decreases), (within, c.requires (at_places lists places) (chosen_length lists places within)))
 
-pub holds_for_some-advance-more-requires : goal.holds_for_some-advance-more-requires
-holds_for_some-advance-more-requires t c = c.loop-more.invariant.1 c.loop-more-test.true
+pub binding::holds_for_some-advance-more-requires : goal.binding::holds_for_some-advance-more-requires
+binding::holds_for_some-advance-more-requires t c = c.loop-more.invariant.1 c.loop-more-test.true
 
-pub holds_for_some-loop-more-smaller : goal.holds_for_some-loop-more-smaller
-holds_for_some-loop-more-smaller t c =
+pub binding::holds_for_some-loop-more-smaller : goal.binding::holds_for_some-loop-more-smaller
+binding::holds_for_some-loop-more-smaller t c =
     let lists = map members c.args.lists.now in
     let more = c.loop-more.more in
     let places = c.loop-more.places.items in
@@ -1201,8 +1201,8 @@ holds_for_some-loop-more-smaller t c =
     let new = c.advance-more.new.places.items in
     fewer (left_from more lists places) (left_from again lists new) (at_places lists places) (left_is more again lists places new c.loop-more-test.true c.advance-more.ensures.left)
 
-pub holds_for_some-returns-in-Ok-true : goal.holds_for_some-returns-in-Ok-true
-holds_for_some-returns-in-Ok-true t c =
+pub binding::holds_for_some-returns-in-Ok-true : goal.binding::holds_for_some-returns-in-Ok-true
+binding::holds_for_some-returns-in-Ok-true t c =
     let P : List Val → Outcome (Bool) = λ chosen. TruthOf (Evaluates (table c.args.scene) c.args.depth) (bind (context c.args.scene) chosen) c.args.body.now in
     let lists = map members c.args.lists.now in
     let more = c.loop-more.more in
@@ -1212,8 +1212,8 @@ holds_for_some-returns-in-Ok-true t c =
     let decided = subst (λ (b : Bool). P (at_places lists places) (Ok b)) c.in-Ok-true.field-0-test there in
     any_found P (combinations lists) (left_from more lists places) (at_places lists places) left.0 left.1 decided c.loop-more.invariant.0
 
-pub holds_for_some-returns-in-Err : goal.holds_for_some-returns-in-Err
-holds_for_some-returns-in-Err t c =
+pub binding::holds_for_some-returns-in-Err : goal.binding::holds_for_some-returns-in-Err
+binding::holds_for_some-returns-in-Err t c =
     let P : List Val → Outcome (Bool) = λ chosen. TruthOf (Evaluates (table c.args.scene) c.args.depth) (bind (context c.args.scene) chosen) c.args.body.now in
     let lists = map members c.args.lists.now in
     let more = c.loop-more.more in
@@ -1222,8 +1222,8 @@ holds_for_some-returns-in-Err t c =
     let there = subst (λ (ps : List ℕ). Tells {A = Bool} (Err c.in-Err.fault) (P (at_places lists ps))) c.deref.ensures.value c.in-Err.ensures in
     any_stops P (combinations lists) (left_from more lists places) (at_places lists places) left.0 c.in-Err.fault left.1 there c.loop-more.invariant.0
 
-pub holds_for_some-loop-more-preserved : goal.holds_for_some-loop-more-preserved
-holds_for_some-loop-more-preserved t c =
+pub binding::holds_for_some-loop-more-preserved : goal.binding::holds_for_some-loop-more-preserved
+binding::holds_for_some-loop-more-preserved t c =
     let P : List Val → Outcome (Bool) = λ chosen. TruthOf (Evaluates (table c.args.scene) c.args.depth) (bind (context c.args.scene) chosen) c.args.body.now in
     let lists = map members c.args.lists.now in
     let more = c.loop-more.more in
@@ -1235,16 +1235,16 @@ holds_for_some-loop-more-preserved t c =
     let decided = subst (λ (b : Bool). P (at_places lists places) (Ok b)) c.in-Ok-false.field-0-test there in
     (any_goes_on P (combinations lists) (left_from more lists places) (at_places lists places) (left_from again lists new) left decided c.loop-more.invariant.0, c.advance-more.ensures.within)
 
-pub holds_for_some-returns : goal.holds_for_some-returns
-holds_for_some-returns t c =
+pub binding::holds_for_some-returns : goal.binding::holds_for_some-returns
+binding::holds_for_some-returns t c =
     let P : List Val → Outcome (Bool) = λ chosen. TruthOf (Evaluates (table c.args.scene) c.args.depth) (bind (context c.args.scene) chosen) c.args.body.now in
     let lists = map members c.args.lists.now in
     let more = c.loop-more.more in
     let places = c.loop-more.places.items in
     any_ends P (combinations lists) (left_from more lists places) (none_more more lists places c.loop-more-test.false) c.loop-more.invariant.0
 
-pub values_for_each-loop-more-init : goal.values_for_each-loop-more-init
-values_for_each-loop-more-init t c =
+pub binding::values_for_each-loop-more-init : goal.binding::values_for_each-loop-more-init
+binding::values_for_each-loop-more-init t c =
     let P : List Val → Outcome (Val) = λ chosen. Evaluates (table c.args.scene) c.args.depth (bind (context c.args.scene) chosen) c.args.term.now in
     let lists = map members c.args.lists.now in
     let more = c.has_combination-more.result in
@@ -1254,19 +1254,19 @@ values_for_each-loop-more-init t c =
       within_begins lists more places c.in_ok-places.ensures c.has_combination-more.ensures,
     )
 
-pub values_for_each-eval_with-requires : goal.values_for_each-eval_with-requires
-values_for_each-eval_with-requires t c =
+pub binding::values_for_each-eval_with-requires : goal.binding::values_for_each-eval_with-requires
+binding::values_for_each-eval_with-requires t c =
     let lists = map members c.args.lists.now in
     let places = c.deref.result.now in
     let W : List ℕ → Type 0 = λ ps. AreWithin (map members c.args.lists.now) ps in
     let within = subst W (sym c.deref.ensures.value) (c.loop-more.invariant.1 c.loop-more-test.true) in
     (omega (arith, c.decreases), (within, c.requires (at_places lists places) (chosen_length lists places within)))
 
-pub values_for_each-advance-more-requires : goal.values_for_each-advance-more-requires
-values_for_each-advance-more-requires t c = c.loop-more.invariant.1 c.loop-more-test.true
+pub binding::values_for_each-advance-more-requires : goal.binding::values_for_each-advance-more-requires
+binding::values_for_each-advance-more-requires t c = c.loop-more.invariant.1 c.loop-more-test.true
 
-pub values_for_each-loop-more-smaller : goal.values_for_each-loop-more-smaller
-values_for_each-loop-more-smaller t c =
+pub binding::values_for_each-loop-more-smaller : goal.binding::values_for_each-loop-more-smaller
+binding::values_for_each-loop-more-smaller t c =
     let lists = map members c.args.lists.now in
     let more = c.loop-more.more in
     let places = c.loop-more.places.items in
@@ -1274,8 +1274,8 @@ values_for_each-loop-more-smaller t c =
     let new = c.advance-more.new.places.items in
     fewer (left_from more lists places) (left_from again lists new) (at_places lists places) (left_is more again lists places new c.loop-more-test.true c.advance-more.ensures.left)
 
-pub values_for_each-returns-in-Err-clause-fault : goal.values_for_each-returns-in-Err-clause-fault
-values_for_each-returns-in-Err-clause-fault t c =
+pub binding::values_for_each-returns-in-Err-clause-fault : goal.binding::values_for_each-returns-in-Err-clause-fault
+binding::values_for_each-returns-in-Err-clause-fault t c =
     let P : List Val → Outcome (Val) = λ chosen. Evaluates (table c.args.scene) c.args.depth (bind (context c.args.scene) chosen) c.args.term.now in
     let lists = map members c.args.lists.now in
     let more = c.loop-more.more in
@@ -1284,8 +1284,8 @@ values_for_each-returns-in-Err-clause-fault t c =
     let there = subst (λ (ps : List ℕ). Tells {A = Val} (Err c.in-Err.fault) (P (at_places lists ps))) c.deref.ensures.value c.in-Err.ensures in
     each_from_stops P (combinations lists) (left_from more lists places) (at_places lists places) left.0 c.loop-more.values.items c.in-Err.fault left.1 there c.loop-more.invariant.0
 
-pub values_for_each-loop-more-preserved : goal.values_for_each-loop-more-preserved
-values_for_each-loop-more-preserved t c =
+pub binding::values_for_each-loop-more-preserved : goal.binding::values_for_each-loop-more-preserved
+binding::values_for_each-loop-more-preserved t c =
     let P : List Val → Outcome (Val) = λ chosen. Evaluates (table c.args.scene) c.args.depth (bind (context c.args.scene) chosen) c.args.term.now in
     let lists = map members c.args.lists.now in
     let more = c.loop-more.more in
@@ -1296,16 +1296,16 @@ values_for_each-loop-more-preserved t c =
     let there = subst (λ (ps : List ℕ). P (at_places lists ps) (Ok c.in-Ok.value)) c.deref.ensures.value c.in-Ok.ensures in
     (subst (λ (ys : List (Val)). EachFrom P (combinations lists) (left_from again lists new) ys) (sym c.in_ok-push-in-Ok.ensures) (each_from_goes_on P (combinations lists) (left_from more lists places) (at_places lists places) (left_from again lists new) c.loop-more.values.items c.in-Ok.value left there c.loop-more.invariant.0), c.advance-more.ensures.within)
 
-pub values_for_each-returns-clause-values : goal.values_for_each-returns-clause-values
-values_for_each-returns-clause-values t c =
+pub binding::values_for_each-returns-clause-values : goal.binding::values_for_each-returns-clause-values
+binding::values_for_each-returns-clause-values t c =
     let P : List Val → Outcome (Val) = λ chosen. Evaluates (table c.args.scene) c.args.depth (bind (context c.args.scene) chosen) c.args.term.now in
     let lists = map members c.args.lists.now in
     let more = c.loop-more.more in
     let places = c.loop-more.places.items in
     each_from_ends P (combinations lists) (left_from more lists places) c.loop-more.values.items (none_more more lists places c.loop-more-test.false) c.loop-more.invariant.0
 
-pub pairs_for_each-loop-more-init : goal.pairs_for_each-loop-more-init
-pairs_for_each-loop-more-init t c =
+pub binding::pairs_for_each-loop-more-init : goal.binding::pairs_for_each-loop-more-init
+binding::pairs_for_each-loop-more-init t c =
     let P : List Val → Outcome (Val × Val) = PairOf (Evaluates (table c.args.scene) c.args.depth) (context c.args.scene) c.args.at c.args.term.now in
     let lists = map members c.args.lists.now in
     let more = c.has_combination-more.result in
@@ -1315,19 +1315,19 @@ pairs_for_each-loop-more-init t c =
       within_begins lists more places c.in_ok-places.ensures c.has_combination-more.ensures,
     )
 
-pub pairs_for_each-pair_with-requires : goal.pairs_for_each-pair_with-requires
-pairs_for_each-pair_with-requires t c =
+pub binding::pairs_for_each-pair_with-requires : goal.binding::pairs_for_each-pair_with-requires
+binding::pairs_for_each-pair_with-requires t c =
     let lists = map members c.args.lists.now in
     let places = c.deref.result.now in
     let W : List ℕ → Type 0 = λ ps. AreWithin (map members c.args.lists.now) ps in
     let within = subst W (sym c.deref.ensures.value) (c.loop-more.invariant.1 c.loop-more-test.true) in
     (omega (arith, c.decreases), (within, c.requires (at_places lists places) (chosen_length lists places within)))
 
-pub pairs_for_each-advance-more-requires : goal.pairs_for_each-advance-more-requires
-pairs_for_each-advance-more-requires t c = c.loop-more.invariant.1 c.loop-more-test.true
+pub binding::pairs_for_each-advance-more-requires : goal.binding::pairs_for_each-advance-more-requires
+binding::pairs_for_each-advance-more-requires t c = c.loop-more.invariant.1 c.loop-more-test.true
 
-pub pairs_for_each-loop-more-smaller : goal.pairs_for_each-loop-more-smaller
-pairs_for_each-loop-more-smaller t c =
+pub binding::pairs_for_each-loop-more-smaller : goal.binding::pairs_for_each-loop-more-smaller
+binding::pairs_for_each-loop-more-smaller t c =
     let lists = map members c.args.lists.now in
     let more = c.loop-more.more in
     let places = c.loop-more.places.items in
@@ -1335,8 +1335,8 @@ pairs_for_each-loop-more-smaller t c =
     let new = c.advance-more.new.places.items in
     fewer (left_from more lists places) (left_from again lists new) (at_places lists places) (left_is more again lists places new c.loop-more-test.true c.advance-more.ensures.left)
 
-pub pairs_for_each-returns-in-Err-clause-fault : goal.pairs_for_each-returns-in-Err-clause-fault
-pairs_for_each-returns-in-Err-clause-fault t c =
+pub binding::pairs_for_each-returns-in-Err-clause-fault : goal.binding::pairs_for_each-returns-in-Err-clause-fault
+binding::pairs_for_each-returns-in-Err-clause-fault t c =
     let P : List Val → Outcome (Val × Val) = PairOf (Evaluates (table c.args.scene) c.args.depth) (context c.args.scene) c.args.at c.args.term.now in
     let lists = map members c.args.lists.now in
     let more = c.loop-more.more in
@@ -1345,8 +1345,8 @@ pairs_for_each-returns-in-Err-clause-fault t c =
     let there = subst (λ (ps : List ℕ). Tells {A = Val × Val} (Err c.in-Err.fault) (P (at_places lists ps))) c.deref.ensures.value c.in-Err.ensures in
     each_from_stops P (combinations lists) (left_from more lists places) (at_places lists places) left.0 c.loop-more.pairs.items c.in-Err.fault left.1 there c.loop-more.invariant.0
 
-pub pairs_for_each-loop-more-preserved : goal.pairs_for_each-loop-more-preserved
-pairs_for_each-loop-more-preserved t c =
+pub binding::pairs_for_each-loop-more-preserved : goal.binding::pairs_for_each-loop-more-preserved
+binding::pairs_for_each-loop-more-preserved t c =
     let P : List Val → Outcome (Val × Val) = PairOf (Evaluates (table c.args.scene) c.args.depth) (context c.args.scene) c.args.at c.args.term.now in
     let lists = map members c.args.lists.now in
     let more = c.loop-more.more in
@@ -1357,47 +1357,47 @@ pairs_for_each-loop-more-preserved t c =
     let there = subst (λ (ps : List ℕ). P (at_places lists ps) (Ok c.in-Ok.pair)) c.deref.ensures.value c.in-Ok.ensures in
     (subst (λ (ys : List (Val × Val)). EachFrom P (combinations lists) (left_from again lists new) ys) (sym c.in_ok-push-in-Ok.ensures) (each_from_goes_on P (combinations lists) (left_from more lists places) (at_places lists places) (left_from again lists new) c.loop-more.pairs.items c.in-Ok.pair left there c.loop-more.invariant.0), c.advance-more.ensures.within)
 
-pub pairs_for_each-returns-clause-pairs : goal.pairs_for_each-returns-clause-pairs
-pairs_for_each-returns-clause-pairs t c =
+pub binding::pairs_for_each-returns-clause-pairs : goal.binding::pairs_for_each-returns-clause-pairs
+binding::pairs_for_each-returns-clause-pairs t c =
     let P : List Val → Outcome (Val × Val) = PairOf (Evaluates (table c.args.scene) c.args.depth) (context c.args.scene) c.args.at c.args.term.now in
     let lists = map members c.args.lists.now in
     let more = c.loop-more.more in
     let places = c.loop-more.places.items in
     each_from_ends P (combinations lists) (left_from more lists places) c.loop-more.pairs.items (none_more more lists places c.loop-more-test.false) c.loop-more.invariant.0
 
-pub eval_node-returns-in-Map : goal.eval_node-returns-in-Map
-eval_node-returns-in-Map t c = rw (c.in-Map.is, ← c.deref-in-Map.ensures) c.eval_map.ensures
+pub evaluate::eval_node-returns-in-Map : goal.evaluate::eval_node-returns-in-Map
+evaluate::eval_node-returns-in-Map t c = rw (c.in-Map.is) c.eval_map.ensures
 
-pub eval_node-returns-in-Function : goal.eval_node-returns-in-Function
-eval_node-returns-in-Function t c = rw (c.in-Function.is, ← c.deref-in-Function.ensures) c.eval_function.ensures
+pub evaluate::eval_node-returns-in-Function : goal.evaluate::eval_node-returns-in-Function
+evaluate::eval_node-returns-in-Function t c = rw (c.in-Function.is) c.eval_function.ensures
 
-pub eval_node-returns-in-Quantified : goal.eval_node-returns-in-Quantified
-eval_node-returns-in-Quantified t c =
-    let P = QuantifiedEvaluates (Evaluates (table c.args.scene) c.args.depth) (context c.args.scene) c.in-Quantified.quantifier c.in-Quantified.bounds c.deref-in-Quantified.result.now in
-    rw (c.in-Quantified.is, ← c.deref-in-Quantified.ensures, c.truth_value-in-Quantified.ensures) (truth_told P c.eval_quantified.result c.eval_quantified.ensures)
+pub evaluate::eval_node-returns-in-Quantified : goal.evaluate::eval_node-returns-in-Quantified
+evaluate::eval_node-returns-in-Quantified t c =
+    let P = QuantifiedEvaluates (Evaluates (table c.args.scene) c.args.depth) (context c.args.scene) c.in-Quantified.quantifier c.in-Quantified.bounds c.in-Quantified.body in
+    rw (c.in-Quantified.is, c.truth_value-in-Quantified.ensures) (truth_told P c.eval_quantified.result c.eval_quantified.ensures)
 
 -- rows of records, changes and steps
 
-pub eval_records-returns-in-Ok : goal.eval_records-returns-in-Ok
-eval_records-returns-in-Ok t c =
+pub operations::eval_records-returns-in-Ok : goal.operations::eval_records-returns-in-Ok
+operations::eval_records-returns-in-Ok t c =
     tells_then (RecordsDescribed (Describes (table c.args.scene) c.args.depth) (context c.args.scene) c.args.fields.now) (list_at c.args.at) c.in-Ok.set c.list_at.result c.in-Ok.ensures.fine c.list_at.ensures
 
-pub describe_records-records_of-requires-clause-different : goal.describe_records-records_of-requires-clause-different
-describe_records-records_of-requires-clause-different t c =
+pub describing::describe_records-records_of-requires-clause-different : goal.describing::describe_records-records_of-requires-clause-different
+describing::describe_records-records_of-requires-clause-different t c =
     parts_differ (Describes (table c.args.scene) c.args.depth) (context c.args.scene) (fields_list c.args.fields.now) c.in-Ok.parts.items c.requires.different c.in-Ok.ensures.parts
 
-pub describe_records-returns-in-Ok-clause-fine : goal.describe_records-returns-in-Ok-clause-fine
-describe_records-returns-in-Ok-clause-fine t c =
+pub describing::describe_records-returns-in-Ok-clause-fine : goal.describing::describe_records-returns-in-Ok-clause-fine
+describing::describe_records-returns-in-Ok-clause-fine t c =
     let P = FieldDescribed (Describes (table c.args.scene) c.args.depth) (context c.args.scene) in
     tells_then (Each P (fields_list c.args.fields.now)) (λ ds. Then (Each SetOfField ds) (λ es. Gives (Records (fields_of es)))) (map part_item c.in-Ok.parts.items) c.records_of.result c.in-Ok.ensures.parts c.records_of.ensures.fine
 
-pub describe_records-returns-in-Err-clause-fine : goal.describe_records-returns-in-Err-clause-fine
-describe_records-returns-in-Err-clause-fine t c =
+pub describing::describe_records-returns-in-Err-clause-fine : goal.describing::describe_records-returns-in-Err-clause-fine
+describing::describe_records-returns-in-Err-clause-fine t c =
     let P = FieldDescribed (Describes (table c.args.scene) c.args.depth) (context c.args.scene) in
     stops_then (Each P (fields_list c.args.fields.now)) (λ ds. Then (Each SetOfField ds) (λ es. Gives (Records (fields_of es)))) c.in-Err.fault c.in-Err.ensures.fault
 
-pub describe_fields-loop-field-init : goal.describe_fields-loop-field-init
-describe_fields-loop-field-init t c =
+pub describing::describe_fields-loop-field-init : goal.describing::describe_fields-loop-field-init
+describing::describe_fields-loop-field-init t c =
     let P = FieldDescribed (Describes (table c.args.scene) c.args.depth) (context c.args.scene) in
     let items = c.items-field-items.result.now in
     let are = fields_are items c.args.fields.now c.items-field-items.ensures in (
@@ -1406,16 +1406,16 @@ describe_fields-loop-field-init t c =
       subst (λ (ys : List Part). All (λ (p : Part). IsReady p.set) ys) (sym c.new-parts.ensures.items) (All-nil (λ (p : Part). IsReady p.set)),
     )
 
-pub describe_fields-describe_field-requires : goal.describe_fields-describe_field-requires
-describe_fields-describe_field-requires t c =
+pub describing::describe_fields-describe_field-requires : goal.describing::describe_fields-describe_field-requires
+describing::describe_fields-describe_field-requires t c =
     let items = c.items-field-items.result.now in
     let i = c.loop-field.field-index in
     let below : c.loop-field.field-index < length c.items-field-items.result.now = omega arith in
     let cut = cut_mapped field_item items i c.field-item.result (cut_at items i c.field-item.result below c.field-item.is) in
     (omega (arith, c.decreases), (fields_read (Reads (table c.args.scene) c.args.depth) (context c.args.scene) (map field_item items) i (field_item c.field-item.result) cut c.loop-field.invariant.1).0)
 
-pub describe_fields-returns-in-Err-clause-fault : goal.describe_fields-returns-in-Err-clause-fault
-describe_fields-returns-in-Err-clause-fault t c =
+pub describing::describe_fields-returns-in-Err-clause-fault : goal.describing::describe_fields-returns-in-Err-clause-fault
+describing::describe_fields-returns-in-Err-clause-fault t c =
     let P = FieldDescribed (Describes (table c.args.scene) c.args.depth) (context c.args.scene) in
     let items = c.items-field-items.result.now in
     let are = fields_are items c.args.fields.now c.items-field-items.ensures in
@@ -1424,8 +1424,8 @@ describe_fields-returns-in-Err-clause-fault t c =
     let cut = cut_mapped field_item items i c.field-item.result (cut_at items i c.field-item.result below c.field-item.is) in
     subst (λ (fs : List (List ℕ × Term)). Stops (Each P fs) c.in-Err.fault) are (each_stops P (map field_item items) i (field_item c.field-item.result) (map part_item c.loop-field.parts.items) c.in-Err.fault cut (stops_tells (P (field_item c.field-item.result)) c.in-Err.fault c.in-Err.ensures.fault) c.loop-field.invariant.0)
 
-pub describe_fields-loop-field-preserved : goal.describe_fields-loop-field-preserved
-describe_fields-loop-field-preserved t c =
+pub describing::describe_fields-loop-field-preserved : goal.describing::describe_fields-loop-field-preserved
+describing::describe_fields-loop-field-preserved t c =
     let P = FieldDescribed (Describes (table c.args.scene) c.args.depth) (context c.args.scene) in
     let items = c.items-field-items.result.now in
     let xs = map field_item c.items-field-items.result.now in
@@ -1439,8 +1439,8 @@ describe_fields-loop-field-preserved t c =
       subst (λ (ys : List Part). All ready ys) (sym c.in_ok-push-in-Ok.ensures) (All-push ready c.loop-field.parts.items c.in-Ok.part c.loop-field.invariant.2 c.in-Ok.ensures.ready),
     )
 
-pub describe_fields-returns-clause-parts : goal.describe_fields-returns-clause-parts
-describe_fields-returns-clause-parts t c =
+pub describing::describe_fields-returns-clause-parts : goal.describing::describe_fields-returns-clause-parts
+describing::describe_fields-returns-clause-parts t c =
     let P = FieldDescribed (Describes (table c.args.scene) c.args.depth) (context c.args.scene) in
     let items = c.items-field-items.result.now in
     let xs = map field_item c.items-field-items.result.now in
@@ -1450,18 +1450,18 @@ describe_fields-returns-clause-parts t c =
     let over : length xs ≤ c.loop-field.field-index = omega (arith, passed, length-map c.items-field-items.result.now field_item) in
     subst (λ (fs : List (List ℕ × Term)). Each P fs (Ok (map part_item c.loop-field.parts.items))) are (each_ends P xs i (map part_item c.loop-field.parts.items) over c.loop-field.invariant.0)
 
-pub eval_except-returns-in-Ok : goal.eval_except-returns-in-Ok
-eval_except-returns-in-Ok t c =
+pub stepping::eval_except-returns-in-Ok : goal.stepping::eval_except-returns-in-Ok
+stepping::eval_except-returns-in-Ok t c =
     let ev = Evaluates (table c.args.scene) c.args.depth in
     tells_then (ev (context c.args.scene) c.args.base.now) (AllChanged ev (context c.args.scene) c.args.at (place_of c.args.base.now) (changes_list c.args.changes.now)) c.in-Ok.value c.all_changed.result c.in-Ok.ensures c.all_changed.ensures
 
-pub all_changed-loop-change-init : goal.all_changed-loop-change-init
-all_changed-loop-change-init t c =
+pub stepping::all_changed-loop-change-init : goal.stepping::all_changed-loop-change-init
+stepping::all_changed-loop-change-init t c =
     let are = changes_are c.items-change-items.result.now c.args.changes.now c.items-change-items.ensures in
     ((λ r h. h), subst (λ (cs : List (Steps × Term)). ChangesRead (Reads (table c.args.scene) c.args.depth) (context c.args.scene) cs) (sym are) c.requires)
 
-pub all_changed-changed-requires : goal.all_changed-changed-requires
-all_changed-changed-requires t c =
+pub stepping::all_changed-changed-requires : goal.stepping::all_changed-changed-requires
+stepping::all_changed-changed-requires t c =
     let items = c.items-change-items.result.now in
     let i = c.loop-change.change-index in
     let below : c.loop-change.change-index < length c.items-change-items.result.now = omega arith in
@@ -1469,8 +1469,8 @@ all_changed-changed-requires t c =
     let read = changes_read (Reads (table c.args.scene) c.args.depth) (context c.args.scene) (map change_item items) i (change_item c.change-item.result) cut c.loop-change.invariant.1 in
     (omega (arith, c.decreases), (read.0, read.1))
 
-pub all_changed-returns-in-Err : goal.all_changed-returns-in-Err
-all_changed-returns-in-Err t c =
+pub stepping::all_changed-returns-in-Err : goal.stepping::all_changed-returns-in-Err
+stepping::all_changed-returns-in-Err t c =
     let ev = Evaluates (table c.args.scene) c.args.depth in
     let ctx = context c.args.scene in
     let base = place_of c.args.base.now in
@@ -1482,8 +1482,8 @@ all_changed-returns-in-Err t c =
     subst (λ (cs : List (Steps × Term)). Tells {A = Val} (Err c.in-Err.fault) (AllChanged ev ctx c.args.at base cs c.args.value)) are
     (changes_stop ev ctx c.args.at base (map change_item items) c.args.value i c.loop-change.value (change_item c.change-item.result) c.in-Err.fault cut c.in-Err.ensures c.loop-change.invariant.0)
 
-pub all_changed-loop-change-preserved : goal.all_changed-loop-change-preserved
-all_changed-loop-change-preserved t c =
+pub stepping::all_changed-loop-change-preserved : goal.stepping::all_changed-loop-change-preserved
+stepping::all_changed-loop-change-preserved t c =
     let ev = Evaluates (table c.args.scene) c.args.depth in
     let ctx = context c.args.scene in
     let base = place_of c.args.base.now in
@@ -1495,8 +1495,8 @@ all_changed-loop-change-preserved t c =
       (changes_read (Reads (table c.args.scene) c.args.depth) ctx (map change_item items) i (change_item c.change-item.result) cut c.loop-change.invariant.1).2,
     )
 
-pub all_changed-returns : goal.all_changed-returns
-all_changed-returns t c =
+pub stepping::all_changed-returns : goal.stepping::all_changed-returns
+stepping::all_changed-returns t c =
     let ev = Evaluates (table c.args.scene) c.args.depth in
     let ctx = context c.args.scene in
     let base = place_of c.args.base.now in
@@ -1507,8 +1507,8 @@ all_changed-returns t c =
     let over : length xs ≤ c.loop-change.change-index = omega (arith, passed, length-map c.items-change-items.result.now change_item) in
     subst (λ (cs : List (Steps × Term)). AllChanged ev ctx c.args.at base cs c.args.value (Ok c.loop-change.value)) are (changes_end ev ctx c.args.at base xs c.args.value c.loop-change.change-index c.loop-change.value over c.loop-change.invariant.0)
 
-pub changed-loop-item-init : goal.changed-loop-item-init
-changed-loop-item-init t c =
+pub stepping::changed-loop-item-init : goal.stepping::changed-loop-item-init
+stepping::changed-loop-item-init t c =
     let ev = Evaluates (table c.args.scene) c.args.depth in
     let ctx = context c.args.scene in
     let xs = map bare c.items-item-items.result.now in
@@ -1517,8 +1517,8 @@ changed-loop-item-init t c =
       subst (λ (path : List Step). PathReads (Reads (table c.args.scene) c.args.depth) ctx path) (sym are) c.requires.path,
     )
 
-pub changed-step_key-requires : goal.changed-step_key-requires
-changed-step_key-requires t c =
+pub stepping::changed-step_key-requires : goal.stepping::changed-step_key-requires
+stepping::changed-step_key-requires t c =
     let items = c.items-item-items.result.now in
     let i = c.loop-item.item-index in
     let below : c.loop-item.item-index < length c.items-item-items.result.now = omega arith in
@@ -1526,8 +1526,8 @@ changed-step_key-requires t c =
     let read = path_reads (Reads (table c.args.scene) c.args.depth) (context c.args.scene) (map bare items) i (bare c.item-item.result) cut c.loop-item.invariant.1 in
     (omega (arith, c.decreases), (read.0, read.1))
 
-pub changed-returns-in-Ok-None : goal.changed-returns-in-Ok-None
-changed-returns-in-Ok-None t c =
+pub stepping::changed-returns-in-Ok-None : goal.stepping::changed-returns-in-Ok-None
+stepping::changed-returns-in-Ok-None t c =
     let ev = Evaluates (table c.args.scene) c.args.depth in
     let ctx = context c.args.scene in
     let at = c.args.at in
@@ -1545,8 +1545,8 @@ changed-returns-in-Ok-None t c =
     subst (λ (path : List Step). Tells r (Changed ev ctx at base path new c.args.value.now)) are
     (change_stays ev ctx at base new xs c.args.value.now i c.loop-item.layers.items c.loop-item.inner.now s c.in-Ok.key r cut c.in-Ok.ensures gone c.rebuilt_same.ensures c.loop-item.invariant.0)
 
-pub changed-returns-in-Err : goal.changed-returns-in-Err
-changed-returns-in-Err t c =
+pub stepping::changed-returns-in-Err : goal.stepping::changed-returns-in-Err
+stepping::changed-returns-in-Err t c =
     let ev = Evaluates (table c.args.scene) c.args.depth in
     let ctx = context c.args.scene in
     let at = c.args.at in
@@ -1562,8 +1562,8 @@ changed-returns-in-Err t c =
     subst (λ (path : List Step). Tells {A = Val} (Err c.in-Err.fault) (Changed ev ctx at base path new c.args.value.now)) are
     (change_stops ev ctx at base new xs c.args.value.now i c.loop-item.layers.items c.loop-item.inner.now s c.in-Err.fault cut c.in-Err.ensures c.loop-item.invariant.0)
 
-pub changed-returns-in-Err-inside_at : goal.changed-returns-in-Err-inside_at
-changed-returns-in-Err-inside_at t c =
+pub stepping::changed-returns-in-Err-inside_at : goal.stepping::changed-returns-in-Err-inside_at
+stepping::changed-returns-in-Err-inside_at t c =
     let ev = Evaluates (table c.args.scene) c.args.depth in
     let ctx = context c.args.scene in
     let at = c.args.at in
@@ -1580,8 +1580,8 @@ changed-returns-in-Err-inside_at t c =
     subst (λ (path : List Step). Tells {A = Val} (Err f) (Changed ev ctx at base path new c.args.value.now)) are
     (change_refused ev ctx at base new xs c.args.value.now i c.loop-item.layers.items c.loop-item.inner.now s c.in-Ok.key f cut c.in-Ok.ensures (stops_tells (InsideAt base c.loop-item.inner.now c.in-Ok.key) f c.in-Err-inside_at.ensures.fault) c.loop-item.invariant.0)
 
-pub changed-loop-item-preserved : goal.changed-loop-item-preserved
-changed-loop-item-preserved t c =
+pub stepping::changed-loop-item-preserved : goal.stepping::changed-loop-item-preserved
+stepping::changed-loop-item-preserved t c =
     let ev = Evaluates (table c.args.scene) c.args.depth in
     let ctx = context c.args.scene in
     let at = c.args.at in
@@ -1602,8 +1602,8 @@ changed-loop-item-preserved t c =
       (path_reads (Reads (table c.args.scene) c.args.depth) ctx xs i s cut c.loop-item.invariant.1).2,
     )
 
-pub changed-returns-in-Ok-eval_new : goal.changed-returns-in-Ok-eval_new
-changed-returns-in-Ok-eval_new t c =
+pub stepping::changed-returns-in-Ok-eval_new : goal.stepping::changed-returns-in-Ok-eval_new
+stepping::changed-returns-in-Ok-eval_new t c =
     let ev = Evaluates (table c.args.scene) c.args.depth in
     let ctx = context c.args.scene in
     let at = c.args.at in
@@ -1619,8 +1619,8 @@ changed-returns-in-Ok-eval_new t c =
     subst (λ (path : List Step). Tells r (Changed ev ctx at base path new c.args.value.now)) are
     (change_made ev ctx at base new xs c.args.value.now i c.loop-item.layers.items c.loop-item.inner.now c.in-Ok-eval_new.made r over c.in-Ok-eval_new.ensures c.rebuilt.ensures c.loop-item.invariant.0)
 
-pub changed-returns-in-Err-eval_new : goal.changed-returns-in-Err-eval_new
-changed-returns-in-Err-eval_new t c =
+pub stepping::changed-returns-in-Err-eval_new : goal.stepping::changed-returns-in-Err-eval_new
+stepping::changed-returns-in-Err-eval_new t c =
     let ev = Evaluates (table c.args.scene) c.args.depth in
     let ctx = context c.args.scene in
     let at = c.args.at in
@@ -1636,21 +1636,21 @@ changed-returns-in-Err-eval_new t c =
     subst (λ (path : List Step). Tells {A = Val} (Err f) (Changed ev ctx at base path new c.args.value.now)) are
     (change_unmade ev ctx at base new xs c.args.value.now i c.loop-item.layers.items c.loop-item.inner.now f over c.in-Err-eval_new.ensures c.loop-item.invariant.0)
 
-pub eval_key-returns-in-Ok : goal.eval_key-returns-in-Ok
-eval_key-returns-in-Ok t c =
+pub stepping::eval_key-returns-in-Ok : goal.stepping::eval_key-returns-in-Ok
+stepping::eval_key-returns-in-Ok t c =
     tells_then (Each (Evaluates (table c.args.scene) c.args.depth (context c.args.scene)) (terms_list c.args.items.now)) (KeyOf c.args.at) c.in-Ok.values.items c.key_of.result c.in-Ok.ensures.values c.key_of.ensures
 
-pub eval_key-returns-in-Err : goal.eval_key-returns-in-Err
-eval_key-returns-in-Err t c =
+pub stepping::eval_key-returns-in-Err : goal.stepping::eval_key-returns-in-Err
+stepping::eval_key-returns-in-Err t c =
     stops_then (Each (Evaluates (table c.args.scene) c.args.depth (context c.args.scene)) (terms_list c.args.items.now)) (KeyOf c.args.at) c.in-Err.fault c.in-Err.ensures.fault
 
-pub eval_postfix-eval_steps-requires : goal.eval_postfix-eval_steps-requires
-eval_postfix-eval_steps-requires t c =
+pub stepping::eval_postfix-eval_steps-requires : goal.stepping::eval_postfix-eval_steps-requires
+stepping::eval_postfix-eval_steps-requires t c =
     let read = subst (λ (s : StepGiven). StepsRead (Reads (table c.args.scene) c.args.depth) (context c.args.scene) c.args.base.now (term.MoreSteps c.args.steps.now c.args.at (step_view s))) c.in-Prime.is c.requires in
     (omega (arith, c.decreases), rw (c.primed.ensures.table, c.primed.ensures.context) read)
 
-pub eval_postfix-returns-in-Prime : goal.eval_postfix-returns-in-Prime
-eval_postfix-returns-in-Prime t c =
+pub stepping::eval_postfix-returns-in-Prime : goal.stepping::eval_postfix-returns-in-Prime
+stepping::eval_postfix-returns-in-Prime t c =
     let r = c.eval_steps.result in
     let e = c.args.base.now in
     let ss = c.args.steps.now in
@@ -1658,30 +1658,30 @@ eval_postfix-returns-in-Prime t c =
     let told = subst (λ (x : Context). Tells r (StepsEvaluate (Evaluates (table c.args.scene) c.args.depth) x e ss)) c.primed.ensures.context same in
     subst (λ (s : StepGiven). Tells r (StepsEvaluate (Evaluates (table c.args.scene) c.args.depth) (context c.args.scene) e (term.MoreSteps ss c.args.at (step_view s)))) (sym c.in-Prime.is) told
 
-pub eval_postfix-eval_last-requires : goal.eval_postfix-eval_last-requires
-eval_postfix-eval_last-requires t c =
+pub stepping::eval_postfix-eval_last-requires : goal.stepping::eval_postfix-eval_last-requires
+stepping::eval_postfix-eval_last-requires t c =
     let key = subst (λ (s : StepGiven). HasKey (step_view s)) (sym c.in-Index.is) tt in
     let read = last_reads (Reads (table c.args.scene) c.args.depth) (context c.args.scene) c.args.base.now c.args.steps.now c.args.at (step_view c.args.last.now) key c.requires in
     (omega (arith, c.decreases), (key, (read.0, read.1)))
 
-pub eval_postfix-returns-in-Index : goal.eval_postfix-returns-in-Index
-eval_postfix-returns-in-Index t c =
+pub stepping::eval_postfix-returns-in-Index : goal.stepping::eval_postfix-returns-in-Index
+stepping::eval_postfix-returns-in-Index t c =
     let key = subst (λ (s : StepGiven). HasKey (step_view s)) (sym c.in-Index.is) tt in
     last_told (Evaluates (table c.args.scene) c.args.depth) (context c.args.scene) c.args.base.now c.args.steps.now c.args.at (step_view c.args.last.now) c.eval_last.result key c.eval_last.ensures
 
-pub eval_postfix-eval_last-requires-in-Field : goal.eval_postfix-eval_last-requires-in-Field
-eval_postfix-eval_last-requires-in-Field t c =
+pub stepping::eval_postfix-eval_last-requires-in-Field : goal.stepping::eval_postfix-eval_last-requires-in-Field
+stepping::eval_postfix-eval_last-requires-in-Field t c =
     let key = subst (λ (s : StepGiven). HasKey (step_view s)) (sym c.in-Field.is) tt in
     let read = last_reads (Reads (table c.args.scene) c.args.depth) (context c.args.scene) c.args.base.now c.args.steps.now c.args.at (step_view c.args.last.now) key c.requires in
     (omega (arith, c.decreases), (key, (read.0, read.1)))
 
-pub eval_postfix-returns-in-Field : goal.eval_postfix-returns-in-Field
-eval_postfix-returns-in-Field t c =
+pub stepping::eval_postfix-returns-in-Field : goal.stepping::eval_postfix-returns-in-Field
+stepping::eval_postfix-returns-in-Field t c =
     let key = subst (λ (s : StepGiven). HasKey (step_view s)) (sym c.in-Field.is) tt in
     last_told (Evaluates (table c.args.scene) c.args.depth) (context c.args.scene) c.args.base.now c.args.steps.now c.args.at (step_view c.args.last.now) c.eval_last-in-Field.result key c.eval_last-in-Field.ensures
 
-pub eval_last-returns-in-Ok : goal.eval_last-returns-in-Ok
-eval_last-returns-in-Ok t c =
+pub stepping::eval_last-returns-in-Ok : goal.stepping::eval_last-returns-in-Ok
+stepping::eval_last-returns-in-Ok t c =
     let ev = Evaluates (table c.args.scene) c.args.depth in
     let ctx = context c.args.scene in
     let r = c.eval_applied.result in
@@ -1689,24 +1689,24 @@ eval_last-returns-in-Ok t c =
     let told = subst (λ (p : Place). Tells r (Then (StepKey ev ctx c.args.at s) (λ key. Operated (AppliesAt c.in-Ok.function key) (place_in c.args.at (p ∷ []))))) c.place_behind-place.ensures c.eval_applied.ensures in
     tells_then (StepsEvaluate ev ctx c.args.base.now c.args.steps.now) (λ f. Then (StepKey ev ctx c.args.at s) (λ key. Operated (AppliesAt f key) (place_in c.args.at (steps_place (place_of c.args.base.now) c.args.steps.now ∷ [])))) c.in-Ok.function r c.in-Ok.ensures told
 
-pub eval_applied-returns-in-Ok : goal.eval_applied-returns-in-Ok
-eval_applied-returns-in-Ok t c =
+pub stepping::eval_applied-returns-in-Ok : goal.stepping::eval_applied-returns-in-Ok
+stepping::eval_applied-returns-in-Ok t c =
     let ev = Evaluates (table c.args.scene) c.args.depth in
     tells_then (StepKey ev (context c.args.scene) c.args.at (step_view c.args.step.now)) (λ key. Operated (AppliesAt c.args.function.now key) (place_in c.args.at (c.args.place ∷ []))) c.in-Ok.key c.applied.result c.in-Ok.ensures c.applied.ensures
 
-pub eval_steps-eval-requires : goal.eval_steps-eval-requires
-eval_steps-eval-requires t c =
+pub stepping::eval_steps-eval-requires : goal.stepping::eval_steps-eval-requires
+stepping::eval_steps-eval-requires t c =
     let read = steps_read (Reads (table c.args.scene) c.args.depth) (context c.args.scene) c.args.base.now c.args.steps.now c.requires in
     let there = subst (λ (n : ℕ). Reads (table c.args.scene) c.args.depth (under n (context c.args.scene)) c.args.base.now) (sym c.primes_among-primes.ensures) read.0 in
     (omega (arith, c.decreases), rw (c.before_primes.ensures.table, c.before_primes.ensures.context) there)
 
-pub eval_steps-eval_behind-requires : goal.eval_steps-eval_behind-requires
-eval_steps-eval_behind-requires t c =
+pub stepping::eval_steps-eval_behind-requires : goal.stepping::eval_steps-eval_behind-requires
+stepping::eval_steps-eval_behind-requires t c =
     let read = steps_read (Reads (table c.args.scene) c.args.depth) (context c.args.scene) c.args.base.now c.args.steps.now c.requires in
     (omega (arith, c.decreases), (c.primes_among-primes.ensures, read.1))
 
-pub eval_steps-returns-in-Ok : goal.eval_steps-returns-in-Ok
-eval_steps-returns-in-Ok t c =
+pub stepping::eval_steps-returns-in-Ok : goal.stepping::eval_steps-returns-in-Ok
+stepping::eval_steps-returns-in-Ok t c =
     let ops = table c.args.scene in
     let ctx = context c.args.scene in
     let e = c.args.base.now in
@@ -1718,8 +1718,8 @@ eval_steps-returns-in-Ok t c =
     steps_told (Evaluates ops c.args.depth) ctx e c.args.steps.now c.eval_behind.result
     (tells_then (Evaluates ops c.args.depth (under (primes_in xs) ctx) e) (StepsMake (Evaluates ops c.args.depth) ctx (place_of e) xs) v c.eval_behind.result first c.eval_behind.ensures)
 
-pub eval_steps-returns-in-Err : goal.eval_steps-returns-in-Err
-eval_steps-returns-in-Err t c =
+pub stepping::eval_steps-returns-in-Err : goal.stepping::eval_steps-returns-in-Err
+stepping::eval_steps-returns-in-Err t c =
     let ops = table c.args.scene in
     let ctx = context c.args.scene in
     let e = c.args.base.now in
@@ -1731,16 +1731,16 @@ eval_steps-returns-in-Err t c =
     steps_told (Evaluates ops c.args.depth) ctx e c.args.steps.now (Err f)
     (tells_stop (Evaluates ops c.args.depth (under (primes_in xs) ctx) e) (StepsMake (Evaluates ops c.args.depth) ctx (place_of e) xs) f first)
 
-pub eval_behind-loop-item-init : goal.eval_behind-loop-item-init
-eval_behind-loop-item-init t c =
+pub stepping::eval_behind-loop-item-init : goal.stepping::eval_behind-loop-item-init
+stepping::eval_behind-loop-item-init t c =
     let are = steps_are c.items-item-items.result.now c.args.steps.now c.items-item-items.ensures in (
       (λ r h. h),
       subst (λ (ss : List (Place × Step)). StepsMakeReads (Reads (table c.args.scene) c.args.depth) (context c.args.scene) ss) (sym are) c.requires.read,
       c.requires.primes ∙ ap primes_in (sym are),
     )
 
-pub eval_behind-overflow_sub-primes : goal.eval_behind-overflow_sub-primes
-eval_behind-overflow_sub-primes t c =
+pub stepping::eval_behind-overflow_sub-primes : goal.stepping::eval_behind-overflow_sub-primes
+stepping::eval_behind-overflow_sub-primes t c =
     let ops = table c.args.scene in
     let ev = Evaluates (table c.args.scene) c.args.depth in
     let ctx = context c.args.scene in
@@ -1754,8 +1754,8 @@ eval_behind-overflow_sub-primes t c =
     let primes = primes_from xs i x cut in
     omega (arith, c.prime_count-primes.ensures, primes, c.loop-item.invariant.2)
 
-pub eval_behind-eval_step-requires : goal.eval_behind-eval_step-requires
-eval_behind-eval_step-requires t c =
+pub stepping::eval_behind-eval_step-requires : goal.stepping::eval_behind-eval_step-requires
+stepping::eval_behind-eval_step-requires t c =
     let ops = table c.args.scene in
     let ev = Evaluates (table c.args.scene) c.args.depth in
     let ctx = context c.args.scene in
@@ -1773,8 +1773,8 @@ eval_behind-eval_step-requires t c =
     let there = subst (λ (n : ℕ). StepReads (Reads ops c.args.depth) (under n ctx) (step_view c.item-item.result.step)) (sym left) read in
     (omega (arith, c.decreases), rw (c.before_primes-around.ensures.table, c.before_primes-around.ensures.context) there)
 
-pub eval_behind-returns-in-Err : goal.eval_behind-returns-in-Err
-eval_behind-returns-in-Err t c =
+pub stepping::eval_behind-returns-in-Err : goal.stepping::eval_behind-returns-in-Err
+stepping::eval_behind-returns-in-Err t c =
     let ops = table c.args.scene in
     let ev = Evaluates (table c.args.scene) c.args.depth in
     let d = c.args.depth in
@@ -1800,8 +1800,8 @@ eval_behind-returns-in-Err t c =
     subst (λ (ss : List (Place × Step)). Tells {A = Val} (Err f) (StepsMake ev ctx (place_of c.args.base.now) ss c.args.value)) are
     (subst (λ (q : Place). Tells {A = Val} (Err f) (StepsMake ev ctx q xs c.args.value)) c.place_at-place.ensures stopped)
 
-pub eval_behind-loop-item-preserved : goal.eval_behind-loop-item-preserved
-eval_behind-loop-item-preserved t c =
+pub stepping::eval_behind-loop-item-preserved : goal.stepping::eval_behind-loop-item-preserved
+stepping::eval_behind-loop-item-preserved t c =
     let ops = table c.args.scene in
     let ev = Evaluates (table c.args.scene) c.args.depth in
     let d = c.args.depth in
@@ -1828,8 +1828,8 @@ eval_behind-loop-item-preserved t c =
       left,
     )
 
-pub eval_behind-returns : goal.eval_behind-returns
-eval_behind-returns t c =
+pub stepping::eval_behind-returns : goal.stepping::eval_behind-returns
+stepping::eval_behind-returns t c =
     let ops = table c.args.scene in
     let ev = Evaluates (table c.args.scene) c.args.depth in
     let ctx = context c.args.scene in
@@ -1843,74 +1843,74 @@ eval_behind-returns t c =
     subst (λ (ss : List (Place × Step)). StepsMake ev ctx (place_of c.args.base.now) ss c.args.value (Ok c.loop-item.value)) are
     (subst (λ (p : Place). StepsMake ev ctx p xs c.args.value (Ok c.loop-item.value)) start (steps_end ev ctx xs c.place_at-place.result c.args.value i c.loop-item.place c.loop-item.value over c.loop-item.invariant.0))
 
-pub eval_step-returns-in-Index : goal.eval_step-returns-in-Index
-eval_step-returns-in-Index t c =
+pub stepping::eval_step-returns-in-Index : goal.stepping::eval_step-returns-in-Index
+stepping::eval_step-returns-in-Index t c =
     let key = subst (λ (s : StepGiven). HasKey (step_view s)) (sym c.in-Index.is) tt in
     step_told (Evaluates (table c.args.scene) c.args.depth) (context c.args.scene) c.args.place c.args.at (step_view c.args.step.now) c.args.value c.eval_applied.result key c.eval_applied.ensures
 
-pub eval_step-returns-in-Field : goal.eval_step-returns-in-Field
-eval_step-returns-in-Field t c =
+pub stepping::eval_step-returns-in-Field : goal.stepping::eval_step-returns-in-Field
+stepping::eval_step-returns-in-Field t c =
     let key = subst (λ (s : StepGiven). HasKey (step_view s)) (sym c.in-Field.is) tt in
     step_told (Evaluates (table c.args.scene) c.args.depth) (context c.args.scene) c.args.place c.args.at (step_view c.args.step.now) c.args.value c.eval_applied-in-Field.result key c.eval_applied-in-Field.ensures
 
-pub describe_prefix-returns-in-Not-clause-fine : goal.describe_prefix-returns-in-Not-clause-fine
-describe_prefix-returns-in-Not-clause-fine t c =
+pub describing::describe_prefix-returns-in-Not-clause-fine : goal.describing::describe_prefix-returns-in-Not-clause-fine
+describing::describe_prefix-returns-in-Not-clause-fine t c =
     let ev = Evaluates (table c.args.scene) c.args.depth in
     let de = Describes (table c.args.scene) c.args.depth in
     let r = c.described_value.result in
     let told = subst (λ (m : Meaning). Tells r (IsValueOf (MeaningEvaluates (table c.args.scene) ev de (context c.args.scene) c.args.at m))) c.requires.node c.described_value.ensures.fine in
     value_described (table c.args.scene) ev de (context c.args.scene) c.args.operator c.args.operand.now c.args.at r (ap makes_subsets c.in-Not.is) told
 
-pub describe_prefix-returns-in-Unchanged-clause-fine : goal.describe_prefix-returns-in-Unchanged-clause-fine
-describe_prefix-returns-in-Unchanged-clause-fine t c =
+pub describing::describe_prefix-returns-in-Unchanged-clause-fine : goal.describing::describe_prefix-returns-in-Unchanged-clause-fine
+describing::describe_prefix-returns-in-Unchanged-clause-fine t c =
     let ev = Evaluates (table c.args.scene) c.args.depth in
     let de = Describes (table c.args.scene) c.args.depth in
     let r = c.described_value-in-Unchanged.result in
     let told = subst (λ (m : Meaning). Tells r (IsValueOf (MeaningEvaluates (table c.args.scene) ev de (context c.args.scene) c.args.at m))) c.requires.node c.described_value-in-Unchanged.ensures.fine in
     value_described (table c.args.scene) ev de (context c.args.scene) c.args.operator c.args.operand.now c.args.at r (ap makes_subsets c.in-Unchanged.is) told
 
-pub describe_prefix-returns-in-Enabled-clause-fine : goal.describe_prefix-returns-in-Enabled-clause-fine
-describe_prefix-returns-in-Enabled-clause-fine t c =
+pub describing::describe_prefix-returns-in-Enabled-clause-fine : goal.describing::describe_prefix-returns-in-Enabled-clause-fine
+describing::describe_prefix-returns-in-Enabled-clause-fine t c =
     let ev = Evaluates (table c.args.scene) c.args.depth in
     let de = Describes (table c.args.scene) c.args.depth in
     let r = c.described_value-in-Enabled.result in
     let told = subst (λ (m : Meaning). Tells r (IsValueOf (MeaningEvaluates (table c.args.scene) ev de (context c.args.scene) c.args.at m))) c.requires.node c.described_value-in-Enabled.ensures.fine in
     value_described (table c.args.scene) ev de (context c.args.scene) c.args.operator c.args.operand.now c.args.at r (ap makes_subsets c.in-Enabled.is) told
 
-pub describe_prefix-returns-in-Always-clause-fine : goal.describe_prefix-returns-in-Always-clause-fine
-describe_prefix-returns-in-Always-clause-fine t c =
+pub describing::describe_prefix-returns-in-Always-clause-fine : goal.describing::describe_prefix-returns-in-Always-clause-fine
+describing::describe_prefix-returns-in-Always-clause-fine t c =
     let ev = Evaluates (table c.args.scene) c.args.depth in
     let de = Describes (table c.args.scene) c.args.depth in
     let r = c.described_value-in-Always.result in
     let told = subst (λ (m : Meaning). Tells r (IsValueOf (MeaningEvaluates (table c.args.scene) ev de (context c.args.scene) c.args.at m))) c.requires.node c.described_value-in-Always.ensures.fine in
     value_described (table c.args.scene) ev de (context c.args.scene) c.args.operator c.args.operand.now c.args.at r (ap makes_subsets c.in-Always.is) told
 
-pub describe_prefix-returns-in-Eventually-clause-fine : goal.describe_prefix-returns-in-Eventually-clause-fine
-describe_prefix-returns-in-Eventually-clause-fine t c =
+pub describing::describe_prefix-returns-in-Eventually-clause-fine : goal.describing::describe_prefix-returns-in-Eventually-clause-fine
+describing::describe_prefix-returns-in-Eventually-clause-fine t c =
     let ev = Evaluates (table c.args.scene) c.args.depth in
     let de = Describes (table c.args.scene) c.args.depth in
     let r = c.described_value-in-Eventually.result in
     let told = subst (λ (m : Meaning). Tells r (IsValueOf (MeaningEvaluates (table c.args.scene) ev de (context c.args.scene) c.args.at m))) c.requires.node c.described_value-in-Eventually.ensures.fine in
     value_described (table c.args.scene) ev de (context c.args.scene) c.args.operator c.args.operand.now c.args.at r (ap makes_subsets c.in-Eventually.is) told
 
-pub describe_prefix-returns-in-BigUnion-clause-fine : goal.describe_prefix-returns-in-BigUnion-clause-fine
-describe_prefix-returns-in-BigUnion-clause-fine t c =
+pub describing::describe_prefix-returns-in-BigUnion-clause-fine : goal.describing::describe_prefix-returns-in-BigUnion-clause-fine
+describing::describe_prefix-returns-in-BigUnion-clause-fine t c =
     let ev = Evaluates (table c.args.scene) c.args.depth in
     let de = Describes (table c.args.scene) c.args.depth in
     let r = c.described_value-in-BigUnion.result in
     let told = subst (λ (m : Meaning). Tells r (IsValueOf (MeaningEvaluates (table c.args.scene) ev de (context c.args.scene) c.args.at m))) c.requires.node c.described_value-in-BigUnion.ensures.fine in
     value_described (table c.args.scene) ev de (context c.args.scene) c.args.operator c.args.operand.now c.args.at r (ap makes_subsets c.in-BigUnion.is) told
 
-pub describe_prefix-returns-in-Domain-clause-fine : goal.describe_prefix-returns-in-Domain-clause-fine
-describe_prefix-returns-in-Domain-clause-fine t c =
+pub describing::describe_prefix-returns-in-Domain-clause-fine : goal.describing::describe_prefix-returns-in-Domain-clause-fine
+describing::describe_prefix-returns-in-Domain-clause-fine t c =
     let ev = Evaluates (table c.args.scene) c.args.depth in
     let de = Describes (table c.args.scene) c.args.depth in
     let r = c.described_value-in-Domain.result in
     let told = subst (λ (m : Meaning). Tells r (IsValueOf (MeaningEvaluates (table c.args.scene) ev de (context c.args.scene) c.args.at m))) c.requires.node c.described_value-in-Domain.ensures.fine in
     value_described (table c.args.scene) ev de (context c.args.scene) c.args.operator c.args.operand.now c.args.at r (ap makes_subsets c.in-Domain.is) told
 
-pub describe_prefix-returns-in-Negate-clause-fine : goal.describe_prefix-returns-in-Negate-clause-fine
-describe_prefix-returns-in-Negate-clause-fine t c =
+pub describing::describe_prefix-returns-in-Negate-clause-fine : goal.describing::describe_prefix-returns-in-Negate-clause-fine
+describing::describe_prefix-returns-in-Negate-clause-fine t c =
     let ev = Evaluates (table c.args.scene) c.args.depth in
     let de = Describes (table c.args.scene) c.args.depth in
     let r = c.described_value-in-Negate.result in
@@ -1919,30 +1919,30 @@ describe_prefix-returns-in-Negate-clause-fine t c =
 
 -- products, UNCHANGED and [A]_v
 
-pub describe_product-describe_parts-requires : goal.describe_product-describe_parts-requires
-describe_product-describe_parts-requires t c =
+pub describing::describe_product-describe_parts-requires : goal.describing::describe_product-describe_parts-requires
+describing::describe_product-describe_parts-requires t c =
     let are = ap (map (λ t. t.now)) c.deref.ensures.value ∙ c.in_ok-terms.ensures in
     (omega (arith, c.decreases), subst (λ (es : List Term). ReadsEach (Reads (table c.args.scene) c.args.depth) (context c.args.scene) es) (sym are) c.requires)
 
-pub describe_product-returns-in-Ok-clause-fine : goal.describe_product-returns-in-Ok-clause-fine
-describe_product-returns-in-Ok-clause-fine t c =
+pub describing::describe_product-returns-in-Ok-clause-fine : goal.describing::describe_product-returns-in-Ok-clause-fine
+describing::describe_product-returns-in-Ok-clause-fine t c =
     let P = PartDescribed (Describes (table c.args.scene) c.args.depth) (context c.args.scene) in
     let K : List (Place × Described) → Outcome Described = (λ ds. Then (Each (λ d. set_at d.0 d.1) ds) (λ es. Gives (Product (parts_of es)))) in
     let are = ap (map (λ t. t.now)) c.deref.ensures.value ∙ c.in_ok-terms.ensures in
     let each = subst (λ (es : List Term). Each P es (Ok c.in-Ok.parts.items)) are c.in-Ok.ensures.parts in
     tells_then (Each P ((c.args.first.now ∷ map (λ x. x.value) c.args.others.now) ++ c.args.last.now ∷ [])) K c.in-Ok.parts.items c.product_of.result each c.product_of.ensures.fine
 
-pub eval_product-returns-in-Ok : goal.eval_product-returns-in-Ok
-eval_product-returns-in-Ok t c =
+pub operations::eval_product-returns-in-Ok : goal.operations::eval_product-returns-in-Ok
+operations::eval_product-returns-in-Ok t c =
     tells_then (ProductDescribed (Describes (table c.args.scene) c.args.depth) (context c.args.scene) ((c.args.first.now ∷ map (λ x. x.value) c.args.others.now) ++ c.args.last.now ∷ [])) (list_at c.args.at) c.in-Ok.set c.list_at.result c.in-Ok.ensures.fine c.list_at.ensures
 
-pub eval_long-eval_product-requires : goal.eval_long-eval_product-requires
-eval_long-eval_product-requires t c =
+pub operations::eval_long-eval_product-requires : goal.operations::eval_long-eval_product-requires
+operations::eval_long-eval_product-requires t c =
     let are = chain_terms c.first_of.result.now c.others_of.result.now c.args.operands.now c.args.at c.args.last.now c.first_of.ensures c.others_of.ensures in
     (omega (arith, c.decreases), subst (λ (es : List Term). ReadsEach (Reads (table c.args.scene) c.args.depth) (context c.args.scene) es) (sym are) (c.requires.first, c.requires.others))
 
-pub eval_long-returns-in-CartesianProduct : goal.eval_long-returns-in-CartesianProduct
-eval_long-returns-in-CartesianProduct t c =
+pub operations::eval_long-returns-in-CartesianProduct : goal.operations::eval_long-returns-in-CartesianProduct
+operations::eval_long-returns-in-CartesianProduct t c =
     let r = c.eval_product.result in
     let ctx = context c.args.scene in
     let de = Describes (table c.args.scene) c.args.depth in
@@ -1950,13 +1950,13 @@ eval_long-returns-in-CartesianProduct t c =
     let told = subst (λ (es : List Term). Tells r (ListedAt c.args.at (ProductDescribed de ctx es))) are c.eval_product.ensures in
     subst (λ (o : InfixOperator). Tells r (InfixEvaluates (Evaluates (table c.args.scene) c.args.depth) de ctx o c.args.operands.now c.args.last.now c.args.at)) (sym c.in-CartesianProduct.is) told
 
-pub describe_long-describe_product-requires : goal.describe_long-describe_product-requires
-describe_long-describe_product-requires t c =
+pub describing::describe_long-describe_product-requires : goal.describing::describe_long-describe_product-requires
+describing::describe_long-describe_product-requires t c =
     let are = chain_terms c.first_of.result.now c.others_of.result.now c.args.operands.now c.args.at c.args.last.now c.first_of.ensures c.others_of.ensures in
     (omega (arith, c.decreases), subst (λ (es : List Term). ReadsEach (Reads (table c.args.scene) c.args.depth) (context c.args.scene) es) (sym are) (c.requires.first, c.requires.others))
 
-pub describe_long-returns-in-CartesianProduct-clause-fine : goal.describe_long-returns-in-CartesianProduct-clause-fine
-describe_long-returns-in-CartesianProduct-clause-fine t c =
+pub describing::describe_long-returns-in-CartesianProduct-clause-fine : goal.describing::describe_long-returns-in-CartesianProduct-clause-fine
+describing::describe_long-returns-in-CartesianProduct-clause-fine t c =
     let r = c.describe_product.result in
     let ctx = context c.args.scene in
     let de = Describes (table c.args.scene) c.args.depth in
@@ -1964,47 +1964,47 @@ describe_long-returns-in-CartesianProduct-clause-fine t c =
     let told = subst (λ (es : List Term). Tells r (ProductDescribed de ctx es)) are c.describe_product.ensures.fine in
     subst (λ (o : InfixOperator). Tells r (InfixDescribed (Evaluates (table c.args.scene) c.args.depth) de ctx o c.args.operands.now c.args.last.now c.args.at)) (sym c.in-CartesianProduct.is) told
 
-pub eval_node-returns-in-BoxAction : goal.eval_node-returns-in-BoxAction
-eval_node-returns-in-BoxAction t c =
-    let P = HoldsOrStutters (Evaluates (table c.args.scene) c.args.depth) (context c.args.scene) c.args.at c.deref-in-BoxAction.result.now c.deref-in-BoxAction-2.result.now in
-    rw (c.in-BoxAction.is, ← c.deref-in-BoxAction.ensures, ← c.deref-in-BoxAction-2.ensures, c.truth_value-in-BoxAction.ensures) (truth_told P c.holds_or_stutters.result c.holds_or_stutters.ensures)
+pub evaluate::eval_node-returns-in-BoxAction : goal.evaluate::eval_node-returns-in-BoxAction
+evaluate::eval_node-returns-in-BoxAction t c =
+    let P = HoldsOrStutters (Evaluates (table c.args.scene) c.args.depth) (context c.args.scene) c.args.at c.in-BoxAction.action c.in-BoxAction.subscript in
+    rw (c.in-BoxAction.is, c.truth_value-in-BoxAction.ensures) (truth_told P c.holds_or_stutters.result c.holds_or_stutters.ensures)
 
-pub is_unchanged-is_unchanged_behind-requires : goal.is_unchanged-is_unchanged_behind-requires
-is_unchanged-is_unchanged_behind-requires t c =
+pub stepping::is_unchanged-is_unchanged_behind-requires : goal.stepping::is_unchanged-is_unchanged_behind-requires
+stepping::is_unchanged-is_unchanged_behind-requires t c =
     (omega (arith, c.decreases), (c.behind-kept.ensures.kept, reads_behind (table c.args.scene) (Reads (table c.args.scene) c.args.depth) (context c.args.scene) c.args.at c.args.term.now _ _ c.behind-kept.ensures.found c.requires))
 
-pub is_unchanged-returns : goal.is_unchanged-returns
-is_unchanged-returns t c =
+pub stepping::is_unchanged-returns : goal.stepping::is_unchanged-returns
+stepping::is_unchanged-returns t c =
     unchanged_behind (table c.args.scene) (Evaluates (table c.args.scene) c.args.depth) (context c.args.scene) c.args.at c.args.term.now _ _ c.is_unchanged_behind.result c.behind-kept.ensures.found c.is_unchanged_behind.ensures
 
-pub are_unchanged-loop-term-init : goal.are_unchanged-loop-term-init
-are_unchanged-loop-term-init t c =
+pub stepping::are_unchanged-loop-term-init : goal.stepping::are_unchanged-loop-term-init
+stepping::are_unchanged-loop-term-init t c =
     ((λ r h. h), to_items (λ (es : List Term). ReadsEach (Reads (table c.args.scene) c.args.depth) (context c.args.scene) (map (unchanged_of c.args.at) es)) _ _ c.items-term-items.ensures c.requires)
 
-pub are_unchanged-unchanged_below-requires : goal.are_unchanged-unchanged_below-requires
-are_unchanged-unchanged_below-requires t c =
+pub stepping::are_unchanged-unchanged_below-requires : goal.stepping::are_unchanged-unchanged_below-requires
+stepping::are_unchanged-unchanged_below-requires t c =
     let xs = c.items-term-items.result.now in
     let i = c.loop-term.term-index in
     let below : c.loop-term.term-index < length c.items-term-items.result.now = omega arith in
     let cut = cut_at xs i c.term-item.result below c.term-item.is in
     (omega (arith, c.decreases), (unchanged_parts (Reads (table c.args.scene) c.args.depth) (context c.args.scene) c.args.at xs i c.term-item.result cut c.loop-term.invariant.1).0)
 
-pub are_unchanged-returns-in-Ok-false : goal.are_unchanged-returns-in-Ok-false
-are_unchanged-returns-in-Ok-false t c =
+pub stepping::are_unchanged-returns-in-Ok-false : goal.stepping::are_unchanged-returns-in-Ok-false
+stepping::are_unchanged-returns-in-Ok-false t c =
     let P : Term → Outcome Bool = (λ item. TruthOf (Evaluates (table c.args.scene) c.args.depth) (context c.args.scene) (unchanged_of c.args.at item)) in
     let xs = c.items-term-items.result.now in
     let below : c.loop-term.term-index < length c.items-term-items.result.now = omega arith in
     of_items (λ es. AllTrue P es (Ok false)) xs c.args.terms.now c.items-term-items.ensures (all_denied P xs c.loop-term.term-index c.term-item.result (cut_at xs c.loop-term.term-index c.term-item.result below c.term-item.is) (subst (λ (b : Bool). P c.term-item.result (Ok b)) c.in-Ok-false.field-0-test c.in-Ok-false.ensures) c.loop-term.invariant.0)
 
-pub are_unchanged-returns-in-Err : goal.are_unchanged-returns-in-Err
-are_unchanged-returns-in-Err t c =
+pub stepping::are_unchanged-returns-in-Err : goal.stepping::are_unchanged-returns-in-Err
+stepping::are_unchanged-returns-in-Err t c =
     let P : Term → Outcome Bool = (λ item. TruthOf (Evaluates (table c.args.scene) c.args.depth) (context c.args.scene) (unchanged_of c.args.at item)) in
     let xs = c.items-term-items.result.now in
     let below : c.loop-term.term-index < length c.items-term-items.result.now = omega arith in
     of_items (λ es. Tells (Err c.in-Err.fault) (AllTrue P es)) xs c.args.terms.now c.items-term-items.ensures (all_stops P xs c.loop-term.term-index c.term-item.result c.in-Err.fault (cut_at xs c.loop-term.term-index c.term-item.result below c.term-item.is) c.in-Err.ensures c.loop-term.invariant.0)
 
-pub are_unchanged-loop-term-preserved : goal.are_unchanged-loop-term-preserved
-are_unchanged-loop-term-preserved t c =
+pub stepping::are_unchanged-loop-term-preserved : goal.stepping::are_unchanged-loop-term-preserved
+stepping::are_unchanged-loop-term-preserved t c =
     let P : Term → Outcome Bool = (λ item. TruthOf (Evaluates (table c.args.scene) c.args.depth) (context c.args.scene) (unchanged_of c.args.at item)) in
     let xs = c.items-term-items.result.now in
     let i = c.loop-term.term-index in
@@ -2014,64 +2014,64 @@ are_unchanged-loop-term-preserved t c =
       (unchanged_parts (Reads (table c.args.scene) c.args.depth) (context c.args.scene) c.args.at xs i c.term-item.result cut c.loop-term.invariant.1).1,
     )
 
-pub are_unchanged-returns : goal.are_unchanged-returns
-are_unchanged-returns t c =
+pub stepping::are_unchanged-returns : goal.stepping::are_unchanged-returns
+stepping::are_unchanged-returns t c =
     let P : Term → Outcome Bool = (λ item. TruthOf (Evaluates (table c.args.scene) c.args.depth) (context c.args.scene) (unchanged_of c.args.at item)) in
     let xs = c.items-term-items.result.now in
     let passed : length c.items-term-items.result.now ≤ c.loop-term.term-index = omega arith in
     of_items (λ es. AllTrue P es (Ok true)) xs c.args.terms.now c.items-term-items.ensures (all_ends P xs c.loop-term.term-index passed c.loop-term.invariant.0)
 
-pub unchanged_below-is_unchanged-requires : goal.unchanged_below-is_unchanged-requires
-unchanged_below-is_unchanged-requires t c =
+pub stepping::unchanged_below-is_unchanged-requires : goal.stepping::unchanged_below-is_unchanged-requires
+stepping::unchanged_below-is_unchanged-requires t c =
     let some : 0 < c.args.depth = omega (arith, c.if-depth-eq0.false) in
     let e = c.args.term.now in
     let read = reads_node (table c.args.scene) c.args.depth (context c.args.scene) c.args.at levels.Action (term.Prefix prefix.Unchanged e) (unchanged_of c.args.at e) refl some c.requires in
     (omega (arith, c.if-depth-eq0.false, c.decreases), read)
 
-pub unchanged_below-returns : goal.unchanged_below-returns
-unchanged_below-returns t c =
+pub stepping::unchanged_below-returns : goal.stepping::unchanged_below-returns
+stepping::unchanged_below-returns t c =
     let some : 0 < c.args.depth = omega (arith, c.if-depth-eq0.false) in
     unchanged_above (table c.args.scene) c.args.depth (context c.args.scene) c.args.at c.args.term.now c.is_unchanged.result some c.is_unchanged.ensures
 
-pub holds_or_stutters-returns-in-Ok-false : goal.holds_or_stutters-returns-in-Ok-false
-holds_or_stutters-returns-in-Ok-false t c =
+pub stepping::holds_or_stutters-returns-in-Ok-false : goal.stepping::holds_or_stutters-returns-in-Ok-false
+stepping::holds_or_stutters-returns-in-Ok-false t c =
     let P = TruthOf (Evaluates (table c.args.scene) c.args.depth) (context c.args.scene) in
     let fails = subst (λ (b : Bool). P c.args.action.now (Ok b)) c.in-Ok-false.field-0-test c.in-Ok-false.ensures in
     else_true P c.args.action.now (unchanged_of c.args.at c.args.subscript.now) c.unchanged_below.result fails c.unchanged_below.ensures
 
-pub is_unchanged_behind-are_unchanged-requires : goal.is_unchanged_behind-are_unchanged-requires
-is_unchanged_behind-are_unchanged-requires t c =
+pub stepping::is_unchanged_behind-are_unchanged-requires : goal.stepping::is_unchanged_behind-are_unchanged-requires
+stepping::is_unchanged_behind-are_unchanged-requires t c =
     let part = Reads (table c.args.scene) c.args.depth in
     let ctx = context c.args.scene in
-    let is = ap (λ (n : TermNode). Placed c.found.inside.at c.found.inside.level (node_view n)) (sym c.in-Tuple.is) ∙ c.found.view_is in
+    let is = ap (λ (n : TermNode). Placed c.found.inside.at c.found.inside.level (node_view n)) (sym c.in-Tuple.is ∙ c.deref.ensures) ∙ c.found.view_is in
     let read = subst (λ (f : Term). MeansUnchangedReads part ctx c.args.at c.args.term.now (within c.args.kept ctx) f) (sym is) c.requires.read in
     (omega (arith, c.decreases), rw (c.within.ensures.table, c.within.ensures.context) read)
 
-pub is_unchanged_behind-returns-in-Tuple : goal.is_unchanged_behind-returns-in-Tuple
-is_unchanged_behind-returns-in-Tuple t c =
+pub stepping::is_unchanged_behind-returns-in-Tuple : goal.stepping::is_unchanged_behind-returns-in-Tuple
+stepping::is_unchanged_behind-returns-in-Tuple t c =
     let r = c.are_unchanged.result in
     let ctx = context c.args.scene in
-    let is = ap (λ (n : TermNode). Placed c.found.inside.at c.found.inside.level (node_view n)) (sym c.in-Tuple.is) ∙ c.found.view_is in
+    let is = ap (λ (n : TermNode). Placed c.found.inside.at c.found.inside.level (node_view n)) (sym c.in-Tuple.is ∙ c.deref.ensures) ∙ c.found.view_is in
     let same = subst (λ (ops : Table). Tells r (AllTrue (λ item. TruthOf (Evaluates ops c.args.depth) (context c.within.result) (unchanged_of c.args.at item)) (terms_list c.in-Tuple.items))) c.within.ensures.table c.are_unchanged.ensures in
     let told = subst (λ (x : Context). Tells r (AllTrue (λ item. TruthOf (Evaluates (table c.args.scene) c.args.depth) x (unchanged_of c.args.at item)) (terms_list c.in-Tuple.items))) c.within.ensures.context same in
     subst (λ (f : Term). Tells r (MeansUnchanged (Evaluates (table c.args.scene) c.args.depth) ctx c.args.at c.args.term.now (within c.args.kept ctx) f)) is told
 
-pub is_still-returns-in-Ok : goal.is_still-returns-in-Ok
-is_still-returns-in-Ok t c =
+pub stepping::is_still-returns-in-Ok : goal.stepping::is_still-returns-in-Ok
+stepping::is_still-returns-in-Ok t c =
     let P = Evaluates (table c.args.scene) c.args.depth (context c.args.scene) c.args.term.now in
     let same = subst (λ (b : Bool). Decides (c.args.next.now ≡ c.in-Ok.now) (Ok b)) (sym c.eq.ensures) (same_value c.args.next.now c.in-Ok.now) in
     tells_then P (λ w. Decides (c.args.next.now ≡ w)) c.in-Ok.now (Ok c.eq.result) c.in-Ok.ensures same
 
-pub describe_parts-describe_part-requires : goal.describe_parts-describe_part-requires
-describe_parts-describe_part-requires t c =
+pub describing::describe_parts-describe_part-requires : goal.describing::describe_parts-describe_part-requires
+describing::describe_parts-describe_part-requires t c =
     let terms = c.args.terms.now in
     let i = c.loop-term.term-index in
     let below : c.loop-term.term-index < length c.args.terms.now = omega arith in
     let cut = cut_mapped (λ (e : Bor Term). e.now) terms i c.term-item.result (cut_at terms i c.term-item.result below c.term-item.is) in
     (omega (arith, c.decreases), (reads_at (Reads (table c.args.scene) c.args.depth) (context c.args.scene) (map (λ (e : Bor Term). e.now) terms) i c.term-item.result.now c.loop-term.invariant.1 cut).0)
 
-pub describe_parts-returns-in-Err-clause-fault : goal.describe_parts-returns-in-Err-clause-fault
-describe_parts-returns-in-Err-clause-fault t c =
+pub describing::describe_parts-returns-in-Err-clause-fault : goal.describing::describe_parts-returns-in-Err-clause-fault
+describing::describe_parts-returns-in-Err-clause-fault t c =
     let P = PartDescribed (Describes (table c.args.scene) c.args.depth) (context c.args.scene) in
     let terms = c.args.terms.now in
     let i = c.loop-term.term-index in
@@ -2079,8 +2079,8 @@ describe_parts-returns-in-Err-clause-fault t c =
     let cut = cut_mapped (λ (e : Bor Term). e.now) terms i c.term-item.result (cut_at terms i c.term-item.result below c.term-item.is) in
     each_stops P (map (λ (e : Bor Term). e.now) terms) i c.term-item.result.now c.loop-term.parts.items c.in-Err.fault cut c.in-Err.ensures.fine c.loop-term.invariant.0
 
-pub describe_parts-loop-term-preserved : goal.describe_parts-loop-term-preserved
-describe_parts-loop-term-preserved t c =
+pub describing::describe_parts-loop-term-preserved : goal.describing::describe_parts-loop-term-preserved
+describing::describe_parts-loop-term-preserved t c =
     let P = PartDescribed (Describes (table c.args.scene) c.args.depth) (context c.args.scene) in
     let terms = c.args.terms.now in
     let xs = map (λ (e : Bor Term). e.now) terms in
@@ -2092,8 +2092,8 @@ describe_parts-loop-term-preserved t c =
       ready_pushed c.loop-term.parts.items _ c.in-Ok.part c.in_ok-push-in-Ok.ensures c.loop-term.invariant.2 c.in-Ok.ensures.ready,
     )
 
-pub describe_parts-returns-clause-parts : goal.describe_parts-returns-clause-parts
-describe_parts-returns-clause-parts t c =
+pub describing::describe_parts-returns-clause-parts : goal.describing::describe_parts-returns-clause-parts
+describing::describe_parts-returns-clause-parts t c =
     let P = PartDescribed (Describes (table c.args.scene) c.args.depth) (context c.args.scene) in
     let terms = c.args.terms.now in
     let xs = map (λ (e : Bor Term). e.now) terms in

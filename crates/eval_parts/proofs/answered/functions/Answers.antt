@@ -6,7 +6,7 @@ use Rattle.tla_eval.specs.Sets.{set_at}
 use Rattle.tla_eval.proofs.Telling.{tells_then}
 use Rattle.tla_terms.specs.Terms.{place_of}
 use Rattle.eval_parts.proofs.Rows.{members_of}
-use Rattle.evaluator.proofs.evaluate.functions.Goals as goal
+use Rattle.eval_parts.proofs.answered.functions.Goals as goal
 
 pub returns-in-Ok-clause-fine : goal.returns-in-Ok-clause-fine
 returns-in-Ok-clause-fine c =

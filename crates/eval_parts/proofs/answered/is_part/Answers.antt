@@ -5,7 +5,7 @@ use Rattle.tla_eval.specs.Sets.{IsWithin, set_at}
 use Rattle.tla_eval.proofs.Telling.{tells_then}
 use Rattle.tla_terms.specs.Terms.{place_of}
 use Rattle.eval_parts.proofs.Rows.{members_of}
-use Rattle.evaluator.proofs.evaluate.is_part.Goals as goal
+use Rattle.eval_parts.proofs.answered.is_part.Goals as goal
 
 pub returns-in-Ok : goal.returns-in-Ok
 returns-in-Ok c =

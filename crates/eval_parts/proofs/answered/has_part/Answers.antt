@@ -5,7 +5,7 @@ use Rattle.tla_values.specs.Data.{Val}
 use Rattle.eval_sets.specs.Membership.{Belongs}
 use Rattle.tla_eval.specs.Sets.{set_at}
 use Rattle.tla_terms.specs.Terms.{place_of}
-use Rattle.evaluator.proofs.evaluate.has_part.Goals as goal
+use Rattle.eval_parts.proofs.answered.has_part.Goals as goal
 
 pub returns-in-Ok : goal.returns-in-Ok
 returns-in-Ok c =

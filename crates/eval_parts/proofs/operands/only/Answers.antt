@@ -1,6 +1,6 @@
 use Rattle.std.proofs.Common.{◌<◌, length, arith}
 use Rattle.eval_parts.proofs.Loops.{has_more}
-use Rattle.evaluator.proofs.evaluate.only.Goals as goal
+use Rattle.eval_parts.proofs.operands.only.Goals as goal
 
 pub returns : goal.returns
 returns c =

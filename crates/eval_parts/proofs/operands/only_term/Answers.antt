@@ -1,6 +1,6 @@
 use Rattle.std.proofs.Common.{ap, sym, ◌∙◌, length}
 use Rattle.eval_parts.proofs.Loops.{items_are, one_item}
-use Rattle.evaluator.proofs.evaluate.only_term.Goals as goal
+use Rattle.eval_parts.proofs.operands.only_term.Goals as goal
 
 pub returns : goal.returns
 returns c =

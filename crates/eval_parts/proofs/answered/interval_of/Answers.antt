@@ -3,7 +3,7 @@ use Rattle.trace_base.specs.declared.place.Place.{Place}
 use Rattle.tla_eval.specs.Answers.{Tells}
 use Rattle.tla_eval.specs.Sets.{IntervalDescribed}
 use Rattle.tla_terms.specs.Terms.{place_of}
-use Rattle.evaluator.proofs.evaluate.interval_of.Goals as goal
+use Rattle.eval_parts.proofs.answered.interval_of.Goals as goal
 
 pub returns-clause-fine : goal.returns-clause-fine
 returns-clause-fine c = λ at.
