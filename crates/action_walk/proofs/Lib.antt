@@ -5,3 +5,5 @@ pub mod Rows
 pub mod Tested
 pub mod Values
 pub mod Taken
+pub mod Seeing
+pub mod Told

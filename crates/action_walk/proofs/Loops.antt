@@ -32,15 +32,15 @@ pub record Apart {X : Type 0} (xs : List X) (i : ℕ) (x : X) : Type 0 where
 pub within : {X : Type 0} (xs : List X) (i : ℕ) (x : X) → Apart xs i x → Contains xs x
 within xs i x c = subst (λ ys. Contains ys x) c.whole (in_right (take i xs) (x ∷ drop (i + 1) xs) x (head_in x (drop (i + 1) xs)))
 
-pub apart : {X : Type 0} (xs : List X) (i : ℕ) (x : X) → drop i xs ≡ x ∷ drop (i + 1) xs → Apart xs i x
-apart xs i x c = record { rest = c; more = more xs i x c; whole = ap (λ ys. take i xs ++ ys) (sym c) ∙ whole xs i }
-  where
-    whole : {X : Type 0} (xs : List X) (i : ℕ) → take i xs ++ drop i xs ≡ xs
-    whole [] zero = refl
-    whole [] (suc i) = refl
-    whole (y ∷ xs) zero = refl
-    whole (y ∷ xs) (suc i) = ap (λ ys. y ∷ ys) (whole xs i)
+halves : {X : Type 0} (xs : List X) (i : ℕ) → take i xs ++ drop i xs ≡ xs
+halves [] zero = refl
+halves [] (suc i) = refl
+halves (y ∷ xs) zero = refl
+halves (y ∷ xs) (suc i) = ap (λ ys. y ∷ ys) (halves xs i)
 
+pub apart : {X : Type 0} (xs : List X) (i : ℕ) (x : X) → drop i xs ≡ x ∷ drop (i + 1) xs → Apart xs i x
+apart xs i x c = record { rest = c; more = more xs i x c; whole = ap (λ ys. take i xs ++ ys) (sym c) ∙ halves xs i }
+  where
     first : {X : Type 0} (x y : X) (xs ys : List X) → x ∷ xs ≡ y ∷ ys → x ≡ y
     first x y xs ys e = cc
 
@@ -119,6 +119,14 @@ module _ (g : Setting) (d : ℕ) (sees : List See) (p : Places) where
   pub any_ground : (es : Parts) (i : ℕ) (e : Context × Term) → Apart es i e → AnyGrounded g d sees p es → Grounded g d sees p e.0 e.1
   any_ground es i e c h = h e (within es i e c)
 
+  -- one of two parts
+  pub any_two : (e f : Context × Term) (qs rs new : List Places) → IsWalked g d sees p e.0 e.1 (Ok qs) → IsWalked g d sees p f.0 f.1 (Ok rs) → new ≡ qs ++ rs → AnyWalked g d sees p (e ∷ f ∷ []) (Ok new)
+  any_two e f qs rs new w v z =
+      let one : AnySoFar (e ∷ f ∷ []) 1 qs = any_step (e ∷ f ∷ []) 0 e [] qs qs (record { rest = refl; more = refl; whole = refl }) w refl (any_start (e ∷ f ∷ []) [] refl) in
+      let two : AnySoFar (e ∷ f ∷ []) 2 new = any_step (e ∷ f ∷ []) 1 f qs rs new (record { rest = refl; more = refl; whole = refl }) v z one in
+      let over : 2 ≤ 2 = omega arith in
+      any_done (e ∷ f ∷ []) 2 new over two
+
   -- all of the parts
 
   abbrev pub AllSoFar : Parts → ℕ → List Places → Type 0
@@ -153,6 +161,19 @@ module _ (g : Setting) (d : ℕ) (sees : List See) (p : Places) where
 
   pub all_done : (es : Parts) (i : ℕ) (qs : List Places) → length es ≤ i → AllSoFar es i qs → AllWalked g d sees p es (Ok qs)
   all_done es i qs l s B C h x = subst (λ (us : Parts). WalkedAll g d sees B p us (Ok qs)) (take_all i es l) (s B C h x).found
+
+  -- where nothing is found, the rest finds nothing
+  way_none : (B : VariableSet) (done rest : Parts) → IsOnTheWay g d sees B p done rest [] → IsOnTheWay g d sees B p (done ++ rest) [] []
+  way_none B done [] y = subst (λ (us : Parts). IsOnTheWay g d sees B p us [] []) (sym (to_end done)) y
+  way_none B done (e ∷ rest) y =
+      let next = way_goes_on g d sees B p done e rest [] [] y (λ D z. each_none sees (Fixes g e.1 D) (HoldsOf g d e.0 e.1) (FailsOf g d D e.0 e.1)) in
+      subst (λ (us : Parts). IsOnTheWay g d sees B p us [] []) (append_assoc done (e ∷ []) rest) (way_none B (done ++ e ∷ []) rest next)
+
+  pub all_ended : (es : Parts) (i : ℕ) (qs : List Places) → qs ≡ [] → AllSoFar es i qs → AllWalked g d sees p es (Ok qs)
+  all_ended es i qs z s B C h x =
+      let here = subst (λ (us : List Places). IsOnTheWay g d sees B p (take i es) (drop i es) us) z (s B C h x) in
+      let done = subst (λ (us : Parts). IsOnTheWay g d sees B p us [] []) (halves es i) (way_none B (take i es) (drop i es) here) in
+      subst (λ (us : List Places). WalkedAll g d sees B p es (Ok us)) (sym z) done.found
 
   -- a term under one combination after another
 
@@ -219,3 +240,9 @@ module _ (g : Setting) (d : ℕ) (sees : List See) (c : Context) (a : Term) wher
 
   pub each_ground : (ps : List Places) (i : ℕ) (p : Places) → Apart ps i p → EachGrounded g d sees ps c a → Grounded g d sees p c a
   each_ground ps i p k h = h p (within ps i p k)
+
+  -- from a single one
+  pub each_one : (p : Places) (r : Result (List Places) EvalFault) → IsWalked g d sees p c a r → EachWalked g d sees (p ∷ []) c a r
+  each_one p (Ok ss) w B h =
+      each_more sees [] p (Fixes g a B) (HoldsOf g d c a) (FailsOf g d B c a) [] ss (each_none sees (Fixes g a B) (HoldsOf g d c a) (FailsOf g d B c a)) (w B (h p (head_in p [])))
+  each_one p (Err f) w B h = each_refused sees (p ∷ []) p (Fixes g a B) (HoldsOf g d c a) (FailsOf g d B c a) f (head_in p []) (w B (h p (head_in p [])))

@@ -1,15 +1,11 @@
--- Parts of Rust as actions in their contexts.
-use Rattle.std.proofs.Common.{◌≡◌, refl, ap, ◌∙◌, List, [], ◌∷◌, map}
+-- Terms in a sense as actions in their contexts.
+use Rattle.std.proofs.Common.{◌≡◌, refl, ap, List, [], ◌∷◌, map}
 use Rattle.tla_terms.specs.Terms.{Term}
 use Rattle.tla_eval.specs.Contexts.{Context}
 use Rattle.found_states.specs.Parts.{Parts}
-use Rattle.action_rows.specs.Rows.{part_term}
-use Rattle.action_rows.specs.declared.part.Part.{Part}
-use Rattle.action_walk.specs.Walking.{parts_at}
+use Rattle.action_walk.specs.Walking.{in_sense, parts_of}
+use Rattle.action_walk.specs.declared.sense.Sense.{Sense}
 
-pub parts_are : (c : Context) (qs : List Part) (es : List Term) → map part_term qs ≡ es → parts_at c qs ≡ map (λ e. (c, e)) es
-parts_are c qs es e = each qs ∙ ap (λ (us : List Term). map (λ e. (c, e)) us) e
-  where
-    each : (qs : List Part) → parts_at c qs ≡ map (λ e. (c, e)) (map part_term qs)
-    each [] = refl
-    each (q ∷ qs) = ap (λ (us : Parts). (c, part_term q) ∷ us) (each qs)
+pub parts_are : (c : Context) (s : Sense) (es : List Term) → parts_of c s es ≡ map (λ e. (c, e)) (map (in_sense s) es)
+parts_are c s [] = refl
+parts_are c s (e ∷ es) = ap (λ (us : Parts). (c, in_sense s e) ∷ us) (parts_are c s es)

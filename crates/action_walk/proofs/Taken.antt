@@ -1,6 +1,8 @@
 -- The rows of Rust: what their parts rest on, and that what the parts find is what the row finds.
-use Rattle.std.proofs.Common.{◌≡◌, inl, inr, refl, sym, ap, ◌∙◌, subst, ℕ, suc, ◌≤◌, List, [], ◌∷◌, length, map, take}
-use Rattle.std.specs.Prelude.{Bool, true, Option, Some, Result, Ok, Err, slice_get, if◌then◌else◌}
+use Rattle.std.proofs.Common.{◌≡◌, inl, inr, refl, sym, ap, ◌∙◌, subst, ℕ, suc, ◌≤◌, List, [], ◌∷◌, ◌++◌, length, map, take}
+use Rattle.std.specs.Prelude.{◌⊎◌, Bool, true, Option, Some, Result, Ok, Err, slice_get, if◌then◌else◌}
+use Rattle.trace_base.specs.declared.place.Place.{Place}
+use Rattle.tla_values.specs.Ascending.{head_in}
 use Rattle.tla_values.specs.Data.{Val}
 use Rattle.tla_core.specs.declared.fault.Fault.{Fault}
 use Rattle.tla_terms.specs.declared.operator.Operator.{Operator}
@@ -12,7 +14,7 @@ use Rattle.tla_eval.specs.Binders.{BoundValues}
 use Rattle.tla_eval.specs.Contexts.{Context, Places, Table, enter, within}
 use Rattle.tla_eval.specs.Evaluates.{Evaluates}
 use Rattle.tla_eval.specs.Outcomes.{Each, fault}
-use Rattle.tla_eval.specs.Unchanged.{TruthOf, behind, changed_of}
+use Rattle.tla_eval.specs.Unchanged.{TruthOf, behind, changed_of, unchanged_of}
 use Rattle.tla_terms.specs.declared.level.Level.TheVariants as levels
 use Rattle.tla_actions.specs.declared.which.Which.{Which}
 use Rattle.tla_actions.specs.declared.which.Which.TheVariants as which
@@ -25,6 +27,7 @@ use Rattle.eval_parts.specs.declared.scene.Scene.{Scene}
 use Rattle.action_reads.specs.Filled.{at_next}
 use Rattle.action_reads.specs.Walkable.{ArmsWalk, Walkable}
 use Rattle.found_states.specs.Parts.{Parts}
+use Rattle.found_states.proofs.Lists.{in_right}
 use Rattle.found_states.proofs.Changes.{changing_grounds, changing_left, changing_ready, walked_changing, walked_changing_refused}
 use Rattle.action_rows.specs.Rows.{before, part_term, setting}
 use Rattle.action_rows.specs.declared.part.Part.{Part}
@@ -32,7 +35,9 @@ use Rattle.action_rows.specs.declared.part.Part.TheVariants as part
 use Rattle.action_values.specs.Tested.{IsTested}
 use Rattle.found_states.proofs.Placed.{at_slots}
 use Rattle.action_rows.specs.declared.stage.Stage.{Stage}
-use Rattle.action_walk.specs.Walking.{AllGrounded, AllWalked, AnyGrounded, AnyWalked, BodyGrounded, BodyWalked, EachReads, EachTested, Grounded, IsForm, IsWalked, PartGrounded, PartWalked, parts_at, under}
+use Rattle.action_walk.specs.Walking.{AllGrounded, AllWalked, AnyGrounded, AnyWalked, BodyGrounded, BodyWalked, EachReads, EachTested, Grounded, IsForm, IsWalked, PartGrounded, PartWalked, parts_of, under}
+use Rattle.action_walk.specs.declared.sense.Sense.TheVariants.{Itself, Unchanged}
+use Rattle.action_walk.proofs.Loops.{any_stop, any_two}
 use Rattle.action_walk.proofs.Parts.{parts_are}
 use Rattle.action_walk.proofs.Rows.{all_of_grounds, all_of_walked, form_walks, one_of_grounds, one_of_walked, only_grounds, only_walked, row_refused}
 
@@ -58,36 +63,72 @@ module _ (s : Stage) (vs : List Val) (d : ℕ) (p : Places) (q : Part) where
 
   -- all of the terms
 
-  pub both_grounds : (ts : List Term) (qs : List Part) → map part_term qs ≡ ts → IsForm s vs q (both ts) → PartGrounded s vs (suc d) p q → AllGrounded (setting s) d s.sees.now p (parts_at ctx qs)
-  both_grounds ts qs e i h = subst (λ (es : Parts). AllGrounded (setting s) d s.sees.now p es) (sym (parts_are ctx qs ts e))
+  pub both_grounds : (ts es : List Term) → es ≡ ts → IsForm s vs q (both ts) → PartGrounded s vs (suc d) p q → AllGrounded (setting s) d s.sees.now p (parts_of ctx Itself es)
+  both_grounds ts es e i h = subst (λ (us : List Term). AllGrounded (setting s) d s.sees.now p (parts_of ctx Itself us)) (sym e)
       (all_of_grounds (setting s) d s.sees.now p ctx a (both ts) i (map (λ e. (ctx, e)) ts) refl h)
 
-  pub both_walked : (ts : List Term) (qs : List Part) (r : Result (List Places) EvalFault) → map part_term qs ≡ ts → IsForm s vs q (both ts) → AllWalked (setting s) d s.sees.now p (parts_at ctx qs) r → PartWalked s vs (suc d) p q r
-  both_walked ts qs r e i h = all_of_walked (setting s) d s.sees.now p ctx a (both ts) i (map (λ e. (ctx, e)) ts) r refl
-      (subst (λ (es : Parts). AllWalked (setting s) d s.sees.now p es r) (parts_are ctx qs ts e) h)
+  pub both_walked : (ts es : List Term) (r : Result (List Places) EvalFault) → es ≡ ts → IsForm s vs q (both ts) → AllWalked (setting s) d s.sees.now p (parts_of ctx Itself es) r → PartWalked s vs (suc d) p q r
+  both_walked ts es r e i h = all_of_walked (setting s) d s.sees.now p ctx a (both ts) i (map (λ e. (ctx, e)) ts) r refl
+      (subst (λ (us : List Term). AllWalked (setting s) d s.sees.now p (parts_of ctx Itself us) r) e h)
 
   -- with fewer slots
 
-  pub narrowed_grounds : (n : ℕ) (us : List Val) (ts : List Term) (qs : List Part) → us ≡ take n vs → map part_term qs ≡ ts → IsForm s vs q (narrowed n ts) → PartGrounded s vs (suc d) p q
-      → AllGrounded (setting s) d s.sees.now p (parts_at (before s us) qs)
-  narrowed_grounds n us ts qs z e i h = subst (λ (ws : List Val). AllGrounded (setting s) d s.sees.now p (parts_at (before s ws) qs)) (sym z)
-      (subst (λ (es : Parts). AllGrounded (setting s) d s.sees.now p es) (sym (parts_are (within n ctx) qs ts e)) (all_of_grounds (setting s) d s.sees.now p ctx a (narrowed n ts) i (map (λ e. (within n ctx, e)) ts) refl h))
+  pub narrowed_grounds : (n : ℕ) (us : List Val) (at : Place) (ts es : List Term) → us ≡ take n vs → at ≡ place_of a → es ≡ ts → IsForm s vs q (narrowed n (map (unchanged_of (place_of a)) ts))
+      → PartGrounded s vs (suc d) p q → AllGrounded (setting s) d s.sees.now p (parts_of (before s us) (Unchanged at) es)
+  narrowed_grounds n us at ts es z w e i h =
+      let xs = map (unchanged_of (place_of a)) ts in
+      let all = all_of_grounds (setting s) d s.sees.now p ctx a (narrowed n xs) i (map (λ e. (within n ctx, e)) xs) refl h in
+      let here = subst (λ (ps : Parts). AllGrounded (setting s) d s.sees.now p ps) (sym (parts_are (within n ctx) (Unchanged (place_of a)) ts)) all in
+      let given = subst (λ (ys : List Term). AllGrounded (setting s) d s.sees.now p (parts_of (within n ctx) (Unchanged (place_of a)) ys)) (sym e) here in
+      let placed = subst (λ (x : Place). AllGrounded (setting s) d s.sees.now p (parts_of (within n ctx) (Unchanged x) es)) (sym w) given in
+      subst (λ (ws : List Val). AllGrounded (setting s) d s.sees.now p (parts_of (before s ws) (Unchanged at) es)) (sym z) placed
 
-  pub narrowed_walked : (n : ℕ) (us : List Val) (ts : List Term) (qs : List Part) (r : Result (List Places) EvalFault) → us ≡ take n vs → map part_term qs ≡ ts → IsForm s vs q (narrowed n ts)
-      → AllWalked (setting s) d s.sees.now p (parts_at (before s us) qs) r → PartWalked s vs (suc d) p q r
-  narrowed_walked n us ts qs r z e i h =
-      let w = subst (λ (ws : List Val). AllWalked (setting s) d s.sees.now p (parts_at (before s ws) qs) r) z h in
-      all_of_walked (setting s) d s.sees.now p ctx a (narrowed n ts) i (map (λ e. (within n ctx, e)) ts) r refl (subst (λ (es : Parts). AllWalked (setting s) d s.sees.now p es r) (parts_are (within n ctx) qs ts e) w)
+  pub narrowed_walked : (n : ℕ) (us : List Val) (at : Place) (ts es : List Term) (r : Result (List Places) EvalFault) → us ≡ take n vs → at ≡ place_of a → es ≡ ts
+      → IsForm s vs q (narrowed n (map (unchanged_of (place_of a)) ts)) → AllWalked (setting s) d s.sees.now p (parts_of (before s us) (Unchanged at) es) r → PartWalked s vs (suc d) p q r
+  narrowed_walked n us at ts es r z w e i h =
+      let xs = map (unchanged_of (place_of a)) ts in
+      let given = subst (λ (ws : List Val). AllWalked (setting s) d s.sees.now p (parts_of (before s ws) (Unchanged at) es) r) z h in
+      let placed = subst (λ (x : Place). AllWalked (setting s) d s.sees.now p (parts_of (within n ctx) (Unchanged x) es) r) w given in
+      let here = subst (λ (ys : List Term). AllWalked (setting s) d s.sees.now p (parts_of (within n ctx) (Unchanged (place_of a)) ys) r) e placed in
+      let all = subst (λ (ps : Parts). AllWalked (setting s) d s.sees.now p ps r) (parts_are (within n ctx) (Unchanged (place_of a)) ts) here in
+      all_of_walked (setting s) d s.sees.now p ctx a (narrowed n xs) i (map (λ e. (within n ctx, e)) xs) r refl all
 
   -- one of the terms
 
-  pub either_grounds : (ts : List Term) (qs : List Part) → map part_term qs ≡ ts → IsForm s vs q (either ts) → PartGrounded s vs (suc d) p q → AnyGrounded (setting s) d s.sees.now p (parts_at ctx qs)
-  either_grounds ts qs e i h = subst (λ (es : Parts). AnyGrounded (setting s) d s.sees.now p es) (sym (parts_are ctx qs ts e))
+  pub either_grounds : (ts es : List Term) → es ≡ ts → IsForm s vs q (either ts) → PartGrounded s vs (suc d) p q → AnyGrounded (setting s) d s.sees.now p (parts_of ctx Itself es)
+  either_grounds ts es e i h = subst (λ (us : List Term). AnyGrounded (setting s) d s.sees.now p (parts_of ctx Itself us)) (sym e)
       (one_of_grounds (setting s) d s.sees.now p ctx a (either ts) i (map (λ e. (ctx, e)) ts) refl h)
 
-  pub either_walked : (ts : List Term) (qs : List Part) (r : Result (List Places) EvalFault) → map part_term qs ≡ ts → IsForm s vs q (either ts) → AnyWalked (setting s) d s.sees.now p (parts_at ctx qs) r → PartWalked s vs (suc d) p q r
-  either_walked ts qs r e i h = one_of_walked (setting s) d s.sees.now p ctx a (either ts) i (map (λ e. (ctx, e)) ts) r refl
-      (subst (λ (es : Parts). AnyWalked (setting s) d s.sees.now p es r) (parts_are ctx qs ts e) h)
+  pub either_walked : (ts es : List Term) (r : Result (List Places) EvalFault) → es ≡ ts → IsForm s vs q (either ts) → AnyWalked (setting s) d s.sees.now p (parts_of ctx Itself es) r → PartWalked s vs (suc d) p q r
+  either_walked ts es r e i h = one_of_walked (setting s) d s.sees.now p ctx a (either ts) i (map (λ e. (ctx, e)) ts) r refl
+      (subst (λ (us : List Term). AnyWalked (setting s) d s.sees.now p (parts_of ctx Itself us) r) e h)
+
+  -- [A]_v
+
+  abbrev stays : Term → Term
+  stays v = unchanged_of (place_of a) v
+
+  abbrev one_or : Term → Term → Parts
+  one_or e f = (ctx, e) ∷ (ctx, f) ∷ []
+
+  pub boxed_grounds : (e v : Term) → IsForm s vs q (either (e ∷ unchanged_of (place_of a) v ∷ [])) → PartGrounded s vs (suc d) p q
+      → Grounded (setting s) d s.sees.now p ctx e × Grounded (setting s) d s.sees.now p ctx (unchanged_of (place_of a) v)
+  boxed_grounds e v i h =
+      let all = one_of_grounds (setting s) d s.sees.now p ctx a (either (e ∷ stays v ∷ [])) i (one_or e (stays v)) refl h in
+      (all (ctx, e) (head_in (ctx, e) ((ctx, stays v) ∷ [])), all (ctx, stays v) (in_right ((ctx, e) ∷ []) ((ctx, stays v) ∷ []) (ctx, stays v) (head_in (ctx, stays v) [])))
+
+  pub boxed_walked : (e v : Term) (at : Place) (qs new : List Places) → at ≡ place_of a → IsForm s vs q (either (e ∷ unchanged_of (place_of a) v ∷ [])) → IsWalked (setting s) d s.sees.now p ctx e (Ok qs)
+      → (rs : List Places) × IsWalked (setting s) d s.sees.now p ctx (unchanged_of at v) (Ok rs) × (new ≡ qs ++ rs) → PartWalked s vs (suc d) p q (Ok new)
+  boxed_walked e v at qs new z i w h =
+      let second = subst (λ (x : Place). IsWalked (setting s) d s.sees.now p ctx (unchanged_of x v) (Ok h.0)) z h.1 in
+      one_of_walked (setting s) d s.sees.now p ctx a (either (e ∷ stays v ∷ [])) i (one_or e (stays v)) (Ok new) refl (any_two (setting s) d s.sees.now p (ctx, e) (ctx, stays v) qs h.0 new w second h.2)
+
+  pub boxed_refused : (e v : Term) (f : EvalFault) → IsForm s vs q (either (e ∷ unchanged_of (place_of a) v ∷ []))
+      → IsWalked (setting s) d s.sees.now p ctx e (Err f) ⊎ IsWalked (setting s) d s.sees.now p ctx (unchanged_of (place_of a) v) (Err f) → PartWalked s vs (suc d) p q (Err f)
+  boxed_refused e v f i (inl w) = one_of_walked (setting s) d s.sees.now p ctx a (either (e ∷ stays v ∷ [])) i (one_or e (stays v)) (Err f) refl
+      (any_stop (setting s) d s.sees.now p (one_or e (stays v)) 0 (ctx, e) f (record { rest = refl; more = refl; whole = refl }) w)
+  boxed_refused e v f i (inr w) = one_of_walked (setting s) d s.sees.now p ctx a (either (e ∷ stays v ∷ [])) i (one_or e (stays v)) (Err f) refl
+      (any_stop (setting s) d s.sees.now p (one_or e (stays v)) 1 (ctx, stays v) f (record { rest = refl; more = refl; whole = refl }) w)
 
   -- IF
 

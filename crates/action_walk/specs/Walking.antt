@@ -1,5 +1,5 @@
 -- What the functions of the walk rest on, and what they answer: of every set of variables that may be the filled ones.
-use Rattle.std.specs.Prelude.{◌≡◌, ◌≤◌, ℕ, List, map, length, Contains, Result, Some, slice_get}
+use Rattle.std.specs.Prelude.{◌≡◌, ◌≤◌, ℕ, List, [], ◌∷◌, ◌++◌, map, length, Contains, Result, Ok, Some, slice_get}
 use Rattle.tla_values.specs.Data.{Val}
 use Rattle.tla_core.specs.States.{Values}
 use Rattle.tla_terms.specs.declared.operator.Operator.{Operator}
@@ -7,6 +7,7 @@ use Rattle.tla_terms.specs.Terms.{Term}
 use Rattle.tla_eval.specs.declared.fault.EvalFault.{EvalFault}
 use Rattle.tla_eval.specs.Contexts.{Context, Places, bind, enter}
 use Rattle.tla_eval.specs.Laws.{ReadsValues}
+use Rattle.tla_eval.specs.Unchanged.{unchanged_of}
 use Rattle.tla_actions.specs.Forms.{Form, Setting, form}
 use Rattle.tla_actions.specs.Reads.{VariableSet}
 use Rattle.path_updates.specs.declared.update.See.{See}
@@ -18,6 +19,10 @@ use Rattle.found_states.specs.Parts.{FixesAll, FoundEach, GroundsAll, Leads, Par
 use Rattle.action_rows.specs.Rows.{before, part_term, setting}
 use Rattle.action_rows.specs.declared.part.Part.{Part}
 use Rattle.action_rows.specs.declared.stage.Stage.{Stage}
+use Rattle.action_walk.specs.declared.found.Found.{Found}
+use Rattle.action_walk.specs.declared.found.Found.TheVariants as found
+use Rattle.action_walk.specs.declared.sense.Sense.{Sense}
+use Rattle.action_walk.specs.declared.sense.Sense.TheVariants as sense
 
 -- the walk of a term has its grounds, where some set of variables is filled
 abbrev pub Grounded : Setting → ℕ → List See → Places → Context → Term → Type 0
@@ -27,9 +32,19 @@ Grounded g d sees p c a = (B : VariableSet) × Grounds g d sees B p c a
 abbrev pub IsWalked : Setting → ℕ → List See → Places → Context → Term → Result (List Places) EvalFault → Type 0
 IsWalked g d sees p c a r = (B : VariableSet) → Grounds g d sees B p c a → Walked g d sees B p c a r
 
+-- the places that are found
+abbrev pub listed : Found → List Places
+listed (found.One p) = p ∷ []
+listed (found.Many ps) = ps.items
+
+-- the term that a part is which a term is in this sense
+abbrev pub in_sense : Sense → Term → Term
+in_sense sense.Itself e = e
+in_sense (sense.Unchanged at) e = unchanged_of at e
+
 -- parts, each with these slots in scope
-abbrev pub parts_at : Context → List Part → Parts
-parts_at c qs = map (λ q. (c, part_term q)) qs
+abbrev pub parts_of : Context → Sense → List Term → Parts
+parts_of c s es = map (λ e. (c, in_sense s e)) es
 
 -- all of them
 
@@ -63,6 +78,10 @@ PartGrounded s vs d p q = Grounded (setting s) d s.sees.now p (before s vs) (par
 
 abbrev pub PartWalked : Stage → List Val → ℕ → Places → Part → Result (List Places) EvalFault → Type 0
 PartWalked s vs d p q r = IsWalked (setting s) d s.sees.now p (before s vs) (part_term q) r
+
+-- what walking the part finds comes behind what was found before
+abbrev pub Adds : Stage → List Val → ℕ → Places → Part → List Places → List Places → Type 0
+Adds s vs d p q old new = (more : List Places) × PartWalked s vs d p q (Ok more) × (new ≡ old ++ more)
 
 -- the form that the part has
 abbrev pub IsForm : Stage → List Val → Part → Form → Type 0

@@ -15,17 +15,25 @@ ghost use Rattle.eval_parts.specs.Following.{variable_at};
 ghost use Rattle.eval_parts.specs.Walks.{AreWithin, at_places};
 ghost use Rattle.action_rows.specs.Rows.{before, form_of, part_term, setting};
 ghost use Rattle.eval_parts.specs.BoundSets.{bound_members};
-ghost use Rattle.action_walk.specs.Walking.{AllGrounded, AllWalked, AnyGrounded, AnyWalked, BodyGrounded, BodyWalked, EachGrounded, EachReads, EachTested, EachWalked, Grounded, IsForm, IsWalked, PartGrounded, PartWalked, parts_at, under};
+ghost use Rattle.eval_sets.specs.Soundness.{IsSound};
+ghost use Rattle.step_filling.specs.Fillings.{Chooses, FailsToChoose};
+ghost use Rattle.action_walk.specs.declared.sense.Sense.TheVariants.{Itself};
+ghost use Rattle.action_walk.specs.Walking.{Adds, AllGrounded, AllWalked, AnyGrounded, AnyWalked, BodyGrounded, BodyWalked, EachGrounded, EachReads, EachTested, EachWalked, Grounded, IsForm, IsWalked, PartGrounded, PartWalked, listed, parts_of, under};
 
-use crate::lists::{add_if, append, boxed_parts, outermost};
-use action_rows::{Part, Row, Stage, part_place, plain_parts, row_of, unchanged_parts};
+use crate::course::Course;
+use crate::found::{Found, found_if, joined};
+use crate::lists::{add_if, outermost};
+use crate::sense::{Sense, part_in};
+use action_rows::{Part, Row, Stage, part_place, row_of};
 use action_values::{changed_truth, chosen_arm, kept_value, part_truth, scene_at};
 use eval_parts::{
     BoundSet, advance, definition, has_combination, member_lists, slots_and, slots_with, start,
 };
+use eval_sets::Described;
 use evaluator::{describe_set, eval, eval_bounds, eval_each, eval_truth};
+use path_updates::See;
 use std::alloc::Global;
-use step_filling::{assigned, chosen, one_if, one_place};
+use step_filling::{assigned, chosen};
 use tla_core::{Partial, VarId};
 use tla_eval::EvalFault;
 use tla_terms::{Arms, Bounds, DefId, Term, Terms};
@@ -45,79 +53,85 @@ pub fn walk(
     ensures found { IfOk result (λ found. IsWalked (setting stage.entry) depth stage.entry.sees.now places (before stage.entry (map (λ v. v.now) slots.now)) term.now (Ok found.items)) }
     ensures fault { IfErr result (λ fault. IsWalked (setting stage.entry) depth stage.entry.sees.now places (before stage.entry (map (λ v. v.now) slots.now)) term.now (Err fault)) }
 {
-    walk_part(alloc, stage, slots, depth, places, Part::Plain(term))
+    let course = Course::new(stage);
+    match walk_part(alloc, &course, slots, depth, places, Part::Plain(term)) {
+        Ok(found) => Ok(found.into_list(alloc)?),
+        Err(fault) => Err(fault),
+    }
 }
 
 /// The same of a part.
 #[cycle(walk)]
 fn walk_part(
     alloc: Global,
-    stage: Stage<'_>,
+    course: &Course<'_>,
     slots: &[&Value],
     depth: u32,
     places: Partial,
     part: Part<'_>,
-) -> Result<Vec<Partial>, EvalFault>
-    requires { PartGrounded stage (map (λ v. v.now) slots.now) depth places part }
-    ensures found { IfOk result (λ found. PartWalked stage.entry (map (λ v. v.now) slots.now) depth places part.entry (Ok found.items)) }
-    ensures fault { IfErr result (λ fault. PartWalked stage.entry (map (λ v. v.now) slots.now) depth places part.entry (Err fault)) }
+) -> Result<Found, EvalFault>
+    requires { PartGrounded course.now.stage (map (λ v. v.now) slots.now) depth places part }
+    ensures found { IfOk result (λ found. PartWalked course.now.stage (map (λ v. v.now) slots.now) depth places part.entry (Ok (listed found))) }
+    ensures fault { IfErr result (λ fault. PartWalked course.now.stage (map (λ v. v.now) slots.now) depth places part.entry (Err fault)) }
 {
     if depth == 0 {
         return Err(EvalFault::Refused(EvalKind::Nested, part_place(part)));
     }
-    let row = row_of(stage, slots.len(), part);
-    walk_row(alloc, stage, slots, depth - 1, places, part, row)
+    let row = row_of(course.stage, slots.len(), part);
+    walk_row(alloc, course, slots, depth - 1, places, part, row)
 }
 
 /// The same by the form of the part, whose own parts have `depth` evaluations.
 #[cycle(walk)]
 fn walk_row(
     alloc: Global,
-    stage: Stage<'_>,
+    course: &Course<'_>,
     slots: &[&Value],
     depth: u32,
     places: Partial,
     part: Part<'_>,
     row: Row<'_>,
-) -> Result<Vec<Partial>, EvalFault>
+) -> Result<Found, EvalFault>
     requires few { depth < 4294967295 }
-    requires row { IsForm stage (map (λ v. v.now) slots.now) part (form_of (place_of (part_term part)) row) }
-    requires grounds { PartGrounded stage (map (λ v. v.now) slots.now) (suc depth) places part }
-    ensures found { IfOk result (λ found. PartWalked stage.entry (map (λ v. v.now) slots.now) (suc depth) places part.entry (Ok found.items)) }
-    ensures fault { IfErr result (λ fault. PartWalked stage.entry (map (λ v. v.now) slots.now) (suc depth) places part.entry (Err fault)) }
+    requires row { IsForm course.now.stage (map (λ v. v.now) slots.now) part (form_of (place_of (part_term part)) row) }
+    requires grounds { PartGrounded course.now.stage (map (λ v. v.now) slots.now) (suc depth) places part }
+    ensures found { IfOk result (λ found. PartWalked course.now.stage (map (λ v. v.now) slots.now) (suc depth) places part.entry (Ok (listed found))) }
+    ensures fault { IfErr result (λ fault. PartWalked course.now.stage (map (λ v. v.now) slots.now) (suc depth) places part.entry (Err fault)) }
 {
     match row {
-        Row::Test => walk_test(alloc, stage, slots, depth, places, part),
+        Row::Test => walk_test(alloc, course, slots, depth, places, part),
         Row::Assign(number, term) => {
-            walk_assign(alloc, stage, slots, depth, places, part, number, term)
+            walk_assign(alloc, course, slots, depth, places, part, number, term)
         }
-        Row::Keep(number) => walk_keep(alloc, stage, slots, depth, places, part, number),
+        Row::Keep(number) => walk_keep(alloc, course, slots, depth, places, part, number),
         Row::Choose(number, term) => {
-            walk_choose(alloc, stage, slots, depth, places, part, number, term)
+            walk_choose(alloc, course, slots, depth, places, part, number, term)
         }
-        Row::Both(terms) => walk_both(alloc, stage, slots, depth, places, part, terms),
+        Row::Both(terms) => walk_both(alloc, course, slots, depth, places, part, terms),
         Row::Unchanged(kept, terms) => {
-            walk_unchanged(alloc, stage, slots, depth, places, part, kept, terms)
+            walk_unchanged(alloc, course, slots, depth, places, part, kept, terms)
         }
-        Row::Either(terms) => walk_either(alloc, stage, slots, depth, places, part, terms),
+        Row::Either(terms) => walk_either(alloc, course, slots, depth, places, part, terms),
         Row::Boxed(action, subscript) => {
-            walk_boxed(alloc, stage, slots, depth, places, part, action, subscript)
+            walk_boxed(alloc, course, slots, depth, places, part, action, subscript)
         }
         Row::Angled(action, subscript) => {
-            walk_angled(alloc, stage, slots, depth, places, part, action, subscript)
+            walk_angled(alloc, course, slots, depth, places, part, action, subscript)
         }
         Row::Exists(bounds, body) => {
-            walk_exists(alloc, stage, slots, depth, places, part, bounds, body)
+            walk_exists(alloc, course, slots, depth, places, part, bounds, body)
         }
         Row::Branch(test, holds, other) => {
-            walk_branch(alloc, stage, slots, depth, places, part, test, holds, other)
+            walk_branch(
+                alloc, course, slots, depth, places, part, test, holds, other,
+            )
         }
         Row::Case(arms, other) => {
-            walk_case(alloc, stage, slots, depth, places, part, arms, other)
+            walk_case(alloc, course, slots, depth, places, part, arms, other)
         }
-        Row::Inside(inner) => walk_inside(alloc, stage, slots, depth, places, part, inner),
+        Row::Inside(inner) => walk_inside(alloc, course, slots, depth, places, part, inner),
         Row::Call(number, arguments) => {
-            walk_call(alloc, stage, slots, depth, places, part, number, arguments)
+            walk_call(alloc, course, slots, depth, places, part, number, arguments)
         }
     }
 }
@@ -125,20 +139,25 @@ fn walk_row(
 /// A part that is a test.
 fn walk_test(
     alloc: Global,
-    stage: Stage<'_>,
+    course: &Course<'_>,
     slots: &[&Value],
     depth: u32,
     places: Partial,
     part: Part<'_>,
-) -> Result<Vec<Partial>, EvalFault>
+) -> Result<Found, EvalFault>
     requires few { depth < 4294967295 }
-    requires form { IsForm stage (map (λ v. v.now) slots.now) part (test) }
-    requires grounds { PartGrounded stage (map (λ v. v.now) slots.now) (suc depth) places part }
-    ensures found { IfOk result (λ found. PartWalked stage.entry (map (λ v. v.now) slots.now) (suc depth) places part.entry (Ok found.items)) }
-    ensures fault { IfErr result (λ fault. PartWalked stage.entry (map (λ v. v.now) slots.now) (suc depth) places part.entry (Err fault)) }
+    requires form { IsForm course.now.stage (map (λ v. v.now) slots.now) part (test) }
+    requires grounds { PartGrounded course.now.stage (map (λ v. v.now) slots.now) (suc depth) places part }
+    ensures found { IfOk result (λ found. PartWalked course.now.stage (map (λ v. v.now) slots.now) (suc depth) places part.entry (Ok (listed found))) }
+    ensures fault { IfErr result (λ fault. PartWalked course.now.stage (map (λ v. v.now) slots.now) (suc depth) places part.entry (Err fault)) }
 {
-    match part_truth(alloc, scene_at(stage, slots, &places), depth + 1, part) {
-        Ok(holds) => Ok(one_if(alloc, holds, places)?),
+    match part_truth(
+        alloc,
+        scene_at(course.stage, slots, &places),
+        depth + 1,
+        part,
+    ) {
+        Ok(holds) => Ok(found_if(alloc, holds, places)),
         Err(fault) => Err(fault),
     }
 }
@@ -146,21 +165,27 @@ fn walk_test(
 /// A variable that has the value of a term.
 fn walk_assign(
     alloc: Global,
-    stage: Stage<'_>,
+    course: &Course<'_>,
     slots: &[&Value],
     depth: u32,
     places: Partial,
     part: Part<'_>,
     number: VarId,
     term: &Term,
-) -> Result<Vec<Partial>, EvalFault>
-    requires form { IsForm stage (map (λ v. v.now) slots.now) part (assign number.0 term.now) }
-    requires grounds { PartGrounded stage (map (λ v. v.now) slots.now) (suc depth) places part }
-    ensures found { IfOk result (λ found. PartWalked stage.entry (map (λ v. v.now) slots.now) (suc depth) places part.entry (Ok found.items)) }
-    ensures fault { IfErr result (λ fault. PartWalked stage.entry (map (λ v. v.now) slots.now) (suc depth) places part.entry (Err fault)) }
+) -> Result<Found, EvalFault>
+    requires form { IsForm course.now.stage (map (λ v. v.now) slots.now) part (assign number.0 term.now) }
+    requires grounds { PartGrounded course.now.stage (map (λ v. v.now) slots.now) (suc depth) places part }
+    ensures found { IfOk result (λ found. PartWalked course.now.stage (map (λ v. v.now) slots.now) (suc depth) places part.entry (Ok (listed found))) }
+    ensures fault { IfErr result (λ fault. PartWalked course.now.stage (map (λ v. v.now) slots.now) (suc depth) places part.entry (Err fault)) }
 {
-    match eval(alloc, scene_at(stage, slots, &places), depth, term) {
-        Ok(value) => Ok(assigned(alloc, stage.sees, places, number, value)?),
+    match eval(alloc, scene_at(course.stage, slots, &places), depth, term) {
+        Ok(value) => Ok(Found::Many(assigned(
+            alloc,
+            course.sees_of(number),
+            places,
+            number,
+            value,
+        )?)),
         Err(fault) => Err(fault),
     }
 }
@@ -168,25 +193,31 @@ fn walk_assign(
 /// A variable that keeps its value.
 fn walk_keep(
     alloc: Global,
-    stage: Stage<'_>,
+    course: &Course<'_>,
     slots: &[&Value],
     depth: u32,
     places: Partial,
     part: Part<'_>,
     number: VarId,
-) -> Result<Vec<Partial>, EvalFault>
-    requires form { IsForm stage (map (λ v. v.now) slots.now) part (assign number.0 (variable_at (place_of (part_term part)) number.0)) }
-    requires grounds { PartGrounded stage (map (λ v. v.now) slots.now) (suc depth) places part }
-    ensures found { IfOk result (λ found. PartWalked stage.entry (map (λ v. v.now) slots.now) (suc depth) places part.entry (Ok found.items)) }
-    ensures fault { IfErr result (λ fault. PartWalked stage.entry (map (λ v. v.now) slots.now) (suc depth) places part.entry (Err fault)) }
+) -> Result<Found, EvalFault>
+    requires form { IsForm course.now.stage (map (λ v. v.now) slots.now) part (assign number.0 (variable_at (place_of (part_term part)) number.0)) }
+    requires grounds { PartGrounded course.now.stage (map (λ v. v.now) slots.now) (suc depth) places part }
+    ensures found { IfOk result (λ found. PartWalked course.now.stage (map (λ v. v.now) slots.now) (suc depth) places part.entry (Ok (listed found))) }
+    ensures fault { IfErr result (λ fault. PartWalked course.now.stage (map (λ v. v.now) slots.now) (suc depth) places part.entry (Err fault)) }
 {
     match kept_value(
-        scene_at(stage, slots, &places),
+        scene_at(course.stage, slots, &places),
         depth,
         part_place(part),
         number,
     ) {
-        Ok(value) => Ok(assigned(alloc, stage.sees, places, number, value)?),
+        Ok(value) => Ok(Found::Many(assigned(
+            alloc,
+            course.sees_of(number),
+            places,
+            number,
+            value,
+        )?)),
         Err(fault) => Err(fault),
     }
 }
@@ -194,21 +225,41 @@ fn walk_keep(
 /// A variable whose value is a member of the set that a term means.
 fn walk_choose(
     alloc: Global,
-    stage: Stage<'_>,
+    course: &Course<'_>,
     slots: &[&Value],
     depth: u32,
     places: Partial,
     part: Part<'_>,
     number: VarId,
     term: &Term,
-) -> Result<Vec<Partial>, EvalFault>
-    requires form { IsForm stage (map (λ v. v.now) slots.now) part (choose number.0 term.now) }
-    requires grounds { PartGrounded stage (map (λ v. v.now) slots.now) (suc depth) places part }
-    ensures found { IfOk result (λ found. PartWalked stage.entry (map (λ v. v.now) slots.now) (suc depth) places part.entry (Ok found.items)) }
-    ensures fault { IfErr result (λ fault. PartWalked stage.entry (map (λ v. v.now) slots.now) (suc depth) places part.entry (Err fault)) }
+) -> Result<Found, EvalFault>
+    requires form { IsForm course.now.stage (map (λ v. v.now) slots.now) part (choose number.0 term.now) }
+    requires grounds { PartGrounded course.now.stage (map (λ v. v.now) slots.now) (suc depth) places part }
+    ensures found { IfOk result (λ found. PartWalked course.now.stage (map (λ v. v.now) slots.now) (suc depth) places part.entry (Ok (listed found))) }
+    ensures fault { IfErr result (λ fault. PartWalked course.now.stage (map (λ v. v.now) slots.now) (suc depth) places part.entry (Err fault)) }
 {
-    match describe_set(alloc, scene_at(stage, slots, &places), depth, term) {
-        Ok(set) => chosen(alloc, stage.sees, places, number, set, term.at),
+    match describe_set(alloc, scene_at(course.stage, slots, &places), depth, term) {
+        Ok(set) => found_chosen(alloc, course.sees_of(number), places, number, set, term.at),
+        Err(fault) => Err(fault),
+    }
+}
+
+/// What is found by choosing a value of the set.
+fn found_chosen(
+    alloc: Global,
+    sees: &[See],
+    places: Partial,
+    number: VarId,
+    set: Described,
+    at: Place,
+) -> Result<Found, EvalFault>
+    requires within { number.0 < length places }
+    requires sound { IsSound set }
+    ensures found { IfOk result (λ found. Chooses sees.now number.0 set at places (listed found)) }
+    ensures fault { IfErr result (FailsToChoose number.0 set at places) }
+{
+    match chosen(alloc, sees, places, number, set, at) {
+        Ok(list) => Ok(Found::Many(list)),
         Err(fault) => Err(fault),
     }
 }
@@ -217,119 +268,109 @@ fn walk_choose(
 #[cycle(walk)]
 fn walk_both(
     alloc: Global,
-    stage: Stage<'_>,
+    course: &Course<'_>,
     slots: &[&Value],
     depth: u32,
     places: Partial,
     part: Part<'_>,
     terms: &Terms,
-) -> Result<Vec<Partial>, EvalFault>
-    requires form { IsForm stage (map (λ v. v.now) slots.now) part (both (terms_list terms.now)) }
-    requires grounds { PartGrounded stage (map (λ v. v.now) slots.now) (suc depth) places part }
-    ensures found { IfOk result (λ found. PartWalked stage.entry (map (λ v. v.now) slots.now) (suc depth) places part.entry (Ok found.items)) }
-    ensures fault { IfErr result (λ fault. PartWalked stage.entry (map (λ v. v.now) slots.now) (suc depth) places part.entry (Err fault)) }
+) -> Result<Found, EvalFault>
+    requires form { IsForm course.now.stage (map (λ v. v.now) slots.now) part (both (terms_list terms.now)) }
+    requires grounds { PartGrounded course.now.stage (map (λ v. v.now) slots.now) (suc depth) places part }
+    ensures found { IfOk result (λ found. PartWalked course.now.stage (map (λ v. v.now) slots.now) (suc depth) places part.entry (Ok (listed found))) }
+    ensures fault { IfErr result (λ fault. PartWalked course.now.stage (map (λ v. v.now) slots.now) (suc depth) places part.entry (Err fault)) }
 {
-    let parts = plain_parts(alloc, terms)?;
-    walk_all(alloc, stage, slots, depth, places, &parts)
+    let terms = terms.items();
+    walk_all(alloc, course, slots, depth, places, Sense::Itself, terms)
 }
 
 /// That each of the terms is unchanged.
 #[cycle(walk)]
 fn walk_unchanged(
     alloc: Global,
-    stage: Stage<'_>,
+    course: &Course<'_>,
     slots: &[&Value],
     depth: u32,
     places: Partial,
     part: Part<'_>,
     kept: usize,
     terms: &Terms,
-) -> Result<Vec<Partial>, EvalFault>
-    requires form { IsForm stage (map (λ v. v.now) slots.now) part (narrowed kept (map (unchanged_of (place_of (part_term part))) (terms_list terms.now))) }
-    requires grounds { PartGrounded stage (map (λ v. v.now) slots.now) (suc depth) places part }
-    ensures found { IfOk result (λ found. PartWalked stage.entry (map (λ v. v.now) slots.now) (suc depth) places part.entry (Ok found.items)) }
-    ensures fault { IfErr result (λ fault. PartWalked stage.entry (map (λ v. v.now) slots.now) (suc depth) places part.entry (Err fault)) }
+) -> Result<Found, EvalFault>
+    requires form { IsForm course.now.stage (map (λ v. v.now) slots.now) part (narrowed kept (map (unchanged_of (place_of (part_term part))) (terms_list terms.now))) }
+    requires grounds { PartGrounded course.now.stage (map (λ v. v.now) slots.now) (suc depth) places part }
+    ensures found { IfOk result (λ found. PartWalked course.now.stage (map (λ v. v.now) slots.now) (suc depth) places part.entry (Ok (listed found))) }
+    ensures fault { IfErr result (λ fault. PartWalked course.now.stage (map (λ v. v.now) slots.now) (suc depth) places part.entry (Err fault)) }
 {
-    let parts = unchanged_parts(alloc, part_place(part), terms)?;
-    walk_all(
-        alloc,
-        stage,
-        outermost(&*slots, kept),
-        depth,
-        places,
-        &parts,
-    )
+    let sense = Sense::Unchanged(part_place(part));
+    let slots = outermost(&*slots, kept);
+    walk_all(alloc, course, slots, depth, places, sense, terms.items())
 }
 
 /// One of the terms.
 #[cycle(walk)]
 fn walk_either(
     alloc: Global,
-    stage: Stage<'_>,
+    course: &Course<'_>,
     slots: &[&Value],
     depth: u32,
     places: Partial,
     part: Part<'_>,
     terms: &Terms,
-) -> Result<Vec<Partial>, EvalFault>
-    requires form { IsForm stage (map (λ v. v.now) slots.now) part (either (terms_list terms.now)) }
-    requires grounds { PartGrounded stage (map (λ v. v.now) slots.now) (suc depth) places part }
-    ensures found { IfOk result (λ found. PartWalked stage.entry (map (λ v. v.now) slots.now) (suc depth) places part.entry (Ok found.items)) }
-    ensures fault { IfErr result (λ fault. PartWalked stage.entry (map (λ v. v.now) slots.now) (suc depth) places part.entry (Err fault)) }
+) -> Result<Found, EvalFault>
+    requires form { IsForm course.now.stage (map (λ v. v.now) slots.now) part (either (terms_list terms.now)) }
+    requires grounds { PartGrounded course.now.stage (map (λ v. v.now) slots.now) (suc depth) places part }
+    ensures found { IfOk result (λ found. PartWalked course.now.stage (map (λ v. v.now) slots.now) (suc depth) places part.entry (Ok (listed found))) }
+    ensures fault { IfErr result (λ fault. PartWalked course.now.stage (map (λ v. v.now) slots.now) (suc depth) places part.entry (Err fault)) }
 {
-    let parts = plain_parts(alloc, terms)?;
-    walk_any(alloc, stage, slots, depth, &places, &parts)
+    walk_any(alloc, course, slots, depth, &places, terms.items())
 }
 
 /// `[A]_v`.
 #[cycle(walk)]
 fn walk_boxed(
     alloc: Global,
-    stage: Stage<'_>,
+    course: &Course<'_>,
     slots: &[&Value],
     depth: u32,
     places: Partial,
     part: Part<'_>,
     action: &Term,
     subscript: &Term,
-) -> Result<Vec<Partial>, EvalFault>
-    requires form { IsForm stage (map (λ v. v.now) slots.now) part (either (action.now ∷ unchanged_of (place_of (part_term part)) subscript.now ∷ [])) }
-    requires grounds { PartGrounded stage (map (λ v. v.now) slots.now) (suc depth) places part }
-    ensures found { IfOk result (λ found. PartWalked stage.entry (map (λ v. v.now) slots.now) (suc depth) places part.entry (Ok found.items)) }
-    ensures fault { IfErr result (λ fault. PartWalked stage.entry (map (λ v. v.now) slots.now) (suc depth) places part.entry (Err fault)) }
+) -> Result<Found, EvalFault>
+    requires form { IsForm course.now.stage (map (λ v. v.now) slots.now) part (either (action.now ∷ unchanged_of (place_of (part_term part)) subscript.now ∷ [])) }
+    requires grounds { PartGrounded course.now.stage (map (λ v. v.now) slots.now) (suc depth) places part }
+    ensures found { IfOk result (λ found. PartWalked course.now.stage (map (λ v. v.now) slots.now) (suc depth) places part.entry (Ok (listed found))) }
+    ensures fault { IfErr result (λ fault. PartWalked course.now.stage (map (λ v. v.now) slots.now) (suc depth) places part.entry (Err fault)) }
 {
-    let parts = boxed_parts(alloc, part_place(part), &*action, &*subscript)?;
-    walk_any(alloc, stage, slots, depth, &places, &parts)
+    let rest = Part::Unchanged(part_place(part), subscript);
+    match walk_copy(alloc, course, slots, depth, &places, Part::Plain(action)) {
+        Ok(found) => walk_more(alloc, course, slots, depth, places, rest, found),
+        Err(fault) => Err(fault),
+    }
 }
 
 /// `<<A>>_v`: the action, and then that the value of `v` changes.
 #[cycle(walk)]
 fn walk_angled(
     alloc: Global,
-    stage: Stage<'_>,
+    course: &Course<'_>,
     slots: &[&Value],
     depth: u32,
     places: Partial,
     part: Part<'_>,
     action: &Term,
     subscript: &Term,
-) -> Result<Vec<Partial>, EvalFault>
-    requires form { IsForm stage (map (λ v. v.now) slots.now) part (changing action.now subscript.now) }
-    requires grounds { PartGrounded stage (map (λ v. v.now) slots.now) (suc depth) places part }
-    ensures found { IfOk result (λ found. PartWalked stage.entry (map (λ v. v.now) slots.now) (suc depth) places part.entry (Ok found.items)) }
-    ensures fault { IfErr result (λ fault. PartWalked stage.entry (map (λ v. v.now) slots.now) (suc depth) places part.entry (Err fault)) }
+) -> Result<Found, EvalFault>
+    requires form { IsForm course.now.stage (map (λ v. v.now) slots.now) part (changing action.now subscript.now) }
+    requires grounds { PartGrounded course.now.stage (map (λ v. v.now) slots.now) (suc depth) places part }
+    ensures found { IfOk result (λ found. PartWalked course.now.stage (map (λ v. v.now) slots.now) (suc depth) places part.entry (Ok (listed found))) }
+    ensures fault { IfErr result (λ fault. PartWalked course.now.stage (map (λ v. v.now) slots.now) (suc depth) places part.entry (Err fault)) }
 {
-    match walk_part(alloc, stage, slots, depth, places, Part::Plain(action)) {
+    match walk_part(alloc, course, slots, depth, places, Part::Plain(action)) {
         Ok(found) => {
-            changed_ones(
-                alloc,
-                stage,
-                slots,
-                depth,
-                part_place(part),
-                found,
-                subscript,
-            )
+            let list = found.into_list(alloc)?;
+            let at = part_place(part);
+            changed_ones(alloc, course, slots, depth, at, list, subscript)
         }
         Err(fault) => Err(fault),
     }
@@ -338,60 +379,70 @@ fn walk_angled(
 /// Those of the places in which the value of a term changes.
 fn changed_ones(
     alloc: Global,
-    stage: Stage<'_>,
+    course: &Course<'_>,
     slots: &[&Value],
     depth: u32,
     at: Place,
     found: Vec<Partial>,
     term: &Term,
-) -> Result<Vec<Partial>, EvalFault>
-    requires { EachReads (setting stage) depth found.items (before stage (map (λ v. v.now) slots.now)) (changed_of at term.now) }
-    ensures found { IfOk result (λ all. EachTested (setting stage.entry) depth stage.entry.sees.now found.items (before stage.entry (map (λ v. v.now) slots.now)) (changed_of at term.now) (Ok all.items)) }
-    ensures fault { IfErr result (λ fault. EachTested (setting stage.entry) depth stage.entry.sees.now found.items (before stage.entry (map (λ v. v.now) slots.now)) (changed_of at term.now) (Err fault)) }
+) -> Result<Found, EvalFault>
+    requires { EachReads (setting course.now.stage) depth found.items (before course.now.stage (map (λ v. v.now) slots.now)) (changed_of at term.now) }
+    ensures found { IfOk result (λ all. EachTested (setting course.now.stage) depth course.now.stage.sees.now found.items (before course.now.stage (map (λ v. v.now) slots.now)) (changed_of at term.now) (Ok (listed all))) }
+    ensures fault { IfErr result (λ fault. EachTested (setting course.now.stage) depth course.now.stage.sees.now found.items (before course.now.stage (map (λ v. v.now) slots.now)) (changed_of at term.now) (Err fault)) }
 {
-    let mut kept = Vec::new(alloc);
+    let mut kept = Vec::with_capacity(alloc, found.len())?;
     for places in found {
-        match changed_at(alloc, stage, slots, depth, at, &places, term) {
+        match changed_at(alloc, course, slots, depth, at, &places, term) {
             Ok(holds) => add_if(&mut kept, holds, places)?,
             Err(fault) => return Err(fault),
         }
     }
-    Ok(kept)
+    Ok(Found::Many(kept))
 }
 
 /// Whether the value of a term changes, in these places.
 fn changed_at(
     alloc: Global,
-    stage: Stage<'_>,
+    course: &Course<'_>,
     slots: &[&Value],
     depth: u32,
     at: Place,
     places: &Partial,
     term: &Term,
 ) -> Result<bool, EvalFault>
-    requires { Reads stage.operators.now depth (at_next stage.which (before stage (map (λ v. v.now) slots.now)) places.now) (changed_of at term.now) }
-    ensures { Tells result (TruthOf (Evaluates stage.entry.operators.now depth) (at_next stage.entry.which (before stage.entry (map (λ v. v.now) slots.now)) places.now) (changed_of at term.now)) }
+    requires { Reads course.now.stage.operators.now depth (at_next course.now.stage.which (before course.now.stage (map (λ v. v.now) slots.now)) places.now) (changed_of at term.now) }
+    ensures { Tells result (TruthOf (Evaluates course.now.stage.operators.now depth) (at_next course.now.stage.which (before course.now.stage (map (λ v. v.now) slots.now)) places.now) (changed_of at term.now)) }
 {
-    changed_truth(alloc, scene_at(stage, slots, places), depth, at, term)
+    changed_truth(
+        alloc,
+        scene_at(course.stage, slots, places),
+        depth,
+        at,
+        term,
+    )
 }
 
-/// All of the parts: the places that are found for the first ones are walked on with the next.
+/// All of the terms in this sense: the places that are found for the first ones are walked on with the next.
 #[cycle(walk)]
 fn walk_all(
     alloc: Global,
-    stage: Stage<'_>,
+    course: &Course<'_>,
     slots: &[&Value],
     depth: u32,
     places: Partial,
-    parts: &[Part<'_>],
-) -> Result<Vec<Partial>, EvalFault>
-    requires { AllGrounded (setting stage) depth stage.sees.now places (parts_at (before stage (map (λ v. v.now) slots.now)) parts.now) }
-    ensures found { IfOk result (λ found. AllWalked (setting stage.entry) depth stage.entry.sees.now places (parts_at (before stage.entry (map (λ v. v.now) slots.now)) parts.now) (Ok found.items)) }
-    ensures fault { IfErr result (λ fault. AllWalked (setting stage.entry) depth stage.entry.sees.now places (parts_at (before stage.entry (map (λ v. v.now) slots.now)) parts.now) (Err fault)) }
+    sense: Sense,
+    terms: &[Term],
+) -> Result<Found, EvalFault>
+    requires { AllGrounded (setting course.now.stage) depth course.now.stage.sees.now places (parts_of (before course.now.stage (map (λ v. v.now) slots.now)) sense terms.now) }
+    ensures found { IfOk result (λ found. AllWalked (setting course.now.stage) depth course.now.stage.sees.now places (parts_of (before course.now.stage (map (λ v. v.now) slots.now)) sense terms.now) (Ok (listed found))) }
+    ensures fault { IfErr result (λ fault. AllWalked (setting course.now.stage) depth course.now.stage.sees.now places (parts_of (before course.now.stage (map (λ v. v.now) slots.now)) sense terms.now) (Err fault)) }
 {
-    let mut found = one_place(alloc, places)?;
-    for part in parts {
-        match walk_from(alloc, stage, slots, depth, found, *part) {
+    let mut found = Found::One(places);
+    for term in terms {
+        if found.is_none() {
+            return Ok(found);
+        }
+        match walk_from(alloc, course, slots, depth, found, part_in(sense, term)) {
             Ok(further) => found = further,
             Err(fault) => return Err(fault),
         }
@@ -403,73 +454,114 @@ fn walk_all(
 #[cycle(walk)]
 fn walk_from(
     alloc: Global,
-    stage: Stage<'_>,
+    course: &Course<'_>,
     slots: &[&Value],
     depth: u32,
-    found: Vec<Partial>,
+    found: Found,
     part: Part<'_>,
-) -> Result<Vec<Partial>, EvalFault>
-    requires { EachGrounded (setting stage) depth stage.sees.now found.items (before stage (map (λ v. v.now) slots.now)) (part_term part) }
-    ensures found { IfOk result (λ all. EachWalked (setting stage.entry) depth stage.entry.sees.now found.items (before stage.entry (map (λ v. v.now) slots.now)) (part_term part.entry) (Ok all.items)) }
-    ensures fault { IfErr result (λ fault. EachWalked (setting stage.entry) depth stage.entry.sees.now found.items (before stage.entry (map (λ v. v.now) slots.now)) (part_term part.entry) (Err fault)) }
+) -> Result<Found, EvalFault>
+    requires { EachGrounded (setting course.now.stage) depth course.now.stage.sees.now (listed found) (before course.now.stage (map (λ v. v.now) slots.now)) (part_term part) }
+    ensures found { IfOk result (λ all. EachWalked (setting course.now.stage) depth course.now.stage.sees.now (listed found) (before course.now.stage (map (λ v. v.now) slots.now)) (part_term part.entry) (Ok (listed all))) }
+    ensures fault { IfErr result (λ fault. EachWalked (setting course.now.stage) depth course.now.stage.sees.now (listed found) (before course.now.stage (map (λ v. v.now) slots.now)) (part_term part.entry) (Err fault)) }
 {
-    let mut all = Vec::new(alloc);
-    for places in found {
-        match walk_part(alloc, stage, slots, depth, places, part) {
-            Ok(more) => append(&mut all, more)?,
+    match found {
+        Found::One(places) => walk_part(alloc, course, slots, depth, places, part),
+        Found::Many(list) => walk_each(alloc, course, slots, depth, list, part),
+    }
+}
+
+/// The same from each of a list.
+#[cycle(walk)]
+fn walk_each(
+    alloc: Global,
+    course: &Course<'_>,
+    slots: &[&Value],
+    depth: u32,
+    list: Vec<Partial>,
+    part: Part<'_>,
+) -> Result<Found, EvalFault>
+    requires { EachGrounded (setting course.now.stage) depth course.now.stage.sees.now list.items (before course.now.stage (map (λ v. v.now) slots.now)) (part_term part) }
+    ensures found { IfOk result (λ all. EachWalked (setting course.now.stage) depth course.now.stage.sees.now list.items (before course.now.stage (map (λ v. v.now) slots.now)) (part_term part.entry) (Ok (listed all))) }
+    ensures fault { IfErr result (λ fault. EachWalked (setting course.now.stage) depth course.now.stage.sees.now list.items (before course.now.stage (map (λ v. v.now) slots.now)) (part_term part.entry) (Err fault)) }
+{
+    let mut all = Found::none(alloc);
+    for places in list {
+        match walk_part(alloc, course, slots, depth, places, part) {
+            Ok(more) => all = joined(alloc, all, more)?,
             Err(fault) => return Err(fault),
         }
     }
     Ok(all)
 }
 
-/// One of the parts.
+/// One of the terms.
 #[cycle(walk)]
 fn walk_any(
     alloc: Global,
-    stage: Stage<'_>,
+    course: &Course<'_>,
     slots: &[&Value],
     depth: u32,
     places: &Partial,
-    parts: &[Part<'_>],
-) -> Result<Vec<Partial>, EvalFault>
-    requires { AnyGrounded (setting stage) depth stage.sees.now places.now (parts_at (before stage (map (λ v. v.now) slots.now)) parts.now) }
-    ensures found { IfOk result (λ found. AnyWalked (setting stage.entry) depth stage.entry.sees.now places.now (parts_at (before stage.entry (map (λ v. v.now) slots.now)) parts.now) (Ok found.items)) }
-    ensures fault { IfErr result (λ fault. AnyWalked (setting stage.entry) depth stage.entry.sees.now places.now (parts_at (before stage.entry (map (λ v. v.now) slots.now)) parts.now) (Err fault)) }
+    terms: &[Term],
+) -> Result<Found, EvalFault>
+    requires { AnyGrounded (setting course.now.stage) depth course.now.stage.sees.now places.now (parts_of (before course.now.stage (map (λ v. v.now) slots.now)) Itself terms.now) }
+    ensures found { IfOk result (λ found. AnyWalked (setting course.now.stage) depth course.now.stage.sees.now places.now (parts_of (before course.now.stage (map (λ v. v.now) slots.now)) Itself terms.now) (Ok (listed found))) }
+    ensures fault { IfErr result (λ fault. AnyWalked (setting course.now.stage) depth course.now.stage.sees.now places.now (parts_of (before course.now.stage (map (λ v. v.now) slots.now)) Itself terms.now) (Err fault)) }
 {
-    let mut found = Vec::new(alloc);
-    for part in parts {
-        match walk_copy(alloc, stage, slots, depth, places, *part) {
-            Ok(more) => append(&mut found, more)?,
+    let mut found = Found::none(alloc);
+    for term in terms {
+        match walk_copy(alloc, course, slots, depth, places, Part::Plain(term)) {
+            Ok(more) => found = joined(alloc, found, more)?,
             Err(fault) => return Err(fault),
         }
     }
     Ok(found)
 }
 
+/// A part from the places, behind what was found before.
+#[cycle(walk)]
+fn walk_more(
+    alloc: Global,
+    course: &Course<'_>,
+    slots: &[&Value],
+    depth: u32,
+    places: Partial,
+    part: Part<'_>,
+    found: Found,
+) -> Result<Found, EvalFault>
+    requires { PartGrounded course.now.stage (map (λ v. v.now) slots.now) depth places part }
+    ensures found { IfOk result (λ all. Adds course.now.stage (map (λ v. v.now) slots.now) depth places part.entry (listed found) (listed all)) }
+    ensures fault { IfErr result (λ fault. PartWalked course.now.stage (map (λ v. v.now) slots.now) depth places part.entry (Err fault)) }
+{
+    match walk_part(alloc, course, slots, depth, places, part) {
+        Ok(more) => Ok(joined(alloc, found, more)?),
+        Err(fault) => Err(fault),
+    }
+}
+
 /// A part from a copy of the places.
 #[cycle(walk)]
 fn walk_copy(
     alloc: Global,
-    stage: Stage<'_>,
+    course: &Course<'_>,
     slots: &[&Value],
     depth: u32,
     places: &Partial,
     part: Part<'_>,
-) -> Result<Vec<Partial>, EvalFault>
-    requires { PartGrounded stage (map (λ v. v.now) slots.now) depth places.now part }
-    ensures found { IfOk result (λ found. PartWalked stage.entry (map (λ v. v.now) slots.now) depth places.now part.entry (Ok found.items)) }
-    ensures fault { IfErr result (λ fault. PartWalked stage.entry (map (λ v. v.now) slots.now) depth places.now part.entry (Err fault)) }
+) -> Result<Found, EvalFault>
+    requires { PartGrounded course.now.stage (map (λ v. v.now) slots.now) depth places.now part }
+    ensures found { IfOk result (λ found. PartWalked course.now.stage (map (λ v. v.now) slots.now) depth places.now part.entry (Ok (listed found))) }
+    ensures fault { IfErr result (λ fault. PartWalked course.now.stage (map (λ v. v.now) slots.now) depth places.now part.entry (Err fault)) }
 {
     let same = places.copy(alloc)?;
-    walk_part(alloc, stage, slots, depth, same, part)
+    walk_part(alloc, course, slots, depth, same, part)
 }
 
 /// IF: the one term or the other.
 #[cycle(walk)]
 fn walk_branch(
     alloc: Global,
-    stage: Stage<'_>,
+    course: &Course<'_>,
     slots: &[&Value],
     depth: u32,
     places: Partial,
@@ -477,15 +569,15 @@ fn walk_branch(
     test: &Term,
     holds: &Term,
     other: &Term,
-) -> Result<Vec<Partial>, EvalFault>
-    requires form { IsForm stage (map (λ v. v.now) slots.now) part (branch test.now holds.now other.now) }
-    requires grounds { PartGrounded stage (map (λ v. v.now) slots.now) (suc depth) places part }
-    ensures found { IfOk result (λ found. PartWalked stage.entry (map (λ v. v.now) slots.now) (suc depth) places part.entry (Ok found.items)) }
-    ensures fault { IfErr result (λ fault. PartWalked stage.entry (map (λ v. v.now) slots.now) (suc depth) places part.entry (Err fault)) }
+) -> Result<Found, EvalFault>
+    requires form { IsForm course.now.stage (map (λ v. v.now) slots.now) part (branch test.now holds.now other.now) }
+    requires grounds { PartGrounded course.now.stage (map (λ v. v.now) slots.now) (suc depth) places part }
+    ensures found { IfOk result (λ found. PartWalked course.now.stage (map (λ v. v.now) slots.now) (suc depth) places part.entry (Ok (listed found))) }
+    ensures fault { IfErr result (λ fault. PartWalked course.now.stage (map (λ v. v.now) slots.now) (suc depth) places part.entry (Err fault)) }
 {
-    match eval_truth(alloc, scene_at(stage, &*slots, &places), depth, test) {
-        Ok(true) => walk_part(alloc, stage, slots, depth, places, Part::Plain(holds)),
-        Ok(false) => walk_part(alloc, stage, slots, depth, places, Part::Plain(other)),
+    match eval_truth(alloc, scene_at(course.stage, &*slots, &places), depth, test) {
+        Ok(true) => walk_part(alloc, course, slots, depth, places, Part::Plain(holds)),
+        Ok(false) => walk_part(alloc, course, slots, depth, places, Part::Plain(other)),
         Err(fault) => Err(fault),
     }
 }
@@ -494,22 +586,22 @@ fn walk_branch(
 #[cycle(walk)]
 fn walk_case(
     alloc: Global,
-    stage: Stage<'_>,
+    course: &Course<'_>,
     slots: &[&Value],
     depth: u32,
     places: Partial,
     part: Part<'_>,
     cases: &Arms,
     other: Option<&Term>,
-) -> Result<Vec<Partial>, EvalFault>
-    requires form { IsForm stage (map (λ v. v.now) slots.now) part (arms (arms_list cases.now) (option_copied other)) }
-    requires grounds { PartGrounded stage (map (λ v. v.now) slots.now) (suc depth) places part }
-    ensures found { IfOk result (λ found. PartWalked stage.entry (map (λ v. v.now) slots.now) (suc depth) places part.entry (Ok found.items)) }
-    ensures fault { IfErr result (λ fault. PartWalked stage.entry (map (λ v. v.now) slots.now) (suc depth) places part.entry (Err fault)) }
+) -> Result<Found, EvalFault>
+    requires form { IsForm course.now.stage (map (λ v. v.now) slots.now) part (arms (arms_list cases.now) (option_copied other)) }
+    requires grounds { PartGrounded course.now.stage (map (λ v. v.now) slots.now) (suc depth) places part }
+    ensures found { IfOk result (λ found. PartWalked course.now.stage (map (λ v. v.now) slots.now) (suc depth) places part.entry (Ok (listed found))) }
+    ensures fault { IfErr result (λ fault. PartWalked course.now.stage (map (λ v. v.now) slots.now) (suc depth) places part.entry (Err fault)) }
 {
-    let scene = scene_at(stage, &*slots, &places);
+    let scene = scene_at(course.stage, &*slots, &places);
     match chosen_arm(alloc, scene, depth, part_place(part), cases, other) {
-        Ok(term) => walk_part(alloc, stage, slots, depth, places, Part::Plain(term)),
+        Ok(term) => walk_part(alloc, course, slots, depth, places, Part::Plain(term)),
         Err(fault) => Err(fault),
     }
 }
@@ -518,40 +610,45 @@ fn walk_case(
 #[cycle(walk)]
 fn walk_inside(
     alloc: Global,
-    stage: Stage<'_>,
+    course: &Course<'_>,
     slots: &[&Value],
     depth: u32,
     places: Partial,
     part: Part<'_>,
     inner: &Term,
-) -> Result<Vec<Partial>, EvalFault>
-    requires form { IsForm stage (map (λ v. v.now) slots.now) part (inside inner.now) }
-    requires grounds { PartGrounded stage (map (λ v. v.now) slots.now) (suc depth) places part }
-    ensures found { IfOk result (λ found. PartWalked stage.entry (map (λ v. v.now) slots.now) (suc depth) places part.entry (Ok found.items)) }
-    ensures fault { IfErr result (λ fault. PartWalked stage.entry (map (λ v. v.now) slots.now) (suc depth) places part.entry (Err fault)) }
+) -> Result<Found, EvalFault>
+    requires form { IsForm course.now.stage (map (λ v. v.now) slots.now) part (inside inner.now) }
+    requires grounds { PartGrounded course.now.stage (map (λ v. v.now) slots.now) (suc depth) places part }
+    ensures found { IfOk result (λ found. PartWalked course.now.stage (map (λ v. v.now) slots.now) (suc depth) places part.entry (Ok (listed found))) }
+    ensures fault { IfErr result (λ fault. PartWalked course.now.stage (map (λ v. v.now) slots.now) (suc depth) places part.entry (Err fault)) }
 {
-    walk_part(alloc, stage, slots, depth, places, Part::Plain(inner))
+    walk_part(alloc, course, slots, depth, places, Part::Plain(inner))
 }
 
 /// A definition on arguments, which are evaluated first.
 #[cycle(walk)]
 fn walk_call(
     alloc: Global,
-    stage: Stage<'_>,
+    course: &Course<'_>,
     slots: &[&Value],
     depth: u32,
     places: Partial,
     part: Part<'_>,
     number: DefId,
     arguments: &Terms,
-) -> Result<Vec<Partial>, EvalFault>
-    requires form { IsForm stage (map (λ v. v.now) slots.now) part (call number.0 (terms_list arguments.now)) }
-    requires grounds { PartGrounded stage (map (λ v. v.now) slots.now) (suc depth) places part }
-    ensures found { IfOk result (λ found. PartWalked stage.entry (map (λ v. v.now) slots.now) (suc depth) places part.entry (Ok found.items)) }
-    ensures fault { IfErr result (λ fault. PartWalked stage.entry (map (λ v. v.now) slots.now) (suc depth) places part.entry (Err fault)) }
+) -> Result<Found, EvalFault>
+    requires form { IsForm course.now.stage (map (λ v. v.now) slots.now) part (call number.0 (terms_list arguments.now)) }
+    requires grounds { PartGrounded course.now.stage (map (λ v. v.now) slots.now) (suc depth) places part }
+    ensures found { IfOk result (λ found. PartWalked course.now.stage (map (λ v. v.now) slots.now) (suc depth) places part.entry (Ok (listed found))) }
+    ensures fault { IfErr result (λ fault. PartWalked course.now.stage (map (λ v. v.now) slots.now) (suc depth) places part.entry (Err fault)) }
 {
-    match eval_each(alloc, scene_at(stage, &*slots, &places), depth, arguments) {
-        Ok(values) => walk_body(alloc, stage, slots, depth, places, number, &values),
+    match eval_each(
+        alloc,
+        scene_at(course.stage, &*slots, &places),
+        depth,
+        arguments,
+    ) {
+        Ok(values) => walk_body(alloc, course, slots, depth, places, number, &values),
         Err(fault) => Err(fault),
     }
 }
@@ -560,22 +657,22 @@ fn walk_call(
 #[cycle(walk)]
 fn walk_body(
     alloc: Global,
-    stage: Stage<'_>,
+    course: &Course<'_>,
     slots: &[&Value],
     depth: u32,
     places: Partial,
     number: DefId,
     values: &[Value],
-) -> Result<Vec<Partial>, EvalFault>
-    requires { BodyGrounded (setting stage) depth stage.sees.now places (before stage (map (λ v. v.now) slots.now)) number.0 values.now }
-    ensures found { IfOk result (λ found. BodyWalked (setting stage.entry) depth stage.entry.sees.now places (before stage.entry (map (λ v. v.now) slots.now)) number.0 values.now (Ok found.items)) }
-    ensures fault { IfErr result (λ fault. BodyWalked (setting stage.entry) depth stage.entry.sees.now places (before stage.entry (map (λ v. v.now) slots.now)) number.0 values.now (Err fault)) }
+) -> Result<Found, EvalFault>
+    requires { BodyGrounded (setting course.now.stage) depth course.now.stage.sees.now places (before course.now.stage (map (λ v. v.now) slots.now)) number.0 values.now }
+    ensures found { IfOk result (λ found. BodyWalked (setting course.now.stage) depth course.now.stage.sees.now places (before course.now.stage (map (λ v. v.now) slots.now)) number.0 values.now (Ok (listed found))) }
+    ensures fault { IfErr result (λ fault. BodyWalked (setting course.now.stage) depth course.now.stage.sees.now places (before course.now.stage (map (λ v. v.now) slots.now)) number.0 values.now (Err fault)) }
 {
-    let operator = definition(stage.operators, number);
+    let operator = definition(course.stage.operators, number);
     let inner = slots_and(alloc, &*slots, operator.outer, values)?;
     walk_part(
         alloc,
-        stage,
+        course,
         &inner,
         depth,
         places,
@@ -587,21 +684,26 @@ fn walk_body(
 #[cycle(walk)]
 fn walk_exists(
     alloc: Global,
-    stage: Stage<'_>,
+    course: &Course<'_>,
     slots: &[&Value],
     depth: u32,
     places: Partial,
     part: Part<'_>,
     bounds: &Bounds,
     body: &Term,
-) -> Result<Vec<Partial>, EvalFault>
-    requires form { IsForm stage (map (λ v. v.now) slots.now) part (some bounds.now body.now) }
-    requires grounds { PartGrounded stage (map (λ v. v.now) slots.now) (suc depth) places part }
-    ensures found { IfOk result (λ found. PartWalked stage.entry (map (λ v. v.now) slots.now) (suc depth) places part.entry (Ok found.items)) }
-    ensures fault { IfErr result (λ fault. PartWalked stage.entry (map (λ v. v.now) slots.now) (suc depth) places part.entry (Err fault)) }
+) -> Result<Found, EvalFault>
+    requires form { IsForm course.now.stage (map (λ v. v.now) slots.now) part (some bounds.now body.now) }
+    requires grounds { PartGrounded course.now.stage (map (λ v. v.now) slots.now) (suc depth) places part }
+    ensures found { IfOk result (λ found. PartWalked course.now.stage (map (λ v. v.now) slots.now) (suc depth) places part.entry (Ok (listed found))) }
+    ensures fault { IfErr result (λ fault. PartWalked course.now.stage (map (λ v. v.now) slots.now) (suc depth) places part.entry (Err fault)) }
 {
-    match eval_bounds(alloc, scene_at(stage, &*slots, &places), depth, bounds) {
-        Ok(sets) => walk_over(alloc, stage, slots, depth, &places, &sets, body),
+    match eval_bounds(
+        alloc,
+        scene_at(course.stage, &*slots, &places),
+        depth,
+        bounds,
+    ) {
+        Ok(sets) => walk_over(alloc, course, slots, depth, &places, &sets, body),
         Err(fault) => Err(fault),
     }
 }
@@ -610,42 +712,42 @@ fn walk_exists(
 #[cycle(walk)]
 fn walk_over(
     alloc: Global,
-    stage: Stage<'_>,
+    course: &Course<'_>,
     slots: &[&Value],
     depth: u32,
     places: &Partial,
     sets: &[BoundSet],
     body: &Term,
-) -> Result<Vec<Partial>, EvalFault>
-    requires { AnyGrounded (setting stage) depth stage.sees.now places.now (under (before stage (map (λ v. v.now) slots.now)) body.now (combinations (ranges (map bound_members sets.now)))) }
-    ensures found { IfOk result (λ found. AnyWalked (setting stage.entry) depth stage.entry.sees.now places.now (under (before stage.entry (map (λ v. v.now) slots.now)) body.now (combinations (ranges (map bound_members sets.now)))) (Ok found.items)) }
-    ensures fault { IfErr result (λ fault. AnyWalked (setting stage.entry) depth stage.entry.sees.now places.now (under (before stage.entry (map (λ v. v.now) slots.now)) body.now (combinations (ranges (map bound_members sets.now)))) (Err fault)) }
+) -> Result<Found, EvalFault>
+    requires { AnyGrounded (setting course.now.stage) depth course.now.stage.sees.now places.now (under (before course.now.stage (map (λ v. v.now) slots.now)) body.now (combinations (ranges (map bound_members sets.now)))) }
+    ensures found { IfOk result (λ found. AnyWalked (setting course.now.stage) depth course.now.stage.sees.now places.now (under (before course.now.stage (map (λ v. v.now) slots.now)) body.now (combinations (ranges (map bound_members sets.now)))) (Ok (listed found))) }
+    ensures fault { IfErr result (λ fault. AnyWalked (setting course.now.stage) depth course.now.stage.sees.now places.now (under (before course.now.stage (map (λ v. v.now) slots.now)) body.now (combinations (ranges (map bound_members sets.now)))) (Err fault)) }
 {
     let lists = member_lists(alloc, sets)?;
-    walk_combinations(alloc, stage, slots, depth, places, &lists, body)
+    walk_combinations(alloc, course, slots, depth, places, &lists, body)
 }
 
 /// A term under each combination of members.
 #[cycle(walk)]
 fn walk_combinations(
     alloc: Global,
-    stage: Stage<'_>,
+    course: &Course<'_>,
     slots: &[&Value],
     depth: u32,
     places: &Partial,
     lists: &[&[Value]],
     body: &Term,
-) -> Result<Vec<Partial>, EvalFault>
-    requires { AnyGrounded (setting stage) depth stage.sees.now places.now (under (before stage (map (λ v. v.now) slots.now)) body.now (combinations (map (λ l. l.now) lists.now))) }
-    ensures found { IfOk result (λ found. AnyWalked (setting stage.entry) depth stage.entry.sees.now places.now (under (before stage.entry (map (λ v. v.now) slots.now)) body.now (combinations (map (λ l. l.now) lists.now))) (Ok found.items)) }
-    ensures fault { IfErr result (λ fault. AnyWalked (setting stage.entry) depth stage.entry.sees.now places.now (under (before stage.entry (map (λ v. v.now) slots.now)) body.now (combinations (map (λ l. l.now) lists.now))) (Err fault)) }
+) -> Result<Found, EvalFault>
+    requires { AnyGrounded (setting course.now.stage) depth course.now.stage.sees.now places.now (under (before course.now.stage (map (λ v. v.now) slots.now)) body.now (combinations (map (λ l. l.now) lists.now))) }
+    ensures found { IfOk result (λ found. AnyWalked (setting course.now.stage) depth course.now.stage.sees.now places.now (under (before course.now.stage (map (λ v. v.now) slots.now)) body.now (combinations (map (λ l. l.now) lists.now))) (Ok (listed found))) }
+    ensures fault { IfErr result (λ fault. AnyWalked (setting course.now.stage) depth course.now.stage.sees.now places.now (under (before course.now.stage (map (λ v. v.now) slots.now)) body.now (combinations (map (λ l. l.now) lists.now))) (Err fault)) }
 {
-    let mut found = Vec::new(alloc);
+    let mut found = Found::none(alloc);
     let mut indices = start(alloc, lists)?;
     let mut more = has_combination(lists);
     while more {
-        match walk_under(alloc, stage, slots, depth, places, lists, &indices, body) {
-            Ok(further) => append(&mut found, further)?,
+        match walk_under(alloc, course, slots, depth, places, lists, &indices, body) {
+            Ok(further) => found = joined(alloc, found, further)?,
             Err(fault) => return Err(fault),
         }
         more = advance(lists, &mut indices);
@@ -657,19 +759,19 @@ fn walk_combinations(
 #[cycle(walk)]
 fn walk_under(
     alloc: Global,
-    stage: Stage<'_>,
+    course: &Course<'_>,
     slots: &[&Value],
     depth: u32,
     places: &Partial,
     lists: &[&[Value]],
     indices: &[usize],
     body: &Term,
-) -> Result<Vec<Partial>, EvalFault>
-    requires grounds { Grounded (setting stage) depth stage.sees.now places.now (bind (before stage (map (λ v. v.now) slots.now)) (at_places (map (λ l. l.now) lists.now) indices.now)) body.now }
+) -> Result<Found, EvalFault>
+    requires grounds { Grounded (setting course.now.stage) depth course.now.stage.sees.now places.now (bind (before course.now.stage (map (λ v. v.now) slots.now)) (at_places (map (λ l. l.now) lists.now) indices.now)) body.now }
     requires within { AreWithin (map (λ l. l.now) lists.now) indices.now }
-    ensures found { IfOk result (λ found. IsWalked (setting stage.entry) depth stage.entry.sees.now places.now (bind (before stage.entry (map (λ v. v.now) slots.now)) (at_places (map (λ l. l.now) lists.now) indices.now)) body.now (Ok found.items)) }
-    ensures fault { IfErr result (λ fault. IsWalked (setting stage.entry) depth stage.entry.sees.now places.now (bind (before stage.entry (map (λ v. v.now) slots.now)) (at_places (map (λ l. l.now) lists.now) indices.now)) body.now (Err fault)) }
+    ensures found { IfOk result (λ found. IsWalked (setting course.now.stage) depth course.now.stage.sees.now places.now (bind (before course.now.stage (map (λ v. v.now) slots.now)) (at_places (map (λ l. l.now) lists.now) indices.now)) body.now (Ok (listed found))) }
+    ensures fault { IfErr result (λ fault. IsWalked (setting course.now.stage) depth course.now.stage.sees.now places.now (bind (before course.now.stage (map (λ v. v.now) slots.now)) (at_places (map (λ l. l.now) lists.now) indices.now)) body.now (Err fault)) }
 {
     let inner = slots_with(alloc, &*slots, &*lists, indices)?;
-    walk_copy(alloc, stage, &inner, depth, places, Part::Plain(body))
+    walk_copy(alloc, course, &inner, depth, places, Part::Plain(body))
 }

@@ -1,15 +1,10 @@
-//! Lists of places that are found, of slots, and of parts.
+//! Lists of places that are found, and of slots.
 
 ghost use Rattle.std.specs.Prelude.{◌≡◌, ◌++◌, ◌∷◌, [], IfOk, OnOk, if◌then◌else◌, map, take};
-ghost use Rattle.tla_eval.specs.Unchanged.{unchanged_of};
-ghost use Rattle.action_rows.specs.Rows.{part_term};
 
-use action_rows::Part;
 use std::alloc::{AllocError, Global};
 use tla_core::Partial;
-use tla_terms::Term;
 use tla_values::Value;
-use trace_base::Place;
 
 /// Adds places at the end. The first ones are taken as they come.
 pub fn append(found: &mut Vec<Partial>, more: Vec<Partial>) -> Result<(), AllocError>
@@ -48,19 +43,4 @@ pub fn outermost<'a, 'b>(slots: &'b [&'a Value], kept: usize) -> &'b [&'a Value]
 {
     let count = kept.min(slots.len());
     &slots[..count]
-}
-
-/// What `[A]_v` means: the action, or that `v` is unchanged.
-pub fn boxed_parts<'a>(
-    alloc: Global,
-    at: Place,
-    action: &'a Term,
-    subscript: &'a Term,
-) -> Result<Vec<Part<'a>>, AllocError>
-    ensures { IfOk result (λ parts. map part_term parts.items ≡ action.now ∷ unchanged_of at subscript.now ∷ []) }
-{
-    let mut parts = Vec::new(alloc);
-    parts.push(Part::Plain(action))?;
-    parts.push(Part::Unchanged(at, subscript))?;
-    Ok(parts)
 }

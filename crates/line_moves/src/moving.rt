@@ -32,7 +32,7 @@ pub fn moved(alloc: Global, updates: &Updates, from: &State) -> Result<Option<Pa
             return Ok(None);
         };
         value.is_value();
-        places.put(update.path.variable(), value);
+        places.put(update.path.variable(), value)?;
     }
     Ok(Some(places))
 }

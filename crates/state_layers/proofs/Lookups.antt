@@ -1,5 +1,5 @@
 -- What a map finds of a key, where equal keys are one key.
-use Rattle.std.proofs.Common.{◌≡◌, Bool, true, false, cond, not, List, [], ◌∷◌, ◌++◌, Option, None, Some, is_some, refl, sym, subst, ap, ◌∙◌, true≢false, ◌⊎◌, inl, inr, arith, ℕ}
+use Rattle.std.proofs.Common.{◌≡◌, Bool, true, false, cond, List, [], ◌∷◌, Option, None, Some, is_some, unwrap_or, if◌then◌else◌, refl, sym, subst, ap, ◌∙◌, true≢false, inl, inr, arith, ℕ}
 use Rattle.std.specs.List.{Contains}
 use Rattle.std.specs.Map.{lookup}
 use Rattle.indexmap.specs.IndexMap.{insert_entry, IndexMap, get}
@@ -31,10 +31,34 @@ module _ {A : Type 0} {E : A → A → Bool} (same : (a b : A) → E a b ≡ tru
         | inr b ↦ rest (sym (ap (λ c. is_some (cond c (Some e.1) (lookup (E k) es))) p) ∙ h) b
       ]
 
-  -- the key is looked up, and inserted where it is not found
-  pub adds_found : {S : Type 0} (m : IndexMap A ℕ S) (k : A) (from : ℕ) → is_some (get E m k) ≡ true → AddsNew m.entries k from m.entries
-  adds_found m k from h = inl (there m.entries k h, refl)
+  -- an entry that has its own value again
+  insert_same : (es : List (Found A)) (k : A) (v : ℕ) → lookup (E k) es ≡ Some v → insert_entry E es k v ≡ es
+  insert_same [] k v h = absurd (some_none h)
+    where
+      some_none : {B : Type 0} {b : B} → None ≡ Some b → ⊥
+      some_none e = absurd (true≢false (sym (ap is_some e)))
+  insert_same (e ∷ es) k v h = by (E k e.0) refl (insert_same es k v)
+    where
+      some_same : {B : Type 0} (a b : B) → Some a ≡ Some b → a ≡ b
+      some_same a b q = ap (λ o. unwrap_or o a) q
 
-  pub adds_inserted : {S : Type 0} (m : IndexMap A ℕ S) (k : A) (from : ℕ) (now : List (Found A)) → is_some (get E m k) ≡ false
-      → now ≡ insert_entry E m.entries k from → AddsNew m.entries k from now
-  adds_inserted m k from now h e = inr (not_there m.entries k h, e ∙ insert_entry-new E m k from (none_of (get E m k) h))
+      by : (b : Bool) → E k e.0 ≡ b → (lookup (E k) es ≡ Some v → insert_entry E es k v ≡ es) → insert_entry E (e ∷ es) k v ≡ e ∷ es
+      by true p rest =
+          let at : Some e.1 ≡ Some v = sym (ap (λ c. cond c (Some e.1) (lookup (E k) es)) p) ∙ h in
+          let own : (e.0, v) ≡ e = ap (λ (n : ℕ). (e.0, n)) (sym (some_same e.1 v at)) in
+          ap (λ c. if c then (e.0, v) ∷ es else e ∷ insert_entry E es k v) p ∙ ap (λ (f : Found A). f ∷ es) own
+      by false p rest =
+          let at : lookup (E k) es ≡ Some v = sym (ap (λ c. cond c (Some e.1) (lookup (E k) es)) p) ∙ h in
+          ap (λ c. if c then (e.0, v) ∷ es else e ∷ insert_entry E es k v) p ∙ ap (λ (fs : List (Found A)). e ∷ fs) (rest at)
+
+  -- the entry of the key keeps its value, or gets one where it had none
+  pub adds_entry : {S : Type 0} (m : IndexMap A ℕ S) (k : A) (from w : ℕ) (o : Option ℕ) (now : List (Found A)) → o ≡ get E m k → w ≡ unwrap_or o from
+      → now ≡ insert_entry E m.entries k w → AddsNew m.entries k from now
+  adds_entry m k from w None now h v e =
+      inr (not_there m.entries k (ap is_some (sym h)), e ∙ ap (λ (n : ℕ). insert_entry E m.entries k n) v ∙ insert_entry-new E m k from (sym h))
+  adds_entry m k from w (Some n) now h v e =
+      inl (there m.entries k (ap is_some (sym h)), e ∙ ap (λ (i : ℕ). insert_entry E m.entries k i) v ∙ insert_same m.entries k n (sym h))
+
+  pub adds_written : {S : Type 0} (m written : IndexMap A ℕ S) (k : A) (from w : ℕ) (o : Option ℕ) → o ≡ get E m k → w ≡ unwrap_or o from
+      → written.entries ≡ insert_entry E m.entries k w → (now : IndexMap A ℕ S) → now ≡ written → AddsNew m.entries k from now.entries
+  adds_written {S = S} m written k from w o h v e now same = adds_entry m k from w o now.entries h v (ap (λ (n : IndexMap A ℕ S). n.entries) same ∙ e)

@@ -4,5 +4,6 @@ pub mod Found
 pub mod Moves
 pub mod Says
 pub mod Kept
+pub mod Repeats
 pub mod Last
 pub mod Table

@@ -6,13 +6,15 @@ ghost use Rattle.state_layers.specs.Found.{members_of};
 ghost use Rattle.state_layers.specs.Moves.{IsSource, line_of, silents_of, line_after, silents_after, IsOpen, Moves, MoveFaults, MoveSeen, entries, at_layer, IsRange, Grown};
 ghost use Rattle.state_layers.specs.Says.{IsStop, Expands};
 ghost use Rattle.state_layers.specs.Kept.{Kept, IsBehind, nodes_of};
+ghost use Rattle.state_layers.specs.Repeats.{AllKnown};
 
 use crate::answer::{Answer, Stop};
 use crate::layer::merge;
 use crate::member::Member;
 use crate::node::{Move, Node};
+use crate::repeats::{KnownSteps, is_repeated, silent_steps};
 use crate::steps::{StepFault, Steps};
-use indexmap::IndexMap;
+use indexmap::{IndexMap, IndexSet};
 use std::alloc::{AllocError, Global};
 
 /// How many lines the layer that a move leads to is after.
@@ -37,22 +39,28 @@ fn silents_after_move(step: Move) -> u32
     }
 }
 
-/// The entries to which a move leads from a node.
+/// The entries to which a move leads from a node. Those of a silent step are kept where the line may ask for them again.
 fn list_steps<S: Steps>(
     alloc: Global,
     steps: &S,
     step: Move,
     node: &Node<S::Entry>,
     bound: u32,
+    known: &mut KnownSteps<S::Entry>,
 ) -> Result<Vec<S::Entry>, StepFault>
     requires ready { S.ready steps.now }
     requires opens { IsOpen (S.system steps.now) step }
     requires source { IsSource step node.now.line node.now.silents }
     requires reached { Layer (S.system steps.now) node.now.line node.now.silents node.now.entry }
-    ensures { Gives (Moves (S.system steps.now) step node.now.entry) (MoveFaults (S.system steps.now) step node.now.entry) (MoveSeen (S.system steps.now) step node.now.entry) bound result }
+    requires known { AllKnown (S.system steps.now) S.Entry.eq known.old.lists.entries }
+    ensures listed { Gives (Moves (S.system steps.now) step node.now.entry) (MoveFaults (S.system steps.now) step node.now.entry) (MoveSeen (S.system steps.now) step node.now.entry) bound result }
+    ensures known { IfOk result (λ list. AllKnown (S.system steps.now) S.Entry.eq known.new.lists.entries) }
 {
     match step {
-        Move::Wait { .. } => steps.silent(alloc, &node.entry, bound),
+        Move::Wait { silents, .. } => {
+            let keeps = silents < steps.within().saturating_sub(2);
+            silent_steps(alloc, steps, &node.entry, bound, known, keeps)
+        }
         Move::Go { line } => steps.successors(alloc, line, &node.entry, bound),
     }
 }
@@ -63,19 +71,22 @@ fn expand<S: Steps>(
     steps: &S,
     step: Move,
     node: &Node<S::Entry>,
+    known: &mut KnownSteps<S::Entry>,
 ) -> Result<Vec<S::Entry>, Stop>
     requires ready { S.ready steps.now }
     requires small { IsSmall (S.system steps.now) }
     requires opens { IsOpen (S.system steps.now) step }
     requires source { IsSource step node.now.line node.now.silents }
     requires reached { Layer (S.system steps.now) node.now.line node.now.silents node.now.entry }
+    requires known { AllKnown (S.system steps.now) S.Entry.eq known.old.lists.entries }
     ensures listed { IfOk result (λ list. Expands (S.system steps.now) step node.now.entry list.items) }
+    ensures known { IfOk result (λ list. AllKnown (S.system steps.now) S.Entry.eq known.new.lists.entries) }
     ensures stopped { IfErr result (λ stop. IsStop (S.system steps.now) stop) }
 {
     let line = line_after_move(step);
     let silents = silents_after_move(step);
     let bound = steps.limit();
-    match list_steps(alloc, steps, step, node, bound) {
+    match list_steps(alloc, steps, step, node, bound, known) {
         Ok(list) => Ok(list),
         Err(StepFault::Eval(fault)) => Err(Stop::Answered(Answer::Fault {
             after: node.line,
@@ -122,13 +133,14 @@ fn check_size<S: Steps>(
     Ok(())
 }
 
-/// The layer that a move leads to.
+/// The layer that a move leads to. An entry that several layers of a line have is gone on from once.
 fn grow<S: Steps>(
     alloc: Global,
     steps: &S,
     nodes: &[Node<S::Entry>],
     from: usize,
     step: Move,
+    known: &mut KnownSteps<S::Entry>,
 ) -> Result<IndexMap<S::Entry, u32>, Stop>
     requires ready { S.ready steps.now }
     requires small { IsSmall (S.system steps.now) }
@@ -136,16 +148,25 @@ fn grow<S: Steps>(
     requires kept { IsList (Upto (S.system steps.now) (line_of step) (silents_of (S.system steps.now) step)) (entries nodes.now) }
     requires range { IsRange step nodes.now from }
     requires room { length nodes.now ≤ (S.system steps.now).total }
+    requires known { AllKnown (S.system steps.now) S.Entry.eq known.old.lists.entries }
     ensures whole { IfOk result (λ layer. Grown (S.system steps.now) step nodes.now layer.entries) }
+    ensures known { IfOk result (λ layer. AllKnown (S.system steps.now) S.Entry.eq known.new.lists.entries) }
     ensures stopped { IfErr result (λ stop. IsStop (S.system steps.now) stop) }
 {
     let line = line_after_move(step);
     let silents = silents_after_move(step);
     let limit = steps.limit() as usize;
+    let may_repeat = matches!(step, Move::Go { .. }) && steps.within() > 1;
+    let mut gone = IndexSet::new(alloc);
     let mut layer = IndexMap::new(alloc);
     let mut index = from;
     while index < nodes.len() {
-        let list = expand(alloc, steps, step, &nodes[index])?;
+        let node = &nodes[index];
+        if is_repeated(&mut gone, &node.entry, may_repeat)? {
+            index += 1;
+            continue;
+        }
+        let list = expand(alloc, steps, step, node, known)?;
         merge(&mut layer, list, index as u32, limit)?;
         check_size(steps, nodes, &layer, line, silents)?;
         index += 1;
@@ -181,19 +202,22 @@ pub fn advance<S: Steps>(
     from: usize,
     step: Move,
     widest: usize,
+    known: &mut KnownSteps<S::Entry>,
 ) -> Result<usize, Stop>
     requires ready { S.ready steps.now }
     requires small { IsSmall (S.system steps.now) }
     requires opens { IsOpen (S.system steps.now) step }
     requires kept { Kept (S.system steps.now) (line_of step) (silents_of (S.system steps.now) step) nodes.old.items widest }
     requires range { IsRange step nodes.old.items from }
+    requires known { AllKnown (S.system steps.now) S.Entry.eq known.old.lists.entries }
     ensures kept { IfOk result (λ wide. Kept (S.system steps.now) (line_after step) (silents_after step) nodes.new.items wide) }
     ensures behind { OnOk result (IsBehind (S.system steps.now) step nodes.old.items nodes.new.items) }
+    ensures known { OnOk result (AllKnown (S.system steps.now) S.Entry.eq known.new.lists.entries) }
     ensures stopped { IfErr result (λ stop. IsStop (S.system steps.now) stop) }
 {
     let line = line_after_move(step);
     let silents = silents_after_move(step);
-    let layer = grow(alloc, steps, nodes, from, step)?;
+    let layer = grow(alloc, steps, nodes, from, step, known)?;
     let size = layer.len();
     keep(nodes, layer, line, silents)?;
     Ok(greater(widest, size))

@@ -81,7 +81,7 @@ fn gather<E: Member>(alloc: Global, nodes: Vec<Node<E>>) -> Result<Vec<E>, Alloc
 fn entries_of<E: Member>(alloc: Global, nodes: Vec<Node<E>>) -> Result<Vec<E>, AllocError>
     ensures { IfOk result (λ entries. entries.items ≡ map (λ x. x.entry) nodes.items) }
 {
-    let mut entries = Vec::new(alloc);
+    let mut entries = Vec::with_capacity(alloc, nodes.len())?;
     for node in nodes {
         entries.push(node.entry)?;
     }
@@ -91,7 +91,7 @@ fn entries_of<E: Member>(alloc: Global, nodes: Vec<Node<E>>) -> Result<Vec<E>, A
 pub fn into_entries<E: Member>(alloc: Global, layer: IndexMap<E, u32>) -> Result<Vec<E>, AllocError>
     ensures { IfOk result (λ entries. entries.items ≡ members_of layer.entries) }
 {
-    let mut entries = Vec::new(alloc);
+    let mut entries = Vec::with_capacity(alloc, layer.len())?;
     for (entry, _) in layer {
         entries.push(entry)?;
     }

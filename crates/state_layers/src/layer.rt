@@ -9,9 +9,7 @@ use std::alloc::{AllocError, Global};
 pub fn add<E: Member>(layer: &mut IndexMap<E, u32>, entry: E, from: u32) -> Result<(), AllocError>
     ensures { OnOk result (AddsNew layer.old.entries entry from layer.new.entries) }
 {
-    if !layer.contains_key(&entry) {
-        layer.insert(entry, from)?;
-    }
+    layer.entry(entry)?.or_insert(from);
     Ok(())
 }
 

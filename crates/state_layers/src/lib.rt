@@ -9,6 +9,7 @@ mod last;
 mod layer;
 mod member;
 mod node;
+mod repeats;
 mod search;
 mod steps;
 

@@ -5,6 +5,7 @@ ghost use Rattle.state_layers.specs.Gives.{IsReached, IsSmall};
 ghost use Rattle.state_layers.specs.Answers.{IsAnswer};
 ghost use Rattle.state_layers.specs.Last.{AreLast};
 ghost use Rattle.state_layers.specs.Says.{Says, IsStop};
+ghost use Rattle.state_layers.specs.Repeats.{AllKnown};
 ghost use Rattle.state_layers.specs.Kept.{AllLinked, AllReached, IsInitClear, Kept, Starts, Continues, first_of};
 
 use crate::answer::{Answer, Stop};
@@ -14,6 +15,7 @@ use crate::growth::advance;
 use crate::last::{Searched, unexplained};
 use crate::member::Member;
 use crate::node::{Move, Node};
+use crate::repeats::KnownSteps;
 use crate::steps::{StepFault, Steps};
 use std::alloc::{AllocError, Global};
 
@@ -73,7 +75,7 @@ fn first_nodes<S: Steps>(
 fn first_items<E: Member>(alloc: Global, list: Vec<E>) -> Result<Vec<Node<E>>, AllocError>
     ensures { IfOk result (λ nodes. nodes.items ≡ first_of list.items) }
 {
-    let mut nodes = Vec::new(alloc);
+    let mut nodes = Vec::with_capacity(alloc, list.len())?;
     for entry in list {
         nodes.push(Node {
             line: 0,
@@ -93,14 +95,17 @@ fn wait<S: Steps>(
     start: usize,
     line: u32,
     widest: usize,
+    known: &mut KnownSteps<S::Entry>,
 ) -> Result<usize, Stop>
     requires ready { S.ready steps.now }
     requires small { IsSmall (S.system steps.now) }
     requires left { line < (S.system steps.now).count }
     requires kept { Kept (S.system steps.now) line 0 nodes.old.items widest }
     requires starts { Starts line nodes.old.items start }
+    requires known { AllKnown (S.system steps.now) S.Entry.eq known.old.lists.entries }
     ensures kept { IfOk result (λ wide. Kept (S.system steps.now) line ((S.system steps.now).within - 1) nodes.new.items wide) }
     ensures starts { OnOk result (Continues line nodes.new.items start) }
+    ensures known { OnOk result (AllKnown (S.system steps.now) S.Entry.eq known.new.lists.entries) }
     ensures stopped { IfErr result (λ stop. IsStop (S.system steps.now) stop) }
 {
     let within = steps.within();
@@ -116,6 +121,7 @@ fn wait<S: Steps>(
             from,
             Move::Wait { line, silents },
             widest,
+            known,
         )?;
         from = end;
         silents += 1;
@@ -136,9 +142,11 @@ fn search<S: Steps>(alloc: Global, steps: &S) -> Result<Searched<S::Entry>, Stop
     let mut start = 0;
     let mut line = 0;
     while line < count {
-        widest = wait(alloc, steps, &mut nodes, start, line, widest)?;
+        let mut known = KnownSteps::new(alloc);
+        widest = wait(alloc, steps, &mut nodes, start, line, widest, &mut known)?;
         let end = nodes.len();
-        widest = advance(alloc, steps, &mut nodes, start, Move::Go { line }, widest)?;
+        let step = Move::Go { line };
+        widest = advance(alloc, steps, &mut nodes, start, step, widest, &mut known)?;
         if nodes.len() == end {
             return Ok(unexplained(alloc, steps, nodes, start, line)?);
         }

@@ -81,7 +81,7 @@ fn fill_each(
     requires { number.0 < length places.now }
     ensures { IfOk result (λ found. AreFilled sees.now number.0 values.now places.now found.items) }
 {
-    let mut found = Vec::new(alloc);
+    let mut found = Vec::with_capacity(alloc, values.len())?;
     for value in values {
         add_filled(alloc, &mut found, sees, places, number, value)?;
     }

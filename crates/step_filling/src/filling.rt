@@ -41,7 +41,7 @@ pub fn one_if(alloc: Global, holds: bool, places: Partial) -> Result<Vec<Partial
 pub fn one_place(alloc: Global, places: Partial) -> Result<Vec<Partial>, AllocError>
     ensures { IfOk result (λ found. found.items ≡ places ∷ []) }
 {
-    let mut found = Vec::new(alloc);
+    let mut found = Vec::with_capacity(alloc, 1)?;
     found.push(places)?;
     Ok(found)
 }
@@ -59,7 +59,7 @@ fn filled(
 {
     if is_seen(sees, number, &value) {
         let mut further = places;
-        further.put(number, value);
+        further.put(number, value)?;
         return one_place(alloc, further);
     }
     Ok(Vec::new(alloc))
@@ -97,7 +97,7 @@ fn with_value(
 {
     let mut further = places.copy(alloc)?;
     let copied = value.copy()?;
-    further.put(number, copied);
+    further.put(number, copied)?;
     Ok(further)
 }
 

@@ -5,4 +5,4 @@ mod choosing;
 mod filling;
 
 pub use choosing::chosen;
-pub use filling::{assigned, one_if, one_place};
+pub use filling::{assigned, one_place};

@@ -1,1 +1,2 @@
+mod StateHashes
 mod VariableSets

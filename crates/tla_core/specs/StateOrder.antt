@@ -8,9 +8,9 @@ use Rattle.std.proofs.Common.{subst}
 use Rattle.std.specs.Hash as fed
 use Rattle.std.specs.Hash.{HashWrites}
 use Rattle.tla_values.specs.Data.{Val}
-use Rattle.tla_values.specs.HashInput.{hash_input}
 use Rattle.tla_values.specs.Order.{val_cmp, val_eq}
 use Rattle.tla_values.specs.OrderLaws.{val_eq_equiv, val_same}
+use Rattle.tla_core.specs.StateHash.{state_hash}
 use Rattle.tla_core.specs.States.{Values}
 
 -- The states are equal: as long, and equal value by value.
@@ -21,9 +21,9 @@ state_eq = pointwise val_eq
 abbrev pub state_cmp : Values → Values → Ordering
 state_cmp = slice_cmp val_cmp
 
--- What a state feeds to a hasher: how many values it has, and then each.
+-- What a state feeds to a hasher: the hash that it keeps.
 abbrev pub state_input : Values → HashWrites
-state_input = fed.slice hash_input
+state_input s = fed.u64 (state_hash s)
 
 values_decide : (a b : Val) → Decides (val_eq a b) (a ≡ b)
 values_decide a b = (val_same a b, λ e. subst (λ (v : Val). IsTrue (val_eq a v)) e (val_eq_equiv.refl a))

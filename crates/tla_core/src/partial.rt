@@ -1,18 +1,64 @@
-ghost use Rattle.std.specs.Prelude.{◌≡◌, ◌<◌, IfOk, MatchOption, None, Some, length, map, replicate, slice_get, slice_set};
+ghost use Rattle.std.specs.Prelude.{◌≡◌, ◌<◌, IfOk, MatchOption, None, OnErr, OnOk, Some, length, map, replicate, slice_get, slice_set};
 ghost use Rattle.tla_core.specs.Partials.{HasEmpty};
 ghost use Rattle.tla_values.specs.Data.{Val};
 
 use crate::VarId;
 use crate::state::State;
-use std::alloc::Global;
+use std::alloc::{AllocError, Global};
 use std::marker::Model;
+use std::rc::Rc;
 use tla_values::Value;
 use trace_base::NoMemory;
 
-/// A state of which some values may be unknown, seen as the list of its places, each empty or with a value.
+/// Places, each empty or with a value, seen as the list of them.
+#[derive(Drop)]
+struct Places {
+    items: Vec<Option<Value>>,
+}
+
+impl Model for Places {
+    ghost use Rattle.std.specs.Prelude.{List, Option};
+    ghost use Rattle.tla_values.specs.Data.{Val};
+    ghost use Rattle.tla_core.specs.StateCodes.{places_code};
+
+    ghost Value = { List (Option Val) };
+
+    ghost coded = { places_code };
+
+    ghost view = { λ p. p.items.items };
+}
+
+impl Clone for Places {
+    ghost is_clone = { λ places copy. copy ≡ places };
+
+    fn clone(&self) -> Result<Places, AllocError> {
+        let alloc = *self.items.allocator();
+        let mut items = Vec::with_capacity(alloc, self.items.len())?;
+        for place in &self.items {
+            match place {
+                Some(value) => items.push(Some(value.copy()?))?,
+                None => items.push(None)?,
+            }
+        }
+        Ok(Places { items })
+    }
+}
+
+impl Places {
+    /// Gives the place this value.
+    fn put(&mut self, index: usize, value: Value)
+        requires within { index < length self.old }
+        ensures { self.new ≡ slice_set self.old index (Some value) }
+    {
+        self.items[index] = Some(value);
+    }
+}
+
+/// A state of which some values may be unknown, seen as the list of its places, each empty or with a value. Copies share
+/// their places until one of them is written.
 #[derive(Drop)]
 pub struct Partial {
-    places: Vec<Option<Value>>,
+    places: Rc<Places>,
 }
 
 impl Model for Partial {
@@ -24,7 +70,7 @@ impl Model for Partial {
 
     ghost coded = { places_code };
 
-    ghost view = { λ p. p.places.items };
+    ghost view = { λ p. p.places.value };
 }
 
 impl Partial {
@@ -36,7 +82,7 @@ impl Partial {
         for _ in 0..count {
             places.push(None)?;
         }
-        Ok(Partial { places })
+        shared(alloc, places)
     }
 
     /// The places of a state, each with its value.
@@ -47,33 +93,37 @@ impl Partial {
         for value in state.values() {
             places.push(Some(value.copy()?))?;
         }
-        Ok(Partial { places })
+        shared(alloc, places)
     }
 
     /// The value of the variable, if its place is there and has one.
     pub fn get(&self, v: VarId) -> Option<&Value>
         ensures { MatchOption result ((w : Val) → ¬ (slice_get self.now v.0 ≡ Some (Some w))) (λ w. slice_get self.now v.0 ≡ Some (Some w.now)) }
     {
-        match self.places.get(v.0 as usize) {
+        match self.places.items.get(v.0 as usize) {
             Some(Some(value)) => Some(value),
             _ => None,
         }
     }
 
-    /// Gives the variable this value.
-    pub fn put(&mut self, v: VarId, value: Value)
+    /// Gives the variable this value. For want of memory the places are as they were.
+    pub fn put(&mut self, v: VarId, value: Value) -> Result<(), NoMemory>
         requires within { v.0 < length self.old }
-        ensures { self.new ≡ slice_set self.old v.0 (Some value) }
+        ensures put { OnOk result (self.new ≡ slice_set self.old v.0 (Some value)) }
+        ensures kept { OnErr result (self.new ≡ self.old) }
     {
-        self.places[v.0 as usize] = Some(value);
+        let places = Rc::make_mut(&mut self.places)?;
+        places.put(v.0 as usize, value);
+        Ok(())
     }
 
     /// The state, if no place is empty.
     pub fn whole(&self, alloc: Global) -> Result<Option<State>, NoMemory>
         ensures { IfOk result (λ o. MatchOption o (HasEmpty self.now) (λ s. map Some s ≡ self.now)) }
     {
-        let mut values = Vec::with_capacity(alloc, self.places.len())?;
-        for place in &self.places {
+        let places = &self.places.items;
+        let mut values = Vec::with_capacity(alloc, places.len())?;
+        for place in places {
             match place {
                 Some(value) => values.push(value.copy()?)?,
                 None => return Ok(None),
@@ -82,17 +132,20 @@ impl Partial {
         Ok(Some(State::new(values)))
     }
 
-    /// Equal places.
-    pub fn copy(&self, alloc: Global) -> Result<Partial, NoMemory>
+    /// Equal places, which both share.
+    pub fn copy(&self, _alloc: Global) -> Result<Partial, NoMemory>
         ensures { IfOk result (λ p. p ≡ self.now) }
     {
-        let mut places = Vec::with_capacity(alloc, self.places.len())?;
-        for place in &self.places {
-            match place {
-                Some(value) => places.push(Some(value.copy()?))?,
-                None => places.push(None)?,
-            }
-        }
-        Ok(Partial { places })
+        Ok(Partial {
+            places: self.places.clone()?,
+        })
     }
+}
+
+/// These places, to be shared.
+fn shared(alloc: Global, items: Vec<Option<Value>>) -> Result<Partial, NoMemory>
+    ensures { IfOk result (λ p. p ≡ items.items) }
+{
+    let places = Rc::new(alloc, Places { items })?;
+    Ok(Partial { places })
 }

@@ -1,35 +1,43 @@
 ghost use Rattle.std.specs.Prelude.{◌≡◌, ◌++◌, [], ◌∷◌, ◌↔◌, ◌≤◌, length, reverse, slice_get, Some, MatchOption, OnOk, OnErr, IfOk, IsTrue};
+ghost use Rattle.tla_core.specs.StateHash.{state_hash};
 
 use std::alloc::{AllocError, Global};
+use std::hash::{FoldHasher, Hash, Hasher};
 use std::marker::Model;
 use tla_values::Value;
 use trace_base::LineAt;
 
 mod order;
 
-/// One value for each variable, in the order in which the variables are declared, seen as the list of them.
+/// One value for each variable, in the order in which the variables are declared, seen as the list of them. Their hash is
+/// kept, so that a state is told from others without a look at its values.
 #[derive(Drop)]
 pub struct State {
     values: Vec<Value>,
+    hash: u64,
 }
 
 impl Model for State {
-    ghost use Rattle.std.specs.Prelude.{List};
+    ghost use Rattle.std.specs.Prelude.{◌≡◌, List};
     ghost use Rattle.tla_values.specs.Data.{Val};
     ghost use Rattle.tla_core.specs.StateCodes.{values_code};
+    ghost use Rattle.tla_core.specs.StateHash.{state_hash};
 
     ghost Value = { List Val };
 
     ghost coded = { values_code };
 
     ghost view = { λ s. s.values.items };
+
+    ghost invariant = { λ s. s.hash ≡ state_hash s.values.items };
 }
 
 impl State {
     pub fn new(values: Vec<Value>) -> State
         ensures { result ≡ values.items }
     {
-        State { values }
+        let hash = hash_of(&values);
+        State { values, hash }
     }
 
     /// The value of the variable with this number, from 0.
@@ -50,7 +58,10 @@ impl State {
         ensures { IfOk result (λ s. s ≡ self.now) }
     {
         let values = copied(alloc, &self.values)?;
-        Ok(State { values })
+        Ok(State {
+            values,
+            hash: self.hash,
+        })
     }
 
     /// Whether both have the same values.
@@ -59,6 +70,16 @@ impl State {
     {
         self == other
     }
+}
+
+/// The hash of a state with these values.
+#[tactic(auto, unfolding(crate::specs::StateHash::state_hash))]
+fn hash_of(values: &Vec<Value>) -> u64
+    ensures { result ≡ state_hash values.now.items }
+{
+    let mut hasher = FoldHasher::default();
+    values.as_slice().hash(&mut hasher);
+    hasher.finish()
 }
 
 /// Copies of the values, in their order.

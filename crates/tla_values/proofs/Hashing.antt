@@ -1,26 +1,40 @@
--- What the members and the pairs of a value feed, one more at a time.
-use Rattle.std.proofs.Common.{◌≡◌, ℕ, ◌+◌, ◌<◌, List, [], ◌∷◌, ◌++◌, length, take, get_or, ap, sym, ◌∙◌, append_assoc, append-nil}
-use Rattle.std.proofs.lemmas.List.{take_more}
-use Rattle.std.specs.Hash.{HashWrites}
-use Rattle.tla_values.specs.Data.{Val, vals_of}
-use Rattle.tla_values.specs.HashInput.{hash_input, members_input, pairs_input}
+-- A loop that mixes one more hash in each time, a sequence's hash, which is of its values alone, and that different hashes
+-- tell values apart.
+use Rattle.std.proofs.Common.{◌≡◌, ℕ, suc, ◌+◌, ◌<◌, List, [], ◌∷◌, false, length, drop, get_or, refl, ap, sym, ◌∙◌}
+use Rattle.std.proofs.lemmas.List.{at_drop_more}
+use Rattle.tla_values.specs.Data.{Val, pairs_of, vals_of}
+use Rattle.tla_values.specs.Functions.{numbered_from}
+use Rattle.tla_values.specs.HashOf.{hash_of, mix, with_members, with_values}
 use Rattle.tla_values.specs.declared.value.Entry.{Entry}
-use Rattle.tla_values.specs.View.{entries_view}
+use Rattle.tla_values.specs.declared.value.Field.{Field}
+use Rattle.tla_values.specs.declared.value.Node.{Node}
+use Rattle.tla_values.specs.Order.{val_eq}
+use Rattle.tla_values.specs.View.{IsKept, entries_view, fields_view, kept_hash, node_view}
+use Rattle.tla_values.proofs.Comparing.{differ}
 
-members_push : (us : List Val) (v : Val) → members_input (vals_of (us ++ v ∷ [])) ≡ members_input (vals_of us) ++ hash_input v
-members_push [] v = append-nil (hash_input v)
-members_push (u ∷ us) v = ap (λ (w : HashWrites). hash_input u ++ w) (members_push us v) ∙ sym (append_assoc (hash_input u) (members_input (vals_of us)) (hash_input v))
+-- where F mixes in f of each in turn
+one_more : {X : Type 0} (F : ℕ → List X → ℕ) (f : X → ℕ) → ((h : ℕ) (x : X) (xs : List X) → F h (x ∷ xs) ≡ F (mix h (f x)) xs)
+    → (xs : List X) (i : ℕ) (x : X) (all before more after : ℕ) → x ≡ get_or xs i x → more ≡ f x → after ≡ mix before more
+    → F before (drop i xs) ≡ all → i < length xs → F after (drop (i + 1) xs) ≡ all
+one_more F f step xs i x all before more after q is made old h =
+    ap (λ n. F n (drop (i + 1) xs)) (made ∙ ap (mix before) (is ∙ ap f q)) ∙ (sym (step before (get_or xs i x) (drop (i + 1) xs)) ∙ (sym (at_drop_more (λ ys. F before ys) xs i x h) ∙ old))
 
-pub members_more : (us : List Val) (i : ℕ) (v : Val) → i < length us → v ≡ get_or us i v → members_input (vals_of (take i us)) ++ hash_input v ≡ members_input (vals_of (take (i + 1) us))
-members_more us i v h e = rw (take_more us i v, ← e) (sym (members_push (take i us) v))
+pub members_more : (us : List Val) (i : ℕ) (v : Val) (all before more after : ℕ) → v ≡ get_or us i v → more ≡ hash_of v → after ≡ mix before more
+    → with_members before (vals_of (drop i us)) ≡ all → i < length us → with_members after (vals_of (drop (i + 1) us)) ≡ all
+members_more = one_more (λ h us. with_members h (vals_of us)) (λ v. hash_of v) (λ h v us. refl)
 
-pairs_push : (us : List Entry) (v : Entry) → pairs_input (entries_view (us ++ v ∷ [])) ≡ pairs_input (entries_view us) ++ (hash_input v.key ++ hash_input v.value)
-pairs_push [] v = ap (λ (w : HashWrites). hash_input v.key ++ w) (append-nil (hash_input v.value))
-pairs_push (u ∷ us) v =
-    ap (λ (w : HashWrites). hash_input u.key ++ (hash_input u.value ++ w)) (pairs_push us v)
-    ∙ ap (λ (w : HashWrites). hash_input u.key ++ w) (sym (append_assoc (hash_input u.value) (pairs_input (entries_view us)) (hash_input v.key ++ hash_input v.value)))
-    ∙ sym (append_assoc (hash_input u.key) (hash_input u.value ++ pairs_input (entries_view us)) (hash_input v.key ++ hash_input v.value))
+pub entries_more : (es : List Entry) (i : ℕ) (e : Entry) (all before more after : ℕ) → e ≡ get_or es i e → more ≡ hash_of e.value → after ≡ mix before more
+    → with_values before (entries_view (drop i es)) ≡ all → i < length es → with_values after (entries_view (drop (i + 1) es)) ≡ all
+entries_more = one_more (λ h es. with_values h (entries_view es)) (λ e. hash_of e.value) (λ h e es. refl)
 
-pub pairs_more : (us : List Entry) (i : ℕ) (v : Entry) → i < length us → v ≡ get_or us i v
-    → pairs_input (entries_view (take i us)) ++ (hash_input v.key ++ hash_input v.value) ≡ pairs_input (entries_view (take (i + 1) us))
-pairs_more us i v h e = rw (take_more us i v, ← e) (sym (pairs_push (take i us) v))
+pub fields_more : (fs : List Field) (i : ℕ) (f : Field) (all before more after : ℕ) → f ≡ get_or fs i f → more ≡ hash_of f.value → after ≡ mix before more
+    → with_values before (fields_view (drop i fs)) ≡ all → i < length fs → with_values after (fields_view (drop (i + 1) fs)) ≡ all
+fields_more = one_more (λ h fs. with_values h (fields_view fs)) (λ f. hash_of f.value) (λ h f fs. refl)
+
+-- the places are left out
+pub sequence_hash : (hash m : ℕ) (vs : List Val) → with_members hash (vals_of vs) ≡ with_values hash (pairs_of (numbered_from m vs))
+sequence_hash hash m [] = refl
+sequence_hash hash m (v ∷ vs) = sequence_hash (mix hash (hash_of v)) (suc m) vs
+
+pub told_apart : (m n : Node) → IsKept m → IsKept n → ¬ (kept_hash m ≡ kept_hash n) → false ≡ val_eq (node_view m) (node_view n)
+told_apart m n k l h = differ (node_view m) (node_view n) (λ e. h (k.hash_is ∙ (ap (λ v. hash_of v) e ∙ sym l.hash_is)))

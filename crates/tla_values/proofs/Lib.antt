@@ -2,6 +2,7 @@ pub mod Depths
 pub mod Lexicographic
 pub mod Comparing
 pub mod Entries
+pub mod Forms
 pub mod SetLemmas
 pub mod FunctionLemmas
 pub mod MakingLaws

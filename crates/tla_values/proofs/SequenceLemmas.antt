@@ -8,8 +8,6 @@ use Rattle.std.specs.List.Sorted.{IsStrictlySortedBy}
 use Rattle.std.proofs.lemmas.Int.{ints}
 use Rattle.std.proofs.lemmas.Bool.Decides.{nat_tests}
 use Rattle.tla_values.specs.Data.{Val, integer, function, Pairs, no_pairs, more_pairs, entries, pairs_of, pairs_depth, vals_of, vals_depth}
-use Rattle.tla_values.specs.declared.value.Entry.{Entry}
-use Rattle.tla_values.specs.View.{entries_view}
 use Rattle.tla_values.specs.IsValue.{IsValue, HaveCanonical, AreCanonical}
 use Rattle.tla_values.specs.Order.{val_cmp}
 use Rattle.tla_values.specs.Functions.{numbered_from, sequence_of}
@@ -53,14 +51,14 @@ pub valid_sequence : (vs : List Val) → length vs ≤ 100000 → AreCanonical (
 valid_sequence vs l k d =
     valid_function (numbered_from 1 vs) (ascending-numbered 1 vs) (omega (arith, length-numbered 1 vs)) (canonical-numbered 1 vs (omega arith) k) (omega (arith, depth-numbered 1 vs))
 
--- entries with the keys from n on are those of a sequence
-pub numbered_by_places : (n : ℕ) (es : List Entry) → ((k m : ℕ) (d : Entry) → m ≡ n + k → k < length es → (get_or es k d).key ≡ integer (pos m))
-    → entries_view es ≡ pairs_of (numbered_from n (map (λ p. p.1) (entries (entries_view es))))
+-- pairs with the keys from n on are those of a sequence
+pub numbered_by_places : (n : ℕ) (ps : List (Val × Val)) → ((k m : ℕ) (d : Val × Val) → m ≡ n + k → k < length ps → (get_or ps k d).0 ≡ integer (pos m))
+    → pairs_of ps ≡ pairs_of (numbered_from n (map (λ p. p.1) (entries (pairs_of ps))))
 numbered_by_places n [] h = refl
-numbered_by_places n (e ∷ es) h =
-    let first : e.key ≡ integer (pos n) = h 0 n e (omega arith) (omega arith) in
-    let rest = numbered_by_places (suc n) es (λ k m d is l. h (suc k) m d (omega arith) (omega arith)) in
-    λ i. more_pairs (first i) e.value (rest i)
+numbered_by_places n (p ∷ ps) h =
+    let first : p.0 ≡ integer (pos n) = h 0 n p (omega arith) (omega arith) in
+    let rest = numbered_by_places (suc n) ps (λ k m d is l. h (suc k) m d (omega arith) (omega arith)) in
+    λ i. more_pairs (first i) p.1 (rest i)
 
 abbrev key_of : Pairs → Val
 key_of no_pairs = integer (pos 0)
@@ -70,11 +68,11 @@ abbrev rest_of : Pairs → Pairs
 rest_of no_pairs = no_pairs
 rest_of (more_pairs k v ps) = ps
 
-pub places_of_numbered : (n : ℕ) (es : List Entry) (vs : List Val) (k m : ℕ) (d : Entry) → m ≡ n + k → entries_view es ≡ pairs_of (numbered_from n vs) → k < length es → (get_or es k d).key ≡ integer (pos m)
+pub places_of_numbered : (n : ℕ) (ps : List (Val × Val)) (vs : List Val) (k m : ℕ) (d : Val × Val) → m ≡ n + k → pairs_of ps ≡ pairs_of (numbered_from n vs) → k < length ps → (get_or ps k d).0 ≡ integer (pos m)
 places_of_numbered n [] vs k m d is e l = absurd (omega arith)
-places_of_numbered n (x ∷ es) [] k m d is e l = cc
-places_of_numbered n (x ∷ es) (v ∷ vs) zero m d is e l = ap key_of e ∙ ap (λ j. integer (pos j)) (let z : n ≡ m = omega arith in z)
-places_of_numbered n (x ∷ es) (v ∷ vs) (suc k) m d is e l = places_of_numbered (suc n) es vs k m d (omega arith) (ap rest_of e) (omega arith)
+places_of_numbered n (x ∷ ps) [] k m d is e l = cc
+places_of_numbered n (x ∷ ps) (v ∷ vs) zero m d is e l = ap key_of e ∙ ap (λ j. integer (pos j)) (let z : n ≡ m = omega arith in z)
+places_of_numbered n (x ∷ ps) (v ∷ vs) (suc k) m d is e l = places_of_numbered (suc n) ps vs k m d (omega arith) (ap rest_of e) (omega arith)
 
 abbrev tree_of : Val → Pairs
 tree_of (function ps) = ps

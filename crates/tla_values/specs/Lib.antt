@@ -11,6 +11,7 @@ pub mod Sets
 pub mod SetLaws
 pub mod Functions
 pub mod FunctionLaws
+pub mod HashOf
 pub mod HashInput
 pub mod Integers
 pub mod Refusals

@@ -1,7 +1,6 @@
-ghost use Rattle.std.specs.Prelude.{◌≡◌, ◌↔◌, ◌+◌, ◌<◌, pos, IfOk, IsTrue, List, Some, length, refl, slice_get};
+ghost use Rattle.std.specs.Prelude.{◌≡◌, ◌↔◌, ◌+◌, ◌<◌, ◌^◌, IfOk, IsTrue, List, MatchOption, Some, pos, refl, slice_get};
 ghost use Rattle.std.specs.Cmp.{partial_equiv_from_equiv};
 ghost use Rattle.std.specs.Cmp.Lexicographic.{slice_cmp};
-ghost use Rattle.std.specs.List.Sorted.{IsBinarySearchResult, IsSearchInRange};
 ghost use Rattle.std.specs.Option.{option_map};
 ghost use Rattle.tla_values.specs.Data.{model, string, integer, truth, function, depth, int_of, bool_of, text_of, Val};
 ghost use Rattle.tla_values.specs.Functions.{Applies, DomainByPairs, FunctionAnswers, FunctionsByPairs, IsSequence, OneValueAtKey, PairsAreValues, keys_in, pairs_in, sequence_of, values_in};
@@ -10,14 +9,20 @@ ghost use Rattle.tla_values.specs.Kind.{kind_of};
 ghost use Rattle.tla_values.specs.Order.{val_cmp, val_eq, kind_rank};
 ghost use Rattle.tla_values.specs.OrderLaws.{val_total, val_order, val_eq_equiv, val_same};
 ghost use Rattle.tla_values.specs.Sets.{Member, MembersAreValues, SetAnswers, SetsByMembers, count_of, items_of};
-ghost use Rattle.tla_values.specs.View.{entries_view, entry_cmp, node_view};
+ghost use Rattle.tla_values.specs.View.{HasOneForm, entries_view, entry_cmp, field_cmp, fields_view, kept_hash, kept_levels, node_view};
 
+use forms::{
+    apply_entries, apply_fields, apply_items, copy_fields, copy_pairs, entry_at, field_at, item_at,
+    key_of_entry, name_at, number_items, place, place_at,
+};
 use std::alloc::{AllocError, Global};
 use std::cmp::Ordering;
 use std::marker::Model;
+use std::rc::Rc;
 use thiserror::Error;
 use trace_base::Text;
 
+mod forms;
 mod hash;
 mod making;
 
@@ -62,15 +67,25 @@ impl From<AllocError> for ValueFault {
 /// A value of TLA+, seen as its tree.
 ///
 /// A sequence of length n is the function with the domain `1..n`, and a record the function on its
-/// field names. `levels` is the depth of the value.
+/// field names. A set and a function keep their depth and their hash.
 #[cycle(value)]
-#[derive(Debug, Drop)]
+#[derive(Debug)]
 pub struct Value {
     node: Node,
-    levels: u8,
 }
 
-/// A value by its kind. The members of a set, and the pairs of a function, stand in ascending order.
+/// Written, so that whoever lets a value go makes one call, whatever forms a value has.
+impl Drop for Value {
+    #[cycle(value)]
+    fn drop(self) {
+        let Value { node } = self;
+        drop(node);
+    }
+}
+
+/// A value by its kind, and a function by its form: a function on 1 to some number is a sequence,
+/// another whose keys are all strings is a record, and every other keeps its pairs. So one value has
+/// one form. Members, fields and pairs stand in ascending order, and copies share them.
 #[cycle(value)]
 #[derive(Debug, Drop)]
 enum Node {
@@ -78,8 +93,54 @@ enum Node {
     Bool(bool),
     Int(i64),
     String(Text),
-    Set(Vec<Value>),
-    Function(Vec<Entry>),
+    Set(Rc<SetBody>),
+    Sequence(Rc<SequenceBody>),
+    Record(Rc<RecordBody>),
+    Function(Rc<FunctionBody>),
+}
+
+/// The members of a set, its depth and its hash.
+#[cycle(value)]
+#[derive(Debug, Drop)]
+struct SetBody {
+    levels: u8,
+    hash: u64,
+    items: Vec<Value>,
+}
+
+/// The values of a function on 1 to their number, its depth and its hash.
+#[cycle(value)]
+#[derive(Debug, Drop)]
+struct SequenceBody {
+    levels: u8,
+    hash: u64,
+    items: Vec<Value>,
+}
+
+/// The fields of a function on strings, of which there is one at least, its depth and its hash.
+#[cycle(value)]
+#[derive(Debug, Drop)]
+struct RecordBody {
+    levels: u8,
+    hash: u64,
+    fields: Vec<Field>,
+}
+
+/// A pair of a function whose key is a string.
+#[cycle(value)]
+#[derive(Debug, Drop)]
+struct Field {
+    name: Text,
+    value: Value,
+}
+
+/// The pairs of a function, its depth and its hash.
+#[cycle(value)]
+#[derive(Debug, Drop)]
+struct FunctionBody {
+    levels: u8,
+    hash: u64,
+    entries: Vec<Entry>,
 }
 
 /// A pair of a function: what it is applied to, and its value there.
@@ -102,7 +163,7 @@ impl Model for Value {
 
     ghost view = { λ a. node_view a.node };
 
-    ghost invariant = { λ a. IsKept a.node a.levels };
+    ghost invariant = { λ a. IsKept a.node };
 
     ghost size = { depth };
 
@@ -115,10 +176,7 @@ impl Value {
     pub fn int(n: i64) -> Value
         ensures { result ≡ integer n }
     {
-        Value {
-            node: Node::Int(n),
-            levels: 0,
-        }
+        Value { node: Node::Int(n) }
     }
 
     pub fn boolean(b: bool) -> Value
@@ -126,7 +184,6 @@ impl Value {
     {
         Value {
             node: Node::Bool(b),
-            levels: 0,
         }
     }
 
@@ -136,7 +193,6 @@ impl Value {
         text.is_text();
         Value {
             node: Node::String(text),
-            levels: 0,
         }
     }
 
@@ -147,7 +203,6 @@ impl Value {
         name.is_text();
         Value {
             node: Node::Model(name),
-            levels: 0,
         }
     }
 
@@ -160,6 +215,8 @@ impl Value {
             Node::Int(_) => ValueKind::Int,
             Node::String(_) => ValueKind::String,
             Node::Set(_) => ValueKind::Set,
+            Node::Sequence(_) => ValueKind::Function,
+            Node::Record(_) => ValueKind::Function,
             Node::Function(_) => ValueKind::Function,
         }
     }
@@ -206,7 +263,7 @@ impl Value {
     pub fn levels(&self) -> u8
         ensures { result ≡ depth self.now }
     {
-        self.levels
+        kept(&self.node)
     }
 
     /// How many members a set, or pairs a function, has, and 0 for all else.
@@ -214,8 +271,10 @@ impl Value {
         ensures { result ≡ count_of self.now }
     {
         match &self.node {
-            Node::Set(items) => items.len(),
-            Node::Function(entries) => entries.len(),
+            Node::Set(body) => body.items.len(),
+            Node::Sequence(body) => body.items.len(),
+            Node::Record(body) => body.fields.len(),
+            Node::Function(body) => body.entries.len(),
             _ => 0,
         }
     }
@@ -225,7 +284,8 @@ impl Value {
         ensures { option_map (λ v. v.now) result ≡ slice_get (items_of self.now) i }
     {
         match &self.node {
-            Node::Set(items) => {
+            Node::Set(body) => {
+                let items = &body.items;
                 if i < items.len() {
                     Some(&items[i])
                 } else {
@@ -241,7 +301,7 @@ impl Value {
         ensures { result.now ≡ items_of self.now }
     {
         match &self.node {
-            Node::Set(items) => items.as_slice(),
+            Node::Set(body) => body.items.as_slice(),
             _ => &[],
         }
     }
@@ -251,8 +311,19 @@ impl Value {
         ensures { IsTrue result ↔ IsSequence self.now }
     {
         match &self.node {
-            Node::Function(entries) => are_numbered(entries),
+            Node::Sequence(_) => true,
             _ => false,
+        }
+    }
+
+    /// Lends the values in order exactly where the value is a function with the domain `1..n`. Takes
+    /// no memory.
+    pub fn items(&self) -> Option<&[Value]>
+        ensures { MatchOption result (¬ IsSequence self.now) (λ vs. IsSequence self.now × (vs.now ≡ values_in self.now)) }
+    {
+        match &self.node {
+            Node::Sequence(body) => Some(body.items.as_slice()),
+            _ => None,
         }
     }
 
@@ -261,14 +332,9 @@ impl Value {
         ensures { option_map (λ v. v.now) result ≡ slice_get (values_in self.now) i }
     {
         match &self.node {
-            Node::Function(entries) => {
-                if i < entries.len() {
-                    let entry = &entries[i];
-                    Some(&entry.value)
-                } else {
-                    None
-                }
-            }
+            Node::Sequence(body) => item_at(&body.items, i),
+            Node::Record(body) => field_at(&body.fields, i),
+            Node::Function(body) => entry_at(&body.entries, i),
             _ => None,
         }
     }
@@ -278,15 +344,9 @@ impl Value {
         ensures { IfOk result (λ key. key ≡ slice_get (keys_in self.now) i) }
     {
         match &self.node {
-            Node::Function(entries) => {
-                if i < entries.len() {
-                    let entry = &entries[i];
-                    let key = entry.key.copy()?;
-                    Ok(Some(key))
-                } else {
-                    Ok(None)
-                }
-            }
+            Node::Sequence(body) => Ok(place_at(&body.items, i)),
+            Node::Record(body) => name_at(&body.fields, i),
+            Node::Function(body) => key_of_entry(&body.entries, i),
             _ => Ok(None),
         }
     }
@@ -296,7 +356,9 @@ impl Value {
         ensures { IfOk result (λ pairs. pairs.items ≡ pairs_in self.now) }
     {
         match &self.node {
-            Node::Function(entries) => copy_pairs(alloc, entries),
+            Node::Sequence(body) => number_items(alloc, &body.items),
+            Node::Record(body) => copy_fields(alloc, &body.fields),
+            Node::Function(body) => copy_pairs(alloc, &body.entries),
             _ => Ok(Vec::new(alloc)),
         }
     }
@@ -306,7 +368,7 @@ impl Value {
         ensures { IsTrue result ↔ Member v.now self.now }
     {
         match &self.node {
-            Node::Set(items) => items.as_slice().binary_search(v).is_ok(),
+            Node::Set(body) => body.items.as_slice().binary_search(v).is_ok(),
             _ => false,
         }
     }
@@ -317,13 +379,9 @@ impl Value {
         ensures { Applies self.now key.now (option_map (λ v. v.now) result) }
     {
         match &self.node {
-            Node::Function(entries) => match find(entries, key) {
-                Ok(at) => {
-                    let entry = &entries[at];
-                    Some(&entry.value)
-                }
-                Err(_) => None,
-            },
+            Node::Sequence(body) => apply_items(&body.items, key),
+            Node::Record(body) => apply_fields(&body.fields, key),
+            Node::Function(body) => apply_entries(&body.entries, key),
             _ => None,
         }
     }
@@ -365,7 +423,34 @@ impl PartialEq for Value {
     ghost laws = { partial_equiv_from_equiv val_eq_equiv };
 
     fn eq(&self, other: &Value) -> bool {
-        compare(self, other).is_eq()
+        match (&self.node, &other.node) {
+            (Node::Set(x), Node::Set(y)) => {
+                if x.hash != y.hash {
+                    return false;
+                }
+                compare(self, other).is_eq()
+            }
+            (Node::Sequence(x), Node::Sequence(y)) => {
+                if x.hash != y.hash {
+                    return false;
+                }
+                compare(self, other).is_eq()
+            }
+            (Node::Record(x), Node::Record(y)) => {
+                if x.hash != y.hash {
+                    return false;
+                }
+                compare(self, other).is_eq()
+            }
+            (Node::Function(x), Node::Function(y)) => {
+                if x.hash != y.hash {
+                    return false;
+                }
+                compare(self, other).is_eq()
+            }
+            (Node::Int(x), Node::Int(y)) => x.cmp(y).is_eq(),
+            _ => compare(self, other).is_eq(),
+        }
     }
 }
 
@@ -397,6 +482,19 @@ impl Ord for Value {
     }
 }
 
+/// The depth that a node keeps.
+fn kept(node: &Node) -> u8
+    ensures { result ≡ kept_levels node.now }
+{
+    match node {
+        Node::Set(body) => body.levels,
+        Node::Sequence(body) => body.levels,
+        Node::Record(body) => body.levels,
+        Node::Function(body) => body.levels,
+        _ => 0,
+    }
+}
+
 /// The place of the value's kind among the six.
 fn rank(value: &Value) -> u8
     ensures { result ≡ kind_rank value.now }
@@ -407,6 +505,8 @@ fn rank(value: &Value) -> u8
         Node::Int(_) => 2,
         Node::String(_) => 3,
         Node::Set(_) => 4,
+        Node::Sequence(_) => 5,
+        Node::Record(_) => 5,
         Node::Function(_) => 5,
     }
 }
@@ -423,8 +523,16 @@ fn compare(a: &Value, b: &Value) -> Ordering
         (Node::Bool(x), Node::Bool(y)) => x.cmp(y),
         (Node::Int(x), Node::Int(y)) => x.cmp(y),
         (Node::String(x), Node::String(y)) => x.as_str().cmp(y.as_str()),
-        (Node::Set(x), Node::Set(y)) => compare_items(x, y),
-        (Node::Function(x), Node::Function(y)) => compare_entries(x, y),
+        (Node::Set(x), Node::Set(y)) => compare_items(&x.items, &y.items),
+        (Node::Sequence(x), Node::Sequence(y)) => compare_items(&x.items, &y.items),
+        (Node::Record(x), Node::Record(y)) => compare_fields(&x.fields, &y.fields),
+        (Node::Function(x), Node::Function(y)) => compare_entries(&x.entries, &y.entries),
+        (Node::Sequence(_), Node::Record(_)) => Ordering::Less,
+        (Node::Record(_), Node::Sequence(_)) => Ordering::Greater,
+        (Node::Sequence(x), Node::Function(y)) => compare_places(&x.items, &y.entries),
+        (Node::Function(x), Node::Sequence(y)) => compare_places(&y.items, &x.entries).reverse(),
+        (Node::Record(x), Node::Function(y)) => compare_names(&x.fields, &y.entries),
+        (Node::Function(x), Node::Record(y)) => compare_names(&y.fields, &x.entries).reverse(),
         _ => rank(a).cmp(&rank(b)),
     }
 }
@@ -459,94 +567,101 @@ fn compare_entries(a: &Vec<Entry>, b: &Vec<Entry>) -> Ordering
     a.len().cmp(&b.len())
 }
 
-fn copy_pairs(alloc: Global, entries: &Vec<Entry>) -> Result<Vec<(Value, Value)>, AllocError>
-    ensures { IfOk result (λ pairs. pairs.items ≡ pairs_in (function (entries_view entries.now.items))) }
+#[cycle(compare)]
+fn compare_fields(a: &Vec<Field>, b: &Vec<Field>) -> Ordering
+    ensures { result ≡ slice_cmp field_cmp a.now.items b.now.items }
 {
-    let mut pairs = Vec::with_capacity(alloc, entries.len())?;
-    for entry in entries {
-        let key = entry.key.copy()?;
-        let value = entry.value.copy()?;
-        pairs.push((key, value))?;
-    }
-    Ok(pairs)
-}
-
-/// Whether the keys are 1 to the number of the pairs.
-fn are_numbered(entries: &Vec<Entry>) -> bool
-    ensures { IsTrue result ↔ IsSequence (function (entries_view entries.now.items)) }
-{
-    for i in 0..entries.len() {
-        let entry = &entries[i];
-        if !is_place(&entry.key, i) {
-            return false;
+    let shared = a.len().min(b.len());
+    for i in 0..shared {
+        let x = &a[i];
+        let y = &b[i];
+        let order = x.name.cmp(&y.name).then(compare(&x.value, &y.value));
+        if order.is_ne() {
+            return order;
         }
     }
-    true
+    a.len().cmp(&b.len())
 }
 
-/// Whether the key is the number of the place at `i`, which counts from 0.
-fn is_place(key: &Value, i: usize) -> bool
-    ensures { IsTrue result ↔ (key.now ≡ integer (pos (i + 1))) }
+/// A sequence against a function of another form.
+#[cycle(compare)]
+fn compare_places(a: &Vec<Value>, b: &Vec<Entry>) -> Ordering
+    ensures { result ≡ val_cmp (sequence_of a.now.items) (function (entries_view b.now.items)) }
 {
-    match key.as_int() {
-        Some(n) => n > 0 && (n - 1) as usize == i,
-        None => false,
+    let shared = a.len().min(b.len());
+    for i in 0..shared {
+        let x = &a[i];
+        let y = &b[i];
+        let order = compare_place(i, &y.key).then(compare(x, &y.value));
+        if order.is_ne() {
+            return order;
+        }
+    }
+    a.len().cmp(&b.len())
+}
+
+/// A record against a function of another form.
+#[cycle(compare)]
+fn compare_names(a: &Vec<Field>, b: &Vec<Entry>) -> Ordering
+    ensures { result ≡ val_cmp (function (fields_view a.now.items)) (function (entries_view b.now.items)) }
+{
+    let shared = a.len().min(b.len());
+    for i in 0..shared {
+        let x = &a[i];
+        let y = &b[i];
+        let order = compare_name(&x.name, &y.key).then(compare(&x.value, &y.value));
+        if order.is_ne() {
+            return order;
+        }
+    }
+    a.len().cmp(&b.len())
+}
+
+/// The key of a sequence at `i`, which counts from 0, against a value.
+#[tactic(auto, unfolding(crate::specs::Order::val_cmp))]
+fn compare_place(i: usize, key: &Value) -> Ordering
+    requires { i + 1 < 2 ^ 63 }
+    ensures { result ≡ val_cmp (integer (pos (i + 1))) key.now }
+{
+    match &key.node {
+        Node::Int(n) => place(i).cmp(n),
+        _ => 2_u8.cmp(&rank(key)),
     }
 }
 
-/// Where the pair of this key stands among pairs in ascending order.
-fn find(entries: &Vec<Entry>, key: &Value) -> Result<usize, usize>
-    ensures range { IsSearchInRange result (length entries.now.items) }
-    ensures place { IsBinarySearchResult (λ e. val_cmp e.key key.now) entries.now.items result }
+/// A string of these bytes against a value.
+#[tactic(auto, unfolding(crate::specs::Order::val_cmp))]
+fn compare_name(name: &Text, key: &Value) -> Ordering
+    ensures { result ≡ val_cmp (string name.now) key.now }
 {
-    entries.binary_search_by(|entry| entry.key.cmp(key))
+    match &key.node {
+        Node::String(text) => name.cmp(text),
+        _ => 3_u8.cmp(&rank(key)),
+    }
 }
 
-#[cycle(copy)]
 fn copy_value(value: &Value) -> Result<Value, AllocError>
     ensures { IfOk result (λ v. v ≡ value.now) }
 {
     let node = copy_node(&value.node)?;
-    Ok(Value {
-        node,
-        levels: value.levels,
-    })
+    Ok(Value { node })
 }
 
-#[cycle(copy)]
+/// The same node: members and pairs are shared, and none is copied.
 fn copy_node(node: &Node) -> Result<Node, AllocError>
-    ensures { IfOk result (λ n. node_view n ≡ node_view node.now) }
+    ensures view { IfOk result (λ n. node_view n ≡ node_view node.now) }
+    ensures levels { IfOk result (λ n. kept_levels n ≡ kept_levels node.now) }
+    ensures hash { IfOk result (λ n. kept_hash n ≡ kept_hash node.now) }
+    ensures form { IfOk result (λ n. HasOneForm node.now → HasOneForm n) }
 {
     match node {
         Node::Model(name) => Ok(Node::Model(name.copy()?)),
         Node::Bool(b) => Ok(Node::Bool(*b)),
         Node::Int(n) => Ok(Node::Int(*n)),
         Node::String(text) => Ok(Node::String(text.copy()?)),
-        Node::Set(items) => Ok(Node::Set(copy_items(items)?)),
-        Node::Function(entries) => Ok(Node::Function(copy_entries(entries)?)),
+        Node::Set(body) => Ok(Node::Set(body.clone()?)),
+        Node::Sequence(body) => Ok(Node::Sequence(body.clone()?)),
+        Node::Record(body) => Ok(Node::Record(body.clone()?)),
+        Node::Function(body) => Ok(Node::Function(body.clone()?)),
     }
-}
-
-#[cycle(copy)]
-fn copy_items(items: &Vec<Value>) -> Result<Vec<Value>, AllocError>
-    ensures { IfOk result (λ v. v.items ≡ items.now.items) }
-{
-    let mut copies = Vec::with_capacity(*items.allocator(), items.len())?;
-    for item in items {
-        copies.push(copy_value(item)?)?;
-    }
-    Ok(copies)
-}
-
-#[cycle(copy)]
-fn copy_entries(entries: &Vec<Entry>) -> Result<Vec<Entry>, AllocError>
-    ensures { IfOk result (λ v. v.items ≡ entries.now.items) }
-{
-    let mut copies = Vec::with_capacity(*entries.allocator(), entries.len())?;
-    for entry in entries {
-        let key = copy_value(&entry.key)?;
-        let value = copy_value(&entry.value)?;
-        copies.push(Entry { key, value })?;
-    }
-    Ok(copies)
 }

@@ -12,12 +12,13 @@ use std::alloc::Global;
 use std::cmp::Ordering;
 use std::hash::{Hash, Hasher};
 use std::marker::Model;
+use std::rc::Rc;
 use std::str;
 
-/// A text of UTF-8, seen as its bytes. Texts are ordered by their bytes.
+/// A text of UTF-8, seen as its bytes. Texts are ordered by their bytes. A copy shares its bytes.
 #[derive(Debug, Drop)]
 pub struct Text {
-    text: String,
+    text: Rc<String>,
 }
 
 impl Model for Text {
@@ -25,9 +26,9 @@ impl Model for Text {
 
     ghost Value = { List ℕ };
 
-    ghost view = { λ t. string_bytes t.text };
+    ghost view = { λ t. string_bytes t.text.value };
 
-    ghost invariant = { λ t. IsUtf8 (string_bytes t.text) };
+    ghost invariant = { λ t. IsUtf8 (string_bytes t.text.value) };
 }
 
 impl Text {
@@ -45,8 +46,9 @@ impl Text {
     pub fn from_text(alloc: Global, text: &str) -> Result<Text, NoMemory>
         ensures { IfOk result (λ t. t ≡ text.now) }
     {
+        let text = String::from_str(alloc, text)?;
         Ok(Text {
-            text: String::from_str(alloc, text)?,
+            text: Rc::new(alloc, text)?,
         })
     }
 

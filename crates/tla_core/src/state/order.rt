@@ -16,6 +16,9 @@ impl PartialEq for State {
     ghost laws = { lists_per (partial_equiv_from_equiv val_eq_equiv) };
 
     fn eq(&self, other: &State) -> bool {
+        if self.hash != other.hash {
+            return false;
+        }
         self.values == other.values
     }
 }
@@ -54,6 +57,6 @@ impl Hash for State {
     ghost respects_eq = { λ s t e. ap state_input ((state_decides s t).0 e) };
 
     fn hash<H: Hasher>(&self, state: &mut H) {
-        self.values.as_slice().hash(state)
+        state.write_u64(self.hash)
     }
 }

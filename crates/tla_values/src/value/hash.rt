@@ -1,12 +1,21 @@
-ghost use Rattle.std.specs.Prelude.{◌≡◌, fold};
+ghost use Rattle.std.specs.Prelude.{◌≡◌, ◌++◌};
+ghost use Rattle.std.specs.Hash as fed;
 ghost use Rattle.std.proofs.Common.{ap};
-ghost use Rattle.tla_values.specs.Data.{vals_of};
-ghost use Rattle.tla_values.specs.HashInput.{hash_input, members_input, pairs_input};
+ghost use Rattle.tla_values.specs.Data.{function, integer, set, vals_of};
+ghost use Rattle.tla_values.specs.Functions.{sequence_of};
+ghost use Rattle.tla_values.specs.HashInput.{hash_input};
+ghost use Rattle.tla_values.specs.HashOf.{digest, hash_of, mix, truth_hash, with_members};
 ghost use Rattle.tla_values.specs.OrderLaws.{val_same};
-ghost use Rattle.tla_values.specs.View.{entries_view};
+ghost use Rattle.tla_values.specs.View.{entries_view, fields_view};
 
-use super::{Entry, Node, Value};
-use std::hash::{Hash, Hasher};
+use super::{Entry, Field, Node, Value};
+use std::hash::{FoldHasher, Hash, Hasher};
+use trace_base::Text;
+
+/// What the hash of a set begins with.
+const SET: u64 = 0x9e37_79b9_7f4a_7c15;
+/// What the hash of a function begins with.
+const FUNCTION: u64 = 0x243f_6a88_85a3_08d3;
 
 impl Hash for Value {
     ghost hash_input = { hash_input };
@@ -14,60 +23,107 @@ impl Hash for Value {
     ghost respects_eq = { λ a b e. ap hash_input (val_same a b e) };
 
     fn hash<H: Hasher>(&self, state: &mut H) {
-        feed(self, state)
+        state.write_u64(hash_of(self));
     }
 }
 
-/// Feeds the whole value.
-#[cycle(hash)]
-fn feed<H: Hasher>(value: &Value, state: &mut H)
-    ensures { state.new ≡ fold H.write state.old (hash_input value.now) }
+/// The hash of a value: a set and a function keep it, and of all else it is made at each call.
+pub(super) fn hash_of(value: &Value) -> u64
+    ensures { result ≡ hash_of value.now }
 {
     match &value.node {
-        Node::Model(name) => {
-            state.write_u8(0);
-            name.as_str().hash(state);
-        }
-        Node::Bool(b) => {
-            state.write_u8(1);
-            b.hash(state);
-        }
-        Node::Int(n) => {
-            state.write_u8(2);
-            n.hash(state);
-        }
-        Node::String(text) => {
-            state.write_u8(3);
-            text.as_str().hash(state);
-        }
-        Node::Set(items) => {
-            state.write_u8(4);
-            state.write_usize(items.len());
-            feed_members(items, state);
-        }
-        Node::Function(entries) => {
-            state.write_u8(5);
-            state.write_usize(entries.len());
-            feed_pairs(entries, state);
-        }
+        Node::Model(name) => hash_of_text(0, name),
+        Node::Bool(b) => hash_of_truth(*b),
+        Node::Int(n) => hash_of_int(*n),
+        Node::String(text) => hash_of_text(3, text),
+        Node::Set(body) => body.hash,
+        Node::Sequence(body) => body.hash,
+        Node::Record(body) => body.hash,
+        Node::Function(body) => body.hash,
     }
 }
 
-#[cycle(hash)]
-fn feed_members<H: Hasher>(items: &Vec<Value>, state: &mut H)
-    ensures { state.new ≡ fold H.write state.old (members_input (vals_of items.now.items)) }
+fn hash_of_truth(b: bool) -> u64
+    ensures { result ≡ truth_hash b }
 {
+    if b {
+        0xa409_3822_299f_31d0
+    } else {
+        0x1319_8a2e_0370_7344
+    }
+}
+
+/// The bits of an integer.
+fn hash_of_int(n: i64) -> u64
+    ensures { result ≡ hash_of (integer n) }
+{
+    n.cast_unsigned()
+}
+
+/// The hash of a text, with the place of its kind among the six.
+#[tactic(auto, unfolding(crate::specs::HashOf::digest))]
+fn hash_of_text(kind: u8, text: &Text) -> u64
+    ensures { result ≡ digest (fed.u8 kind ++ fed.str text.now) }
+{
+    let mut state = FoldHasher::default();
+    state.write_u8(kind);
+    text.hash(&mut state);
+    state.finish()
+}
+
+/// The hash with one more mixed in.
+#[tactic(auto, unfolding(crate::specs::HashOf::mix))]
+fn mix(hash: u64, more: u64) -> u64
+    ensures { result ≡ mix hash more }
+{
+    (hash ^ more)
+        .wrapping_mul(0x5851_f42d_4c95_7f2d)
+        .rotate_left(32)
+}
+
+/// The hash with those of these values mixed in.
+fn with_items(begun: u64, items: &Vec<Value>) -> u64
+    ensures { result ≡ with_members begun (vals_of items.now.items) }
+{
+    let mut hash = begun;
     for item in items {
-        feed(item, state);
+        hash = mix(hash, hash_of(item));
     }
+    hash
 }
 
-#[cycle(hash)]
-fn feed_pairs<H: Hasher>(entries: &Vec<Entry>, state: &mut H)
-    ensures { state.new ≡ fold H.write state.old (pairs_input (entries_view entries.now.items)) }
+/// The hash of the set of these members.
+pub(super) fn hash_of_members(items: &Vec<Value>) -> u64
+    ensures { result ≡ hash_of (set (vals_of items.now.items)) }
 {
+    with_items(SET, items)
+}
+
+/// The hash of the sequence of these values: that of the function on 1 to their number.
+pub(super) fn hash_of_items(items: &Vec<Value>) -> u64
+    ensures { result ≡ hash_of (sequence_of items.now.items) }
+{
+    with_items(FUNCTION, items)
+}
+
+/// The hash of the function with these pairs.
+pub(super) fn hash_of_pairs(entries: &Vec<Entry>) -> u64
+    ensures { result ≡ hash_of (function (entries_view entries.now.items)) }
+{
+    let mut hash = FUNCTION;
     for entry in entries {
-        feed(&entry.key, state);
-        feed(&entry.value, state);
+        hash = mix(hash, hash_of(&entry.value));
     }
+    hash
+}
+
+/// The hash of the record with these fields.
+pub(super) fn hash_of_fields(fields: &Vec<Field>) -> u64
+    ensures { result ≡ hash_of (function (fields_view fields.now.items)) }
+{
+    let mut hash = FUNCTION;
+    for field in fields {
+        hash = mix(hash, hash_of(&field.value));
+    }
+    hash
 }

@@ -1,20 +1,26 @@
-ghost use Rattle.std.specs.Prelude.{◌≡◌, ◌≤◌, IfOk, List, MatchBool, length, map};
+ghost use Rattle.std.specs.Prelude.{◌≡◌, ◌+◌, ◌≤◌, ◌↔◌, IfOk, IsTrue, List, MatchBool, map, pos};
 ghost use Rattle.std.specs.List.Sorted.{IsSorted, IsStrictlySortedBy};
-ghost use Rattle.tla_values.specs.Data.{depth, pairs_depth, pairs_of, vals_depth, vals_of};
+ghost use Rattle.tla_values.specs.Data.{depth, function, integer, string, pairs_depth, pairs_of, set, vals_depth, vals_of};
 ghost use Rattle.tla_values.specs.Functions.{
   HasKeyTwice,
+  IsSequence,
   MakesFunction,
   MakesSequence,
   fields_as_pairs,
-  numbered_from,
+  sequence_of,
 };
+ghost use Rattle.tla_values.specs.HashOf.{hash_of};
 ghost use Rattle.tla_values.specs.IsValue.{AreCanonical, HaveCanonical, IsCanonical};
 ghost use Rattle.tla_values.specs.Order.{val_cmp};
 ghost use Rattle.tla_values.specs.Sets.{MakesSet};
-ghost use Rattle.tla_values.specs.View.{entries_view, pair_cmp};
+ghost use Rattle.tla_values.specs.View.{AreNamed, HasOneForm, IsName, entries_view, fields_view, kept_hash, kept_levels, node_view, pair_cmp};
 
-use super::{Entry, Node, Value, ValueFault};
+use super::hash::{hash_of_fields, hash_of_items, hash_of_members, hash_of_pairs};
+use super::{
+    Entry, Field, FunctionBody, Node, RecordBody, SequenceBody, SetBody, Value, ValueFault, kept,
+};
 use std::alloc::{AllocError, Global};
+use std::rc::Rc;
 use trace_base::Text;
 
 /// How many members a set, or pairs a function, may have.
@@ -28,6 +34,7 @@ impl Value {
     pub fn make_set(members: Vec<Value>) -> Result<Value, ValueFault>
         ensures { MakesSet members.items result }
     {
+        let alloc = *members.allocator();
         let mut members = members;
         members.sort_unstable();
         members.dedup();
@@ -38,9 +45,9 @@ impl Value {
         if deepest >= MAX_DEPTH {
             return Err(ValueFault::TooDeep);
         }
+        let body = set_body(alloc, members, deepest + 1)?;
         Ok(Value {
-            node: Node::Set(members),
-            levels: deepest + 1,
+            node: Node::Set(body),
         })
     }
 
@@ -60,11 +67,8 @@ impl Value {
         if deepest >= MAX_DEPTH {
             return Err(ValueFault::TooDeep);
         }
-        let entries = entries_from(alloc, pairs)?;
-        Ok(Value {
-            node: Node::Function(entries),
-            levels: deepest + 1,
-        })
+        let node = function_node(alloc, pairs, deepest + 1)?;
+        Ok(Value { node })
     }
 
     /// The sequence of these values: the function on 1 to their number.
@@ -78,10 +82,9 @@ impl Value {
         if deepest >= MAX_DEPTH {
             return Err(ValueFault::TooDeep);
         }
-        let entries = numbered(alloc, items)?;
+        let body = sequence_body(alloc, items, deepest + 1)?;
         Ok(Value {
-            node: Node::Function(entries),
-            levels: deepest + 1,
+            node: Node::Sequence(body),
         })
     }
 
@@ -100,7 +103,7 @@ fn depth_of(value: &Value) -> u8
     ensures canonical { IsCanonical value.now }
     ensures shallow { result ≤ 32 }
 {
-    value.levels
+    kept(&value.node)
 }
 
 /// The greatest depth of the values.
@@ -142,29 +145,116 @@ fn has_key_twice(pairs: &Vec<(Value, Value)>) -> bool
     false
 }
 
+/// The function with these pairs in the form that it has.
+fn function_node(alloc: Global, pairs: Vec<(Value, Value)>, levels: u8) -> Result<Node, AllocError>
+    ensures view { IfOk result (λ n. node_view n ≡ function (pairs_of pairs.items)) }
+    ensures levels { IfOk result (λ n. kept_levels n ≡ levels) }
+    ensures hash { IfOk result (λ n. kept_hash n ≡ hash_of (node_view n)) }
+    ensures form { IfOk result (λ n. HasOneForm n) }
+{
+    if are_numbered(&pairs) {
+        let items = values_from(alloc, pairs)?;
+        let body = sequence_body(alloc, items, levels)?;
+        return Ok(Node::Sequence(body));
+    }
+    if are_named(&pairs) {
+        let fields = fields_from(alloc, pairs)?;
+        let body = record_body(alloc, fields, levels)?;
+        return Ok(Node::Record(body));
+    }
+    let entries = entries_from(alloc, pairs)?;
+    let body = function_body(alloc, entries, levels)?;
+    Ok(Node::Function(body))
+}
+
+/// Whether the keys are 1 to the number of the pairs.
+fn are_numbered(pairs: &Vec<(Value, Value)>) -> bool
+    ensures { IsTrue result ↔ IsSequence (function (pairs_of pairs.now.items)) }
+{
+    for i in 0..pairs.len() {
+        let pair = &pairs[i];
+        if !is_place(&pair.0, i) {
+            return false;
+        }
+    }
+    true
+}
+
+/// Whether the key is the number of the place at `i`, which counts from 0.
+fn is_place(key: &Value, i: usize) -> bool
+    ensures { IsTrue result ↔ (key.now ≡ integer (pos (i + 1))) }
+{
+    match key.as_int() {
+        Some(n) => n > 0 && (n - 1) as usize == i,
+        None => false,
+    }
+}
+
+/// Whether each key is a string.
+fn are_named(pairs: &Vec<(Value, Value)>) -> bool
+    ensures { IsTrue result ↔ AreNamed (pairs_of pairs.now.items) }
+{
+    for pair in pairs {
+        if !is_name(&pair.0) {
+            return false;
+        }
+    }
+    true
+}
+
+fn is_name(key: &Value) -> bool
+    ensures { IsTrue result ↔ IsName key.now }
+{
+    match &key.node {
+        Node::String(_) => true,
+        _ => false,
+    }
+}
+
+/// The values of the pairs in their order.
+fn values_from(alloc: Global, pairs: Vec<(Value, Value)>) -> Result<Vec<Value>, AllocError>
+    ensures { IfOk result (λ vs. vs.items ≡ map (λ p. p.1) pairs.items) }
+{
+    let mut values = Vec::with_capacity(alloc, pairs.len())?;
+    for (_key, value) in pairs {
+        values.push(value)?;
+    }
+    Ok(values)
+}
+
+/// The fields of pairs whose keys are strings.
+fn fields_from(alloc: Global, pairs: Vec<(Value, Value)>) -> Result<Vec<Field>, AllocError>
+    requires { AreNamed (pairs_of pairs.items) }
+    ensures { IfOk result (λ fs. fields_view fs.items ≡ pairs_of pairs.items) }
+{
+    let mut fields = Vec::with_capacity(alloc, pairs.len())?;
+    for (key, value) in pairs {
+        let name = key.into_name();
+        fields.push(Field { name, value })?;
+    }
+    Ok(fields)
+}
+
+impl Value {
+    /// The text of a string.
+    fn into_name(self) -> Text
+        requires { IsName self }
+        ensures { string result ≡ self }
+    {
+        let Value { node } = self;
+        match node {
+            Node::String(name) => name,
+            _ => unreachable!(),
+        }
+    }
+}
+
 fn entries_from(alloc: Global, pairs: Vec<(Value, Value)>) -> Result<Vec<Entry>, AllocError>
     ensures { IfOk result (λ es. entries_view es.items ≡ pairs_of pairs.items) }
 {
     let mut entries = Vec::with_capacity(alloc, pairs.len())?;
     for (key, value) in pairs {
         entries.push(Entry { key, value })?;
-    }
-    Ok(entries)
-}
-
-/// The pairs of the numbers from 1 on and these values.
-fn numbered(alloc: Global, items: Vec<Value>) -> Result<Vec<Entry>, AllocError>
-    requires { length items.items ≤ 100000 }
-    ensures { IfOk result (λ es. entries_view es.items ≡ pairs_of (numbered_from 1 items.items)) }
-{
-    let mut entries = Vec::with_capacity(alloc, items.len())?;
-    let mut place: u32 = 0;
-    for value in items {
-        place += 1;
-        entries.push(Entry {
-            key: Value::int(i64::from(place)),
-            value,
-        })?;
     }
     Ok(entries)
 }
@@ -177,4 +267,72 @@ fn pairs_from(alloc: Global, fields: Vec<(Text, Value)>) -> Result<Vec<(Value, V
         pairs.push((Value::string(name), value))?;
     }
     Ok(pairs)
+}
+
+/// The members behind a handle, so that copies share their memory.
+fn set_body(alloc: Global, items: Vec<Value>, levels: u8) -> Result<Rc<SetBody>, AllocError>
+    ensures items { IfOk result (λ body. body.value.items ≡ items) }
+    ensures levels { IfOk result (λ body. body.value.levels ≡ levels) }
+    ensures hash { IfOk result (λ body. body.value.hash ≡ hash_of (set (vals_of items.items))) }
+{
+    let hash = hash_of_members(&items);
+    let body = SetBody {
+        levels,
+        hash,
+        items,
+    };
+    Ok(Rc::new(alloc, body)?)
+}
+
+/// The values of a sequence behind a handle, so that copies share their memory.
+fn sequence_body(
+    alloc: Global,
+    items: Vec<Value>,
+    levels: u8,
+) -> Result<Rc<SequenceBody>, AllocError>
+    ensures items { IfOk result (λ body. body.value.items ≡ items) }
+    ensures levels { IfOk result (λ body. body.value.levels ≡ levels) }
+    ensures hash { IfOk result (λ body. body.value.hash ≡ hash_of (sequence_of items.items)) }
+{
+    let hash = hash_of_items(&items);
+    let body = SequenceBody {
+        levels,
+        hash,
+        items,
+    };
+    Ok(Rc::new(alloc, body)?)
+}
+
+/// The fields behind a handle, so that copies share their memory.
+fn record_body(alloc: Global, fields: Vec<Field>, levels: u8) -> Result<Rc<RecordBody>, AllocError>
+    ensures fields { IfOk result (λ body. body.value.fields ≡ fields) }
+    ensures levels { IfOk result (λ body. body.value.levels ≡ levels) }
+    ensures hash { IfOk result (λ body. body.value.hash ≡ hash_of (function (fields_view fields.items))) }
+{
+    let hash = hash_of_fields(&fields);
+    let body = RecordBody {
+        levels,
+        hash,
+        fields,
+    };
+    Ok(Rc::new(alloc, body)?)
+}
+
+/// The pairs behind a handle, so that copies share their memory.
+fn function_body(
+    alloc: Global,
+    entries: Vec<Entry>,
+    levels: u8,
+) -> Result<Rc<FunctionBody>, AllocError>
+    ensures entries { IfOk result (λ body. body.value.entries ≡ entries) }
+    ensures levels { IfOk result (λ body. body.value.levels ≡ levels) }
+    ensures hash { IfOk result (λ body. body.value.hash ≡ hash_of (function (entries_view entries.items))) }
+{
+    let hash = hash_of_pairs(&entries);
+    let body = FunctionBody {
+        levels,
+        hash,
+        entries,
+    };
+    Ok(Rc::new(alloc, body)?)
 }

@@ -4,7 +4,8 @@ use Rattle.std.specs.Vec.Iter.{into_iter_items, into_iter_len}
 use Rattle.tla_eval.specs.Binders.{combinations}
 use Rattle.eval_parts.specs.Walks.{AreWithin, left_from}
 use Rattle.action_rows.specs.Rows.{before, part_term, setting}
-use Rattle.action_walk.specs.Walking.{parts_at}
+use Rattle.action_walk.specs.Walking.{listed, parts_of}
+use Rattle.action_walk.specs.declared.sense.Sense.TheVariants.{Itself}
 use Rattle.action_walk.proofs.Loops.{Ahead, AllSoFar, AnySoFar, EachSoFar, UnderSoFar}
 use Rattle.action_walk.proofs.forms.+walk.Given as goal
 
@@ -68,24 +69,30 @@ decreases-walk_copy l = 10 * l.depth + 1
 abbrev pub decreases-walk_from : goal.decreases-walk_from
 decreases-walk_from l = 10 * l.depth + 2
 
-abbrev pub invariant-walk_all-loop-part : goal.invariant-walk_all-loop-part
-invariant-walk_all-loop-part l =
-    AllSoFar (setting l.stage) l.depth l.stage.sees.now l.fn.places (parts_at (before l.stage (map (λ v. v.now) l.slots)) l.parts) l.part-index l.found.items
+abbrev pub decreases-walk_each : goal.decreases-walk_each
+decreases-walk_each l = 10 * l.depth + 1
 
-abbrev pub invariant-walk_from-loop-places : goal.invariant-walk_from-loop-places
-invariant-walk_from-loop-places l = record {
-  ahead : Ahead l.fn.found.items (into_iter_items l.places-iterator) (λ i. EachSoFar (setting l.stage) l.depth l.stage.sees.now (before l.stage (map (λ v. v.now) l.slots)) (part_term l.part) l.fn.found.items i l.all.items);
+abbrev pub decreases-walk_more : goal.decreases-walk_more
+decreases-walk_more l = 10 * l.depth + 1
+
+abbrev pub invariant-walk_all-loop-term : goal.invariant-walk_all-loop-term
+invariant-walk_all-loop-term l =
+    AllSoFar (setting l.course.stage) l.depth l.course.stage.sees.now l.fn.places (parts_of (before l.course.stage (map (λ v. v.now) l.slots)) l.sense l.terms) l.term-index (listed l.found)
+
+abbrev pub invariant-walk_each-loop-places : goal.invariant-walk_each-loop-places
+invariant-walk_each-loop-places l = record {
+  ahead : Ahead l.fn.list.items (into_iter_items l.places-iterator) (λ i. EachSoFar (setting l.course.stage) l.depth l.course.stage.sees.now (before l.course.stage (map (λ v. v.now) l.slots)) (part_term l.part) l.fn.list.items i (listed l.all));
   len : into_iter_len l.places-iterator ≡ length (into_iter_items l.places-iterator);
 }
 
-abbrev pub invariant-walk_any-loop-part : goal.invariant-walk_any-loop-part
-invariant-walk_any-loop-part l =
-    AnySoFar (setting l.stage) l.depth l.stage.sees.now l.places (parts_at (before l.stage (map (λ v. v.now) l.slots)) l.parts) l.part-index l.found.items
+abbrev pub invariant-walk_any-loop-term : goal.invariant-walk_any-loop-term
+invariant-walk_any-loop-term l =
+    AnySoFar (setting l.course.stage) l.depth l.course.stage.sees.now l.places (parts_of (before l.course.stage (map (λ v. v.now) l.slots)) Itself l.terms) l.term-index (listed l.found)
 
 abbrev pub decreases-walk_combinations-loop-more : goal.decreases-walk_combinations-loop-more
 decreases-walk_combinations-loop-more l = length (left_from l.more (map (λ x. x.now) l.lists) l.indices.items)
 
 abbrev pub invariant-walk_combinations-loop-more : goal.invariant-walk_combinations-loop-more
 invariant-walk_combinations-loop-more l =
-    UnderSoFar (setting l.stage) l.depth l.stage.sees.now l.places (before l.stage (map (λ v. v.now) l.slots)) l.body (combinations (map (λ x. x.now) l.lists)) (left_from l.more (map (λ x. x.now) l.lists) l.indices.items) l.found.items
+    UnderSoFar (setting l.course.stage) l.depth l.course.stage.sees.now l.places (before l.course.stage (map (λ v. v.now) l.slots)) l.body (combinations (map (λ x. x.now) l.lists)) (left_from l.more (map (λ x. x.now) l.lists) l.indices.items) (listed l.found)
     × (IsTrue l.more → AreWithin (map (λ x. x.now) l.lists) l.indices.items)

@@ -14,9 +14,9 @@ value x = x.now
 pub changed_truth-requires : goal.changed_truth-requires
 changed_truth-requires c =
     let a = changed_of c.args.at c.args.term.now in
-    in_scene c.args.stage (map value c.args.slots.now) c.args.places.now c.scene_at.result (λ ops x. Reads ops c.args.depth x a) c.scene_at.ensures.table c.scene_at.ensures.context c.requires
+    in_scene c.args.course.now.stage (map value c.args.slots.now) c.args.places.now c.scene_at.result (λ ops x. Reads ops c.args.depth x a) c.scene_at.ensures.table c.scene_at.ensures.context c.requires
 
 pub returns : goal.returns
 returns c =
     let a = changed_of c.args.at c.args.term.now in
-    on_stage c.args.stage (map value c.args.slots.now) c.args.places.now c.scene_at.result (λ ops x. Tells c.changed_truth.result (TruthOf (Evaluates ops c.args.depth) x a)) c.scene_at.ensures.table c.scene_at.ensures.context c.changed_truth.ensures
+    on_stage c.args.course.now.stage (map value c.args.slots.now) c.args.places.now c.scene_at.result (λ ops x. Tells c.changed_truth.result (TruthOf (Evaluates ops c.args.depth) x a)) c.scene_at.ensures.table c.scene_at.ensures.context c.changed_truth.ensures

@@ -14,30 +14,30 @@ value x = x.now
 
 pub loop-places-init : goal.loop-places-init
 loop-places-init c =
-    let s = c.args.stage in
-    let g = setting c.args.stage in
+    let s = c.args.course.now.stage in
+    let g = setting c.args.course.now.stage in
     let vs = map value c.args.slots.now in
-    let ctx = before c.args.stage (map value c.args.slots.now) in
+    let ctx = before c.args.course.now.stage (map value c.args.slots.now) in
     let d = c.args.depth in
-    let sees = c.args.stage.sees.now in
+    let sees = c.args.course.now.stage.sees.now in
     let ps = c.args.found.items in
     let v = c.args.term.now in
     let a = changed_of c.args.at v in
     let is = changed_is_test g (length vs) c.args.at v in
     let gives = c.into_iter-places-iterator.ensures.into_iter_gives in
     record {
-      ahead = (0, ahead_first ps ∙ sym gives.0, tested_start g d sees ctx a is ps c.new-kept.result.items c.new-kept.ensures.items);
+      ahead = (0, ahead_first ps ∙ sym gives.0, tested_start g d sees ctx a is ps c.in_ok-kept.kept.items c.in_ok-kept.ensures.items);
       len = omega (arith, gives.1, ap length gives.0, c.args.found.ok.0);
     }
 
 pub changed_at-requires : goal.changed_at-requires
 changed_at-requires c =
-    let s = c.args.stage in
-    let g = setting c.args.stage in
+    let s = c.args.course.now.stage in
+    let g = setting c.args.course.now.stage in
     let vs = map value c.args.slots.now in
-    let ctx = before c.args.stage (map value c.args.slots.now) in
+    let ctx = before c.args.course.now.stage (map value c.args.slots.now) in
     let d = c.args.depth in
-    let sees = c.args.stage.sees.now in
+    let sees = c.args.course.now.stage.sees.now in
     let ps = c.args.found.items in
     let v = c.args.term.now in
     let a = changed_of c.args.at v in
@@ -51,12 +51,12 @@ changed_at-requires c =
 
 pub loop-places-preserved : goal.loop-places-preserved
 loop-places-preserved c =
-    let s = c.args.stage in
-    let g = setting c.args.stage in
+    let s = c.args.course.now.stage in
+    let g = setting c.args.course.now.stage in
     let vs = map value c.args.slots.now in
-    let ctx = before c.args.stage (map value c.args.slots.now) in
+    let ctx = before c.args.course.now.stage (map value c.args.slots.now) in
     let d = c.args.depth in
-    let sees = c.args.stage.sees.now in
+    let sees = c.args.course.now.stage.sees.now in
     let ps = c.args.found.items in
     let v = c.args.term.now in
     let a = changed_of c.args.at v in
@@ -76,12 +76,12 @@ loop-places-preserved c =
 
 pub returns-in-Err-clause-fault : goal.returns-in-Err-clause-fault
 returns-in-Err-clause-fault c =
-    let s = c.args.stage in
-    let g = setting c.args.stage in
+    let s = c.args.course.now.stage in
+    let g = setting c.args.course.now.stage in
     let vs = map value c.args.slots.now in
-    let ctx = before c.args.stage (map value c.args.slots.now) in
+    let ctx = before c.args.course.now.stage (map value c.args.slots.now) in
     let d = c.args.depth in
-    let sees = c.args.stage.sees.now in
+    let sees = c.args.course.now.stage.sees.now in
     let ps = c.args.found.items in
     let v = c.args.term.now in
     let a = changed_of c.args.at v in
@@ -96,12 +96,12 @@ returns-in-Err-clause-fault c =
 
 pub returns-clause-found : goal.returns-clause-found
 returns-clause-found c =
-    let s = c.args.stage in
-    let g = setting c.args.stage in
+    let s = c.args.course.now.stage in
+    let g = setting c.args.course.now.stage in
     let vs = map value c.args.slots.now in
-    let ctx = before c.args.stage (map value c.args.slots.now) in
+    let ctx = before c.args.course.now.stage (map value c.args.slots.now) in
     let d = c.args.depth in
-    let sees = c.args.stage.sees.now in
+    let sees = c.args.course.now.stage.sees.now in
     let ps = c.args.found.items in
     let v = c.args.term.now in
     let a = changed_of c.args.at v in

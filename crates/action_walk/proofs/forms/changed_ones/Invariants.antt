@@ -9,6 +9,6 @@ use Rattle.action_walk.proofs.forms.changed_ones.Given as goal
 
 abbrev pub invariant-loop-places : goal.invariant-loop-places
 invariant-loop-places l = record {
-  ahead : Ahead l.fn.found.items (into_iter_items l.places-iterator) (λ i. TestedSoFar (setting l.stage) l.depth l.stage.sees.now (before l.stage (map (λ v. v.now) l.slots)) (changed_of l.at l.term) (changed_is_test (setting l.stage) (length (map (λ v. v.now) l.slots)) l.at l.term) l.fn.found.items i l.kept.items);
+  ahead : Ahead l.fn.found.items (into_iter_items l.places-iterator) (λ i. TestedSoFar (setting l.course.stage) l.depth l.course.stage.sees.now (before l.course.stage (map (λ v. v.now) l.slots)) (changed_of l.at l.term) (changed_is_test (setting l.course.stage) (length (map (λ v. v.now) l.slots)) l.at l.term) l.fn.found.items i l.kept.items);
   len : into_iter_len l.places-iterator ≡ length (into_iter_items l.places-iterator);
 }

@@ -7,6 +7,7 @@ use Rattle.eval_reads.specs.Reads.{Reads}
 use Rattle.action_rows.specs.Rows.{before, part_term, setting}
 use Rattle.action_walk.proofs.Rows.{form_walks}
 use Rattle.action_walk.proofs.Taken.{in_scene, on_stage}
+use Rattle.action_walk.proofs.Told.{assigned_all}
 use Rattle.action_walk.proofs.Values.{assigned_row, unassigned_row}
 use Rattle.action_walk.proofs.forms.walk_assign.Goals as goal
 use denote.Ref.{Bor}
@@ -16,12 +17,12 @@ value x = x.now
 
 pub eval-requires : goal.eval-requires
 eval-requires c =
-    let s = c.args.stage in
-    let g = setting c.args.stage in
+    let s = c.args.course.now.stage in
+    let g = setting c.args.course.now.stage in
     let vs = map value c.args.slots.now in
-    let ctx = before c.args.stage (map value c.args.slots.now) in
+    let ctx = before c.args.course.now.stage (map value c.args.slots.now) in
     let d = c.args.depth in
-    let sees = c.args.stage.sees.now in
+    let sees = c.args.course.now.stage.sees.now in
     let p = c.args.places in
     let a = part_term c.args.part in
     let w = form_walks g d sees p ctx a (assign c.args.number.0 c.args.term.now) c.requires.form c.requires.grounds.0 c.requires.grounds.1 in
@@ -29,38 +30,38 @@ eval-requires c =
 
 pub assigned-requires : goal.assigned-requires
 assigned-requires c =
-    let s = c.args.stage in
-    let g = setting c.args.stage in
+    let s = c.args.course.now.stage in
+    let g = setting c.args.course.now.stage in
     let vs = map value c.args.slots.now in
-    let ctx = before c.args.stage (map value c.args.slots.now) in
+    let ctx = before c.args.course.now.stage (map value c.args.slots.now) in
     let d = c.args.depth in
-    let sees = c.args.stage.sees.now in
+    let sees = c.args.course.now.stage.sees.now in
     let p = c.args.places in
     let a = part_term c.args.part in
     (form_walks g d sees p ctx a (assign c.args.number.0 c.args.term.now) c.requires.form c.requires.grounds.0 c.requires.grounds.1).0
 
 pub returns-in_ok-assigned-in-Ok-clause-found : goal.returns-in_ok-assigned-in-Ok-clause-found
 returns-in_ok-assigned-in-Ok-clause-found c =
-    let s = c.args.stage in
-    let g = setting c.args.stage in
+    let s = c.args.course.now.stage in
+    let g = setting c.args.course.now.stage in
     let vs = map value c.args.slots.now in
-    let ctx = before c.args.stage (map value c.args.slots.now) in
+    let ctx = before c.args.course.now.stage (map value c.args.slots.now) in
     let d = c.args.depth in
-    let sees = c.args.stage.sees.now in
+    let sees = c.args.course.now.stage.sees.now in
     let p = c.args.places in
     let a = part_term c.args.part in
     let w = form_walks g d sees p ctx a (assign c.args.number.0 c.args.term.now) c.requires.form c.requires.grounds.0 c.requires.grounds.1 in
     let there = on_stage s vs p c.scene_at.result (λ ops x. Evaluates ops d x c.args.term.now (Ok c.in-Ok.value)) c.scene_at.ensures.table c.scene_at.ensures.context c.in-Ok.ensures in
-    assigned_row g d sees p ctx a c.args.number.0 c.args.term.now c.in-Ok.value c.in_ok-assigned-in-Ok.field-0.items c.requires.form w.0 there c.in_ok-assigned-in-Ok.ensures
+    assigned_row g d sees p ctx a c.args.number.0 c.args.term.now c.in-Ok.value c.in_ok-assigned-in-Ok.field-0.items c.requires.form w.0 there (assigned_all c.args.number.0 sees c.sees_of.result.now c.sees_of.ensures c.in-Ok.value p c.in_ok-assigned-in-Ok.field-0.items c.in_ok-assigned-in-Ok.ensures)
 
 pub returns-in-Err-clause-fault : goal.returns-in-Err-clause-fault
 returns-in-Err-clause-fault c =
-    let s = c.args.stage in
-    let g = setting c.args.stage in
+    let s = c.args.course.now.stage in
+    let g = setting c.args.course.now.stage in
     let vs = map value c.args.slots.now in
-    let ctx = before c.args.stage (map value c.args.slots.now) in
+    let ctx = before c.args.course.now.stage (map value c.args.slots.now) in
     let d = c.args.depth in
-    let sees = c.args.stage.sees.now in
+    let sees = c.args.course.now.stage.sees.now in
     let p = c.args.places in
     let a = part_term c.args.part in
     let there = on_stage s vs p c.scene_at.result (λ ops x. Tells {A = Val} (Err c.in-Err.fault) (Evaluates ops d x c.args.term.now)) c.scene_at.ensures.table c.scene_at.ensures.context c.in-Err.ensures in

@@ -11,6 +11,7 @@ use Rattle.eval_parts.specs.Scenes.{context, table}
 use Rattle.action_rows.specs.Rows.{before, part_term, setting}
 use Rattle.action_walk.proofs.Rows.{form_walks}
 use Rattle.action_walk.proofs.Taken.{in_scene, on_stage}
+use Rattle.action_walk.proofs.Told.{assigned_all}
 use Rattle.action_walk.proofs.Values.{assigned_row, unassigned_row}
 use Rattle.action_walk.proofs.forms.walk_keep.Goals as goal
 use denote.Ref.{Bor}
@@ -20,12 +21,12 @@ value x = x.now
 
 pub kept_value-requires : goal.kept_value-requires
 kept_value-requires c =
-    let s = c.args.stage in
-    let g = setting c.args.stage in
+    let s = c.args.course.now.stage in
+    let g = setting c.args.course.now.stage in
     let vs = map value c.args.slots.now in
-    let ctx = before c.args.stage (map value c.args.slots.now) in
+    let ctx = before c.args.course.now.stage (map value c.args.slots.now) in
     let d = c.args.depth in
-    let sees = c.args.stage.sees.now in
+    let sees = c.args.course.now.stage.sees.now in
     let p = c.args.places in
     let a = part_term c.args.part in
     let e = variable_at (place_of a) c.args.number.0 in
@@ -35,12 +36,12 @@ kept_value-requires c =
 
 pub assigned-requires : goal.assigned-requires
 assigned-requires c =
-    let s = c.args.stage in
-    let g = setting c.args.stage in
+    let s = c.args.course.now.stage in
+    let g = setting c.args.course.now.stage in
     let vs = map value c.args.slots.now in
-    let ctx = before c.args.stage (map value c.args.slots.now) in
+    let ctx = before c.args.course.now.stage (map value c.args.slots.now) in
     let d = c.args.depth in
-    let sees = c.args.stage.sees.now in
+    let sees = c.args.course.now.stage.sees.now in
     let p = c.args.places in
     let a = part_term c.args.part in
     let e = variable_at (place_of a) c.args.number.0 in
@@ -49,28 +50,28 @@ assigned-requires c =
 
 pub returns-in_ok-assigned-in-Ok-clause-found : goal.returns-in_ok-assigned-in-Ok-clause-found
 returns-in_ok-assigned-in-Ok-clause-found c =
-    let s = c.args.stage in
-    let g = setting c.args.stage in
+    let s = c.args.course.now.stage in
+    let g = setting c.args.course.now.stage in
     let vs = map value c.args.slots.now in
-    let ctx = before c.args.stage (map value c.args.slots.now) in
+    let ctx = before c.args.course.now.stage (map value c.args.slots.now) in
     let d = c.args.depth in
-    let sees = c.args.stage.sees.now in
+    let sees = c.args.course.now.stage.sees.now in
     let p = c.args.places in
     let a = part_term c.args.part in
     let e = variable_at (place_of a) c.args.number.0 in
     let w = form_walks g d sees p ctx a (assign c.args.number.0 e) c.requires.form c.requires.grounds.0 c.requires.grounds.1 in
     let told = subst (λ (at : Place). Evaluates (table c.scene_at.result) d (context c.scene_at.result) (variable_at at c.args.number.0) (Ok c.in-Ok.value)) c.part_place.ensures c.in-Ok.ensures in
     let there = on_stage s vs p c.scene_at.result (λ ops x. Evaluates ops d x e (Ok c.in-Ok.value)) c.scene_at.ensures.table c.scene_at.ensures.context told in
-    assigned_row g d sees p ctx a c.args.number.0 e c.in-Ok.value c.in_ok-assigned-in-Ok.field-0.items c.requires.form w.0 there c.in_ok-assigned-in-Ok.ensures
+    assigned_row g d sees p ctx a c.args.number.0 e c.in-Ok.value c.in_ok-assigned-in-Ok.field-0.items c.requires.form w.0 there (assigned_all c.args.number.0 sees c.sees_of.result.now c.sees_of.ensures c.in-Ok.value p c.in_ok-assigned-in-Ok.field-0.items c.in_ok-assigned-in-Ok.ensures)
 
 pub returns-in-Err-clause-fault : goal.returns-in-Err-clause-fault
 returns-in-Err-clause-fault c =
-    let s = c.args.stage in
-    let g = setting c.args.stage in
+    let s = c.args.course.now.stage in
+    let g = setting c.args.course.now.stage in
     let vs = map value c.args.slots.now in
-    let ctx = before c.args.stage (map value c.args.slots.now) in
+    let ctx = before c.args.course.now.stage (map value c.args.slots.now) in
     let d = c.args.depth in
-    let sees = c.args.stage.sees.now in
+    let sees = c.args.course.now.stage.sees.now in
     let p = c.args.places in
     let a = part_term c.args.part in
     let e = variable_at (place_of a) c.args.number.0 in

@@ -7,6 +7,7 @@ use Rattle.tla_actions.specs.Forms.{test}
 use Rattle.eval_reads.specs.Reads.{Reads}
 use Rattle.eval_parts.specs.Scenes.{context, table}
 use Rattle.action_rows.specs.Rows.{before, part_term, setting}
+use Rattle.action_walk.specs.Walking.{listed}
 use Rattle.action_walk.proofs.Rows.{form_walks}
 use Rattle.action_walk.proofs.Taken.{in_scene, on_stage, tested_there}
 use Rattle.action_walk.proofs.Values.{tested_row, untested_row}
@@ -18,41 +19,41 @@ value x = x.now
 
 pub part_truth-requires : goal.part_truth-requires
 part_truth-requires c =
-    let s = c.args.stage in
-    let g = setting c.args.stage in
+    let s = c.args.course.now.stage in
+    let g = setting c.args.course.now.stage in
     let vs = map value c.args.slots.now in
-    let ctx = before c.args.stage (map value c.args.slots.now) in
+    let ctx = before c.args.course.now.stage (map value c.args.slots.now) in
     let d = c.args.depth in
-    let sees = c.args.stage.sees.now in
+    let sees = c.args.course.now.stage.sees.now in
     let p = c.args.places in
     let a = part_term c.args.part in
     let more : suc c.args.depth ≡ c.args.depth + 1 = omega arith in
     let reads = form_walks g d sees p ctx a test c.requires.form c.requires.grounds.0 c.requires.grounds.1 in
     record { read = subst (λ (n : ℕ). Reads (table c.scene_at.result) n (context c.scene_at.result) a) more (in_scene s vs p c.scene_at.result (λ ops x. Reads ops (suc d) x a) c.scene_at.ensures.table c.scene_at.ensures.context reads); tested = tested_there s vs p c.scene_at.result c.args.part c.scene_at.ensures.table c.scene_at.ensures.context c.requires.form }
 
-pub returns-in_ok-one_if-in-Ok-clause-found : goal.returns-in_ok-one_if-in-Ok-clause-found
-returns-in_ok-one_if-in-Ok-clause-found c =
-    let s = c.args.stage in
-    let g = setting c.args.stage in
+pub returns-in-Ok-clause-found : goal.returns-in-Ok-clause-found
+returns-in-Ok-clause-found c =
+    let s = c.args.course.now.stage in
+    let g = setting c.args.course.now.stage in
     let vs = map value c.args.slots.now in
-    let ctx = before c.args.stage (map value c.args.slots.now) in
+    let ctx = before c.args.course.now.stage (map value c.args.slots.now) in
     let d = c.args.depth in
-    let sees = c.args.stage.sees.now in
+    let sees = c.args.course.now.stage.sees.now in
     let p = c.args.places in
     let a = part_term c.args.part in
     let less : c.args.depth + 1 ≡ suc c.args.depth = omega arith in
     let told = subst (λ (n : ℕ). TruthOf (Evaluates (table c.scene_at.result) n) (context c.scene_at.result) a (Ok c.in-Ok.holds)) less c.in-Ok.ensures in
     let there = on_stage s vs p c.scene_at.result (λ ops x. TruthOf (Evaluates ops (suc d)) x a (Ok c.in-Ok.holds)) c.scene_at.ensures.table c.scene_at.ensures.context told in
-    tested_row g d sees p ctx a c.in-Ok.holds c.in_ok-one_if-in-Ok.field-0.items c.requires.form there c.in_ok-one_if-in-Ok.ensures
+    tested_row g d sees p ctx a c.in-Ok.holds (listed c.found_if.result) c.requires.form there c.found_if.ensures
 
 pub returns-in-Err-clause-fault : goal.returns-in-Err-clause-fault
 returns-in-Err-clause-fault c =
-    let s = c.args.stage in
-    let g = setting c.args.stage in
+    let s = c.args.course.now.stage in
+    let g = setting c.args.course.now.stage in
     let vs = map value c.args.slots.now in
-    let ctx = before c.args.stage (map value c.args.slots.now) in
+    let ctx = before c.args.course.now.stage (map value c.args.slots.now) in
     let d = c.args.depth in
-    let sees = c.args.stage.sees.now in
+    let sees = c.args.course.now.stage.sees.now in
     let p = c.args.places in
     let a = part_term c.args.part in
     let less : c.args.depth + 1 ≡ suc c.args.depth = omega arith in

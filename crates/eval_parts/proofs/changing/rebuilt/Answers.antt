@@ -8,26 +8,6 @@ loop-layer-preserved c =
     let so = subst (λ (ks : List Layer). BackSoFar c.args.at c.args.layers.items c.args.value ks c.loop-layer.value) c.in-Some.ensures.items c.loop-layer.invariant in
     back_goes_on c.args.at c.args.layers.items c.args.value c.pop.new.self.items c.in-Some.layer c.loop-layer.value c.in-Ok.made c.in-Ok.ensures so
 
-pub loop-layer-preserved-in-Ok : goal.loop-layer-preserved-in-Ok
-loop-layer-preserved-in-Ok c =
-    let so = subst (λ (ks : List Layer). BackSoFar c.args.at c.args.layers.items c.args.value ks c.loop-layer.value) c.in-Some.ensures.items c.loop-layer.invariant in
-    back_goes_on c.args.at c.args.layers.items c.args.value c.pop.new.self.items c.in-Some.layer c.loop-layer.value c.in-Ok.made c.in-Ok.ensures so
-
-pub loop-layer-preserved-in-Ok-2 : goal.loop-layer-preserved-in-Ok-2
-loop-layer-preserved-in-Ok-2 c =
-    let so = subst (λ (ks : List Layer). BackSoFar c.args.at c.args.layers.items c.args.value ks c.loop-layer.value) c.in-Some.ensures.items c.loop-layer.invariant in
-    back_goes_on c.args.at c.args.layers.items c.args.value c.pop.new.self.items c.in-Some.layer c.loop-layer.value c.in-Ok.made c.in-Ok.ensures so
-
-pub loop-layer-preserved-in-Ok-3 : goal.loop-layer-preserved-in-Ok-3
-loop-layer-preserved-in-Ok-3 c =
-    let so = subst (λ (ks : List Layer). BackSoFar c.args.at c.args.layers.items c.args.value ks c.loop-layer.value) c.in-Some.ensures.items c.loop-layer.invariant in
-    back_goes_on c.args.at c.args.layers.items c.args.value c.pop.new.self.items c.in-Some.layer c.loop-layer.value c.in-Ok.made c.in-Ok.ensures so
-
-pub loop-layer-preserved-in-Ok-4 : goal.loop-layer-preserved-in-Ok-4
-loop-layer-preserved-in-Ok-4 c =
-    let so = subst (λ (ks : List Layer). BackSoFar c.args.at c.args.layers.items c.args.value ks c.loop-layer.value) c.in-Some.ensures.items c.loop-layer.invariant in
-    back_goes_on c.args.at c.args.layers.items c.args.value c.pop.new.self.items c.in-Some.layer c.loop-layer.value c.in-Ok.made c.in-Ok.ensures so
-
 pub returns-in-Err : goal.returns-in-Err
 returns-in-Err c =
     let so = subst (λ (ks : List Layer). BackSoFar c.args.at c.args.layers.items c.args.value ks c.loop-layer.value) c.in-Some.ensures.items c.loop-layer.invariant in

@@ -11,5 +11,5 @@ returns c =
     let b : FitsSigned w64 c.args.last = search rules in
     let low = rw (to_z-of_z w64 c.args.first a) at c.int.ensures in
     let high = rw (to_z-of_z w64 c.args.last b) at c.int-2.ensures in
-    let lists = rw (low, high) at c.interval-3.ensures in
-    interval_listed c.args.first c.args.last c.interval-3.result a b lists
+    let lists = rw (low, high) at c.interval.ensures in
+    interval_listed c.args.first c.args.last c.interval.result a b lists

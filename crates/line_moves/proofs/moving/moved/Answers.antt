@@ -12,7 +12,7 @@ pub loop-update-preserved : goal.loop-update-preserved
 loop-update-preserved c =
     advances c.args.updates.now c.items-all.result.now c.loop-update.update-index c.update-item.result c.args.from.now c.loop-update.places c.put.new.self c.variable.result.0 c.in_ok-next.next c.in-Some.value
     c.items-all.ensures c.requires.within c.loop-update-test.true c.update-item.is c.loop-update.invariant c.in_ok-next.ensures c.in-Some.is c.is_value.ensures
-    (ap (λ (v : VarId). v.0) c.variable.ensures) c.put.ensures
+    (ap (λ (v : VarId). v.0) c.variable.ensures) c.in_ok-put.ensures.put
 
 pub returns-clause-exact : goal.returns-clause-exact
 returns-clause-exact c = λ t.

@@ -11,4 +11,4 @@ returns-in-Err-TooMany-clause-stopped g c =
     (Layer (g.S.Steps.system c.args.steps.now) (line_after c.args.step) (silents_after c.args.step)) _
     (λ t h. into (g.S.Steps.system c.args.steps.now) c.args.step c.args.node.now.line c.args.node.now.silents c.args.node.now.entry t
     c.requires.opens c.requires.source c.requires.reached h)
-    (rw (c.in-Err-TooMany.is, c.in-Err-TooMany.field-0-is, c.limit-bound.ensures) at c.list_steps.ensures))
+    (rw (c.in-Err-TooMany.is, c.in-Err-TooMany.field-0-is, c.limit-bound.ensures) at c.list_steps.ensures.listed))

@@ -1,13 +1,11 @@
-use Rattle.std.proofs.Common.{◌≡◌, ◌∙◌, sym, true, false, is_some, arith}
-use Rattle.state_layers.proofs.Lookups.{adds_found, adds_inserted}
+use Rattle.std.proofs.Common.{rules}
+use Rattle.indexmap.specs.Entry.{map_with_value}
+use Rattle.state_layers.proofs.Lookups.{adds_written}
 use Rattle.state_layers.proofs.layer.add.Goals as goal
 
-pub returns-in_ok-insert : goal.returns-in_ok-insert
-returns-in_ok-insert g c =
-    let none : c.contains_key.result ≡ false = grind arith in
-    adds_inserted g.met.E.Member.same g.met.E.Eq.laws.refl c.args.layer.now c.args.entry c.args.from c.insert.new.self.entries (sym c.contains_key.ensures ∙ none) c.in_ok-insert.ensures.entries
-
-pub returns-else-not-contains_key : goal.returns-else-not-contains_key
-returns-else-not-contains_key g c =
-    let some : c.contains_key.result ≡ true = grind arith in
-    adds_found g.met.E.Member.same g.met.E.Eq.laws.refl c.args.layer.now c.args.entry c.args.from (sym c.contains_key.ensures ∙ some)
+pub returns : goal.returns
+returns g c =
+    let written = map_with_value c.in_ok-layer.field-0 c.or_insert.result.now in
+    let adds = adds_written g.met.E.Member.same g.met.E.Eq.laws.refl c.args.layer.now written c.args.entry c.args.from c.or_insert.result.now _ c.in_ok-layer.ensures.value
+    c.or_insert.ensures.value (c.in_ok-layer.ensures.update.1 c.or_insert.result.now) in
+    search (rules, adds, c.in_ok-layer.ensures.same_map)

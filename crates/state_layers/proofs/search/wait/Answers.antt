@@ -10,6 +10,7 @@ loop-silents-preserved g c = let b = c.in_ok-widest.ensures.behind in
       whole = wait_whole c.args.line _ c.args.start _ _ b.added b.is c.loop-silents.invariant.whole;
       last = wait_last _ c.args.line c.loop-silents.silents c.len-end.result _ _ b.added c.loop-silents.invariant.kept.list b.is end;
       below = omega arith;
+      known = c.in_ok-widest.ensures.known;
     }
 
 pub returns-clause-kept : goal.returns-clause-kept

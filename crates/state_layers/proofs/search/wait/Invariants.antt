@@ -1,6 +1,7 @@
 use Rattle.std.proofs.Common.{◌-◌, ◌<◌}
 use Rattle.state_layers.specs.Moves.{IsRange}
 use Rattle.state_layers.specs.Kept.{Kept, Continues}
+use Rattle.state_layers.specs.Repeats.{AllKnown}
 use Rattle.state_layers.specs.declared.node.Move.TheVariants.{Wait}
 use Rattle.state_layers.proofs.search.wait.Given as goal
 
@@ -10,6 +11,7 @@ invariant-loop-silents g l = record {
   whole : Continues l.line l.nodes.items l.start;
   last : IsRange (Wait l.line l.silents) l.nodes.items l.from;
   below : l.silents < l.within;
+  known : AllKnown (g.S.Steps.system l.steps) g.S.Entry.PartialEq.eq l.known.lists.entries;
 }
 
 abbrev pub decreases-loop-silents : goal.decreases-loop-silents

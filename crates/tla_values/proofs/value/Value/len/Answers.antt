@@ -1,16 +1,17 @@
-use Rattle.std.proofs.Common.{◌≡◌, List, [], ◌∷◌, length, refl, arith}
-use Rattle.tla_values.specs.Data.{entries}
-use Rattle.tla_values.specs.declared.value.Entry.{Entry}
-use Rattle.tla_values.specs.View.{entries_view}
+use Rattle.std.proofs.Common.{arith}
 use Rattle.tla_values.specs.SetLaws.{members-vals_of}
+use Rattle.tla_values.proofs.Entries.{length-entries}
+use Rattle.tla_values.proofs.Forms.{length-fields, length-places}
 use Rattle.tla_values.proofs.value.Value.len.Goals as goal
 
-length-entries : (es : List Entry) → length (entries (entries_view es)) ≡ length es
-length-entries [] = refl
-length-entries (e ∷ es) = omega (arith, length-entries es)
-
 pub returns-in-Set : goal.returns-in-Set
-returns-in-Set c = rw (← c.self.view_is, c.in-Set.is, members-vals_of) (omega arith)
+returns-in-Set c = rw (← c.self.view_is, c.in-Set.is, members-vals_of, ← c.deref.ensures) (omega arith)
+
+pub returns-in-Sequence : goal.returns-in-Sequence
+returns-in-Sequence c = rw (← c.self.view_is, c.in-Sequence.is, ← c.deref-in-Sequence.ensures) (omega (arith, length-places 1 c.deref-in-Sequence.result.now.items.items))
+
+pub returns-in-Record : goal.returns-in-Record
+returns-in-Record c = rw (← c.self.view_is, c.in-Record.is, ← c.deref-in-Record.ensures) (omega (arith, length-fields c.deref-in-Record.result.now.fields.items))
 
 pub returns-in-Function : goal.returns-in-Function
-returns-in-Function c = rw (← c.self.view_is, c.in-Function.is, length-entries) (omega arith)
+returns-in-Function c = rw (← c.self.view_is, c.in-Function.is, length-entries, ← c.deref-in-Function.ensures) (omega arith)

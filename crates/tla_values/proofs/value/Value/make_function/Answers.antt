@@ -1,6 +1,6 @@
 use Rattle.std.proofs.Common.{arith, ap, sym, subst}
 use Rattle.std.proofs.lemmas.List.Sorted.{length_permutation}
-use Rattle.tla_values.specs.Data.{function, Pairs, pairs_of, pairs_depth}
+use Rattle.tla_values.specs.Data.{Val, function, pairs_of, depth}
 use Rattle.tla_values.specs.IsValue.{IsValue}
 use Rattle.tla_values.specs.Functions.{IsFunctionOf}
 use Rattle.tla_values.proofs.FunctionLemmas.{key_twice_before, no_key_twice, depth_permutation, valid_function, function_of}
@@ -27,8 +27,10 @@ invariant_of-result c =
     let sorted = c.sort_unstable.new.self.items in
     let valid : IsValue (function (pairs_of sorted)) = valid_function sorted c.if-has_key_twice.ensures (omega arith) c.deepest_pair-deepest.ensures.canonical (omega arith) in
     record {
-      valid = subst (λ (ps : Pairs). IsValue (function ps)) (sym c.in_ok-entries.ensures) valid;
-      levels_is = omega (arith, ap pairs_depth c.in_ok-entries.ensures);
+      valid = subst IsValue (sym c.in_ok-node.ensures.view) valid;
+      levels_is = omega (arith, c.in_ok-node.ensures.levels, ap depth c.in_ok-node.ensures.view);
+      hash_is = c.in_ok-node.ensures.hash;
+      one_form = c.in_ok-node.ensures.form;
     }
 
 pub returns : goal.returns
@@ -36,5 +38,5 @@ returns c =
     let sorted = c.sort_unstable.new.self.items in
     let valid : IsValue (function (pairs_of sorted)) = valid_function sorted c.if-has_key_twice.ensures (omega arith) c.deepest_pair-deepest.ensures.canonical (omega arith) in (
       no_key_twice c.args.pairs.items sorted c.sort_unstable.ensures.permutation c.if-has_key_twice.ensures,
-      subst (λ (ps : Pairs). IsFunctionOf c.args.pairs.items (function ps)) (sym c.in_ok-entries.ensures) (function_of c.args.pairs.items sorted c.sort_unstable.ensures.permutation valid),
+      subst (λ (f : Val). IsFunctionOf c.args.pairs.items f) (sym c.in_ok-node.ensures.view) (function_of c.args.pairs.items sorted c.sort_unstable.ensures.permutation valid),
     )

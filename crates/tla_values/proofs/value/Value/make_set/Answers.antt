@@ -21,11 +21,13 @@ pub invariant_of-result : goal.invariant_of-result
 invariant_of-result c =
     let lists = ascending_of c.args.members.items c.sort_unstable.new.self.items c.dedup.new.self.items c.sort_unstable.ensures.permutation c.sort_unstable.ensures.sorted c.dedup.ensures.filtered in
     record {
-      valid = valid_set c.args.members.items c.dedup.new.self.items lists (omega arith) c.deepest-deepest.ensures.canonical (omega arith);
-      levels_is = omega arith;
+      valid = rw c.in_ok-body.ensures.items (valid_set c.args.members.items c.dedup.new.self.items lists (omega arith) c.deepest-deepest.ensures.canonical (omega arith));
+      levels_is = rw (c.in_ok-body.ensures.items, c.in_ok-body.ensures.levels) (omega arith);
+      hash_is = rw c.in_ok-body.ensures.items c.in_ok-body.ensures.hash;
+      one_form = tt;
     }
 
 pub returns : goal.returns
 returns c =
     let lists = ascending_of c.args.members.items c.sort_unstable.new.self.items c.dedup.new.self.items c.sort_unstable.ensures.permutation c.sort_unstable.ensures.sorted c.dedup.ensures.filtered in
-    set_of c.args.members.items c.dedup.new.self.items lists (valid_set c.args.members.items c.dedup.new.self.items lists (omega arith) c.deepest-deepest.ensures.canonical (omega arith))
+    rw c.in_ok-body.ensures.items (set_of c.args.members.items c.dedup.new.self.items lists (valid_set c.args.members.items c.dedup.new.self.items lists (omega arith) c.deepest-deepest.ensures.canonical (omega arith)))

@@ -1,5 +1,4 @@
-use Rattle.std.proofs.Common.{arith, ap, sym, subst}
-use Rattle.tla_values.specs.Data.{function, Pairs, pairs_depth}
+use Rattle.std.proofs.Common.{arith, refl}
 use Rattle.tla_values.specs.IsValue.{IsValue}
 use Rattle.tla_values.specs.Functions.{sequence_of}
 use Rattle.tla_values.proofs.SequenceLemmas.{depth-numbered, valid_sequence}
@@ -12,11 +11,13 @@ pub invariant_of-result : goal.invariant_of-result
 invariant_of-result c =
     let valid : IsValue (sequence_of c.args.items.items) = valid_sequence c.args.items.items (omega arith) c.deepest-deepest.ensures.canonical (omega arith) in
     record {
-      valid = subst (λ (ps : Pairs). IsValue (function ps)) (sym c.in_ok-entries.ensures) valid;
-      levels_is = omega (arith, ap pairs_depth c.in_ok-entries.ensures, depth-numbered 1 c.args.items.items);
+      valid = rw c.in_ok-body.ensures.items valid;
+      levels_is = rw (c.in_ok-body.ensures.items, c.in_ok-body.ensures.levels) (omega (arith, depth-numbered 1 c.args.items.items));
+      hash_is = rw c.in_ok-body.ensures.items c.in_ok-body.ensures.hash;
+      one_form = tt;
     }
 
 pub returns : goal.returns
 returns c =
     let valid : IsValue (sequence_of c.args.items.items) = valid_sequence c.args.items.items (omega arith) c.deepest-deepest.ensures.canonical (omega arith) in
-    (ap function c.in_ok-entries.ensures, subst (λ (ps : Pairs). IsValue (function ps)) (sym c.in_ok-entries.ensures) valid)
+    rw c.in_ok-body.ensures.items (refl, valid)
