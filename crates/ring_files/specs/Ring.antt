@@ -45,4 +45,5 @@ ring_job = record {
   config = None;
   silent = None;
   options = record { within = 1; stutter = false; limit = 10000 };
+  why = None;
 }

@@ -31,5 +31,6 @@ fn made(alloc: Global) -> Result<Job, NoMemory>
             stutter: false,
             limit: 10_000,
         },
+        why: None,
     })
 }

@@ -99,7 +99,7 @@ fn push_next(text: &mut String, logs: &Names, next: LineAt) -> Result<(), NoMemo
 }
 
 /// The name of the log of that number, from 1.
-fn log_name(logs: &Names, file: u32) -> &str
+pub fn log_name(logs: &Names, file: u32) -> &str
     ensures { result.now ≡ log_name logs.now file }
 {
     if file == 0 {

@@ -40,7 +40,7 @@ fn kind_refusal(alloc: Global, name: &str, kind: LogKind, line: u32) -> Result<S
 }
 
 /// Adds a line of a log.
-pub(crate) fn push_line(text: &mut String, name: &str, line: u32) -> Result<(), NoMemory>
+pub fn push_line(text: &mut String, name: &str, line: u32) -> Result<(), NoMemory>
     ensures { OnOk result (string_bytes text.new ≡ string_bytes text.old ++ line_text name.now line) }
 {
     text.push_str(name)?;

@@ -8,7 +8,7 @@ use std::alloc::Global;
 use trace_base::{Names, NoMemory};
 
 /// The numbers of the variables of these names, in ascending order of the bytes of their names.
-pub(crate) fn in_order(alloc: Global, names: &Names) -> Result<Vec<usize>, NoMemory>
+pub fn in_order(alloc: Global, names: &Names) -> Result<Vec<usize>, NoMemory>
     ensures { IfOk result (λ v. v.items ≡ in_order names.now) }
 {
     let mut sorted = Vec::new(alloc);

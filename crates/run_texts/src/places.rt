@@ -5,7 +5,7 @@ use std::alloc::Global;
 use trace_base::{Names, NoMemory, Place};
 
 /// The name of that number, from 0; past the end the empty text.
-pub(crate) fn name_at(names: &Names, i: usize) -> &str
+pub fn name_at(names: &Names, i: usize) -> &str
     ensures { result.now ≡ name_at names.now i }
 {
     match names.get(i) {
@@ -25,7 +25,7 @@ pub(crate) fn push_place(text: &mut String, files: &Names, at: Place) -> Result<
 }
 
 /// Adds a place, behind " at ".
-pub(crate) fn push_at(text: &mut String, files: &Names, at: Place) -> Result<(), NoMemory>
+pub fn push_at(text: &mut String, files: &Names, at: Place) -> Result<(), NoMemory>
     ensures { OnOk result (string_bytes text.new ≡ string_bytes text.old ++ at_place files.now at) }
 {
     text.push_str(" at ")?;

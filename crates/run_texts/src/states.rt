@@ -70,7 +70,8 @@ fn push_behind(text: &mut String, mark: Mark) -> Result<(), NoMemory>
     })
 }
 
-fn push_state(
+/// Adds a state.
+pub fn push_state(
     alloc: Global,
     text: &mut String,
     names: &Names,

@@ -5,14 +5,14 @@ use Rattle.std.specs.declared.alloc.AllocError.{AllocError}
 use Rattle.std.proofs.lemmas.Bool.{and_parts}
 use Rattle.run_words.specs.declared.command.Command.{Command}
 use Rattle.run_words.specs.declared.command.Command.TheVariants as command
-use Rattle.run_words.specs.declared.command.Setting.TheVariants.{Config, Within, Limit, Witness}
+use Rattle.run_words.specs.declared.command.Setting.TheVariants.{Config, Within, Limit, Witness, Why}
 use Rattle.run_words.specs.declared.job.Job.{Job}
 use Rattle.run_words.specs.declared.job.Options.{Options}
 use Rattle.run_words.specs.declared.job.Words.{Words}
 use Rattle.run_words.specs.declared.job.Words.TheVariants.{Validate, Check, SelfRun}
 use Rattle.run_words.specs.Line.{Text, Given, Gives, is_given}
-use Rattle.run_words.specs.Job.{IsJob, IsNumber, IsNumberOr, SetsOptions, values_of}
-use Rattle.run_words.specs.Words.{AreWords, Asks, AsksCheck, AsksNumber, IsOnlyNumber, IsWitnessed, JobMeets, MeetsRules, OneCommand, OptionsMeet, Reads}
+use Rattle.run_words.specs.Job.{IsJob, IsNumber, IsNumberIn, IsNumberOr, SetsOptions, values_of}
+use Rattle.run_words.specs.Words.{AreWords, Asks, AsksCheck, AsksNumber, IsFew, IsOnlyNumber, IsWitnessed, JobMeets, MeetsRules, OneCommand, OptionsMeet, Reads}
 use Rattle.run_words.proofs.ReadLaws.{job_as, number_as, witnessed_as}
 use Rattle.run_words.proofs.Readings.{AllGiven, line_given, one_given}
 
@@ -25,6 +25,11 @@ one_number_or : (default : ℕ) (values : List Text) (least most a b : ℕ) → 
 one_number_or default [] least most a b g h = g ∙ sym h
 one_number_or default (t ∷ []) least most a b g h = one_number t least most a b g h
 one_number_or default (t ∷ u ∷ ts) least most a b g h = absurd g
+
+one_found : (values : List Text) (least most : ℕ) (a b : Option ℕ) → IsNumberIn values least most a → IsNumberIn values least most b → a ≡ b
+one_found [] least most a b g h = g ∙ sym h
+one_found (t ∷ []) least most a b g h = g.1 ∙ ap Some (one_number t least most g.0 h.0 g.2 h.2) ∙ sym h.1
+one_found (t ∷ u ∷ ts) least most a b g h = absurd g
 
 one_flag : (n : ℕ) (a b : Bool) → n ≡ (if a then 1 else 0) → n ≡ (if b then 1 else 0) → a ≡ b
 one_flag n true true e f = refl
@@ -44,13 +49,14 @@ options_are a b e f g =
     ∙ ap (λ s. let o : Options = record { within = b.within; stutter = s; limit = a.limit } in o) f
     ∙ ap (λ l. let o : Options = record { within = b.within; stutter = b.stutter; limit = l } in o) g
 
-job_are : (a b : Job) → a.module ≡ b.module → a.logs ≡ b.logs → a.config ≡ b.config → a.silent ≡ b.silent → a.options ≡ b.options → a ≡ b
-job_are a b e f g h i =
-    ap (λ m. let j : Job = record { «module» = m; logs = a.logs; config = a.config; silent = a.silent; options = a.options } in j) e
-    ∙ ap (λ l. let j : Job = record { «module» = b.module; logs = l; config = a.config; silent = a.silent; options = a.options } in j) f
-    ∙ ap (λ x. let j : Job = record { «module» = b.module; logs = b.logs; config = x; silent = a.silent; options = a.options } in j) g
-    ∙ ap (λ x. let j : Job = record { «module» = b.module; logs = b.logs; config = b.config; silent = x; options = a.options } in j) h
-    ∙ ap (λ o. let j : Job = record { «module» = b.module; logs = b.logs; config = b.config; silent = b.silent; options = o } in j) i
+job_are : (a b : Job) → a.module ≡ b.module → a.logs ≡ b.logs → a.config ≡ b.config → a.silent ≡ b.silent → a.options ≡ b.options → a.why ≡ b.why → a ≡ b
+job_are a b e f g h i k =
+    ap (λ m. let j : Job = record { «module» = m; logs = a.logs; config = a.config; silent = a.silent; options = a.options; why = a.why } in j) e
+    ∙ ap (λ l. let j : Job = record { «module» = b.module; logs = l; config = a.config; silent = a.silent; options = a.options; why = a.why } in j) f
+    ∙ ap (λ x. let j : Job = record { «module» = b.module; logs = b.logs; config = x; silent = a.silent; options = a.options; why = a.why } in j) g
+    ∙ ap (λ x. let j : Job = record { «module» = b.module; logs = b.logs; config = b.config; silent = x; options = a.options; why = a.why } in j) h
+    ∙ ap (λ o. let j : Job = record { «module» = b.module; logs = b.logs; config = b.config; silent = b.silent; options = o; why = a.why } in j) i
+    ∙ ap (λ w. let j : Job = record { «module» = b.module; logs = b.logs; config = b.config; silent = b.silent; options = b.options; why = w } in j) k
 
 one_options : (g : Given) (a b : Options) → SetsOptions g a → SetsOptions g b → a ≡ b
 one_options g a b h i = options_are a b
@@ -63,7 +69,7 @@ one_job g a b h i =
     let files : a.module ∷ a.logs ≡ b.module ∷ b.logs = sym h.files.all ∙ i.files.all in
     job_are a b (let e : a.module ≡ b.module = cc in e) (let e : a.logs ≡ b.logs = cc in e)
     (one_option a.config b.config (sym h.config ∙ i.config)) (one_option a.silent b.silent (sym h.silent ∙ i.silent))
-    (one_options g a.options b.options h.options i.options)
+    (one_options g a.options b.options h.options i.options) (one_found (values_of Why g.options) 1 1000 a.why b.why h.why i.why)
 
 one_asked : (c : Command) (ws : List Text) (a b : Job) → Asks c ws a → Asks c ws b → a ≡ b
 one_asked c ws a b h i = one_job h.given a b h.job_is (job_as i.given h.given b (one_given c ws i.given h.given i.line h.line) i.job_is)
@@ -129,6 +135,13 @@ options_meet g o h =
     let l = number_meets 10000 (values_of Limit g.options) 1 100000 o.limit (omega arith) (omega arith) h.limit in
     record { within_least = w.0; within_most = w.1; limit_least = l.0; limit_most = l.1 }
 
+found_meets : (values : List Text) (o : Option ℕ) → IsNumberIn values 1 1000 o → IfSome o IsFew
+found_meets [] None h = tt
+found_meets [] (Some n) h = cc
+found_meets (t ∷ []) None h = tt
+found_meets (t ∷ []) (Some n) h = let e : n ≡ h.0 = let same = h.1 in cc in subst IsFew (sym e) (h.2.above, h.2.below)
+found_meets (t ∷ u ∷ ts) o h = absurd h
+
 job_meets : (c : Command) (ws : List Text) (g : Given) (j : Job) → Gives c ws g → IsJob g j → JobMeets j
 job_meets c ws g j l h =
     let a = line_is c ws g l in
@@ -141,6 +154,7 @@ job_meets c ws g j l h =
       config = name_meets j.config (values_of Config g.options) h.config (a.settings Config);
       silent = h.operator;
       options = options_meet g j.options h.options;
+      why = found_meets (values_of Why g.options) j.why h.why;
     }
 
 witness_meets : (c : Command) (ws : List Text) (g : Given) (w : Text) → Gives c ws g → values_of Witness g.options ≡ w ∷ [] → is_given w ≡ true

@@ -7,7 +7,7 @@ use Rattle.clap.specs.Faults.{fault_of}
 use Rattle.run_words.specs.declared.command.Command.{Command}
 use Rattle.run_words.specs.declared.command.Command.TheVariants.{Validate, Check, SelfRun}
 use Rattle.run_words.specs.declared.command.Setting.{Setting}
-use Rattle.run_words.specs.declared.command.Setting.TheVariants.{Config, Within, Silent, Limit, Witness}
+use Rattle.run_words.specs.declared.command.Setting.TheVariants.{Config, Within, Silent, Limit, Witness, Why}
 use Rattle.run_words.specs.Line.{Text, Part, apart, joined, stutter, positional, Line, name_of, has_setting, has_stutter, written, written_part, written_parts, written_behind}
 use Rattle.run_words.specs.Parsers.{app_for, id_of, rules_for, setting_rule, stutter_rule}
 use Rattle.run_words.proofs.Faults.{ends_fault, fault_from, fault_is, matches_are, no_more, one_more, turn, walk_on}
@@ -56,11 +56,13 @@ value_settled Validate Within v h e = refl
 value_settled Validate Silent v h e = refl
 value_settled Validate Limit v h e = refl
 value_settled Validate Witness v h e = cc
+value_settled Validate Why v h e = refl
 value_settled Check Config v h e = refl
 value_settled Check Within v h e = refl
 value_settled Check Silent v h e = refl
 value_settled Check Witness v h e = refl
 value_settled Check Limit v h e = cc
+value_settled Check Why v h e = cc
 value_settled SelfRun s v h e = cc
 
 word_settled : (c : Command) (w : Text) (h : Held) → rows_held c (awaited c (codes "words") (w ∷ []) h) ≡ used word_rule (w ∷ []) (rows_held c h)

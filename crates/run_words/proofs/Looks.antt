@@ -11,7 +11,7 @@ use Rattle.clap.specs.Simple.{filled}
 use Rattle.run_words.specs.declared.command.Command.{Command}
 use Rattle.run_words.specs.declared.command.Command.TheVariants.{Validate, Check, SelfRun}
 use Rattle.run_words.specs.declared.command.Setting.{Setting}
-use Rattle.run_words.specs.declared.command.Setting.TheVariants.{Config, Within, Silent, Limit, Witness}
+use Rattle.run_words.specs.declared.command.Setting.TheVariants.{Config, Within, Silent, Limit, Witness, Why}
 use Rattle.run_words.specs.Line.{Text, has_setting, has_stutter}
 use Rattle.run_words.specs.Parsers.{id_of, rules_for, setting_rule, stutter_rule}
 use Rattle.run_words.proofs.Walks.{NoFlag, no_flag, word_rule}
@@ -120,32 +120,40 @@ other_rule a rs n e = ap (λ b. if not (is_some a.index) && b then Some a else a
 or_nothing : (b : Bool) → b ≡ false → (b || false) ≡ false
 or_nothing b e = ap (λ b. b || false) e
 
--- the arguments of `validate` and `check`, of which the last option is another
-abbrev behind_silent : Setting → List Rule
-behind_silent last = filled stutter_rule ∷ filled (setting_rule last) ∷ word_rule ∷ []
+-- the arguments of `validate` and `check`, which differ behind `--stutter`
+abbrev behind_silent : Setting → List Rule → List Rule
+behind_silent last others = filled stutter_rule ∷ filled (setting_rule last) ∷ others
 
-abbrev behind_config : Setting → List Rule
-behind_config last = filled (setting_rule Within) ∷ filled (setting_rule Silent) ∷ behind_silent last
+abbrev behind_config : Setting → List Rule → List Rule
+behind_config last others = filled (setting_rule Within) ∷ filled (setting_rule Silent) ∷ behind_silent last others
 
-unknown_name : (last : Setting) (n : Text) → bytes_eq (codes "config") n ≡ false → bytes_eq (codes "within") n ≡ false → bytes_eq (codes "silent") n ≡ false
-    → bytes_eq (codes "stutter") n ≡ false → bytes_eq (id_of last) n ≡ false → arg_by_long (filled (setting_rule Config) ∷ behind_config last) n ≡ None
-unknown_name last n p q r s t =
-    other_rule (filled (setting_rule Config)) (behind_config last) n (or_nothing _ p) ∙ other_rule (filled (setting_rule Within)) (filled (setting_rule Silent) ∷ behind_silent last) n (or_nothing _ q)
-    ∙ other_rule (filled (setting_rule Silent)) (behind_silent last) n (or_nothing _ r) ∙ other_rule (filled stutter_rule) (filled (setting_rule last) ∷ word_rule ∷ []) n (or_nothing _ s)
-    ∙ other_rule (filled (setting_rule last)) (word_rule ∷ []) n (or_nothing _ t)
+other_name : (last : Setting) (others : List Rule) (n : Text) → bytes_eq (codes "config") n ≡ false → bytes_eq (codes "within") n ≡ false → bytes_eq (codes "silent") n ≡ false
+    → bytes_eq (codes "stutter") n ≡ false → bytes_eq (id_of last) n ≡ false → arg_by_long (filled (setting_rule Config) ∷ behind_config last others) n ≡ arg_by_long others n
+other_name last others n p q r s t =
+    other_rule (filled (setting_rule Config)) (behind_config last others) n (or_nothing _ p)
+    ∙ other_rule (filled (setting_rule Within)) (filled (setting_rule Silent) ∷ behind_silent last others) n (or_nothing _ q)
+    ∙ other_rule (filled (setting_rule Silent)) (behind_silent last others) n (or_nothing _ r)
+    ∙ other_rule (filled stutter_rule) (filled (setting_rule last) ∷ others) n (or_nothing _ s)
+    ∙ other_rule (filled (setting_rule last)) others n (or_nothing _ t)
 
-name_means : (c : Command) (last : Setting) (n : Text) → has_stutter c ≡ true → has_setting c Config ≡ true → has_setting c Within ≡ true → has_setting c Silent ≡ true → has_setting c last ≡ true
-    → rules_for c ≡ filled (setting_rule Config) ∷ behind_config last
+name_means : (c : Command) (last : Setting) (others : List Rule) (n : Text) → has_stutter c ≡ true → has_setting c Config ≡ true → has_setting c Within ≡ true → has_setting c Silent ≡ true → has_setting c last ≡ true
+    → rules_for c ≡ filled (setting_rule Config) ∷ behind_config last others → (arg_by_long (rules_for c) n ≡ arg_by_long others n → Means c n)
     → (a b d e f : Bool) → bytes_eq (codes "config") n ≡ a → bytes_eq (codes "within") n ≡ b → bytes_eq (codes "silent") n ≡ d → bytes_eq (codes "stutter") n ≡ e → bytes_eq (id_of last) n ≡ f
     → Means c n
-name_means c last n h i j k l m true b d e f p q r s t = setting Config i (sym (same_bytes _ _ p))
-name_means c last n h i j k l m false true d e f p q r s t = setting Within j (sym (same_bytes _ _ q))
-name_means c last n h i j k l m false false true e f p q r s t = setting Silent k (sym (same_bytes _ _ r))
-name_means c last n h i j k l m false false false true f p q r s t = flag h (sym (same_bytes _ _ s))
-name_means c last n h i j k l m false false false false true p q r s t = setting last l (sym (same_bytes _ _ t))
-name_means c last n h i j k l m false false false false false p q r s t = unknown (ap (λ rs. arg_by_long rs n) m ∙ unknown_name last n p q r s t)
+name_means c last others n h i j k l m o true b d e f p q r s t = setting Config i (sym (same_bytes _ _ p))
+name_means c last others n h i j k l m o false true d e f p q r s t = setting Within j (sym (same_bytes _ _ q))
+name_means c last others n h i j k l m o false false true e f p q r s t = setting Silent k (sym (same_bytes _ _ r))
+name_means c last others n h i j k l m o false false false true f p q r s t = flag h (sym (same_bytes _ _ s))
+name_means c last others n h i j k l m o false false false false true p q r s t = setting last l (sym (same_bytes _ _ t))
+name_means c last others n h i j k l m o false false false false false p q r s t = o (ap (λ rs. arg_by_long rs n) m ∙ other_name last others n p q r s t)
+
+-- of the arguments behind those, the one option of `validate` is named, or none
+behind_limit : (n : Text) (b : Bool) → bytes_eq (codes "why") n ≡ b → arg_by_long (rules_for Validate) n ≡ arg_by_long (filled (setting_rule Why) ∷ word_rule ∷ []) n → Means Validate n
+behind_limit n true p e = setting Why refl (sym (same_bytes _ _ p))
+behind_limit n false p e = unknown (e ∙ other_rule (filled (setting_rule Why)) (word_rule ∷ []) n (or_nothing _ p))
 
 pub means : (c : Command) (n : Text) → Means c n
-means Validate n = name_means Validate Limit n refl refl refl refl refl refl _ _ _ _ _ refl refl refl refl refl
-means Check n = name_means Check Witness n refl refl refl refl refl refl _ _ _ _ _ refl refl refl refl refl
+means Validate n =
+    name_means Validate Limit (filled (setting_rule Why) ∷ word_rule ∷ []) n refl refl refl refl refl refl (behind_limit n _ refl) _ _ _ _ _ refl refl refl refl refl
+means Check n = name_means Check Witness (word_rule ∷ []) n refl refl refl refl refl refl (λ e. unknown e) _ _ _ _ _ refl refl refl refl refl
 means SelfRun n = unknown refl

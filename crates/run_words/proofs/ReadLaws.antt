@@ -6,15 +6,15 @@ use Rattle.std.specs.declared.alloc.AllocError.{AllocError}
 use Rattle.std.proofs.lemmas.List.{take_rest}
 use Rattle.run_words.specs.declared.command.Command.{Command}
 use Rattle.run_words.specs.declared.command.Command.TheVariants as command
-use Rattle.run_words.specs.declared.command.Setting.TheVariants.{Config, Within, Silent, Limit, Witness}
+use Rattle.run_words.specs.declared.command.Setting.TheVariants.{Config, Within, Silent, Limit, Witness, Why}
 use Rattle.run_words.specs.declared.job.Job.{Job}
 use Rattle.run_words.specs.declared.job.Options.{Options}
 use Rattle.run_words.specs.declared.job.Words.{Words}
 use Rattle.run_words.specs.declared.job.Words.TheVariants.{Validate, Check, SelfRun}
 use Rattle.run_words.specs.Line.{Text, Given, Gives, words_of}
-use Rattle.run_words.specs.Job.{AreFiles, IsJob, IsNumberOr, SetsOptions}
+use Rattle.run_words.specs.Job.{AreFiles, IsJob, IsNumberIn, IsNumberOr, SetsOptions}
 use Rattle.run_words.specs.Parsers.{Agree, Holds, texts_of}
-use Rattle.run_words.specs.Values.{IsValue, NumberFrom}
+use Rattle.run_words.specs.Values.{IsValue, NumberFrom, NumberIn}
 use Rattle.run_words.specs.Words.{AreWords, Asks, AsksCheck, AsksNumber, IsOnlyNumber, IsWitnessed}
 use Rattle.run_words.proofs.Readings.{one_given, then_agree, turned}
 
@@ -40,6 +40,7 @@ job_as g h j a i = record {
   silent = sym (a.settings Silent) ∙ i.silent;
   operator = i.operator;
   options = options_as g h j.options a i.options;
+  why = subst (λ vs. IsNumberIn vs 1 1000 j.why) (a.settings Why) i.why;
 }
 
 pub witnessed_as : (g h : Given) (j : Job) (w : Text) → Agree g h → IsWitnessed g j w → IsWitnessed h j w
@@ -57,6 +58,17 @@ pub number_at : (default least most : ℕ) (values : List Text) (found : Option 
     → MatchOption r ((n : ℕ) → IsNumberOr default values least most n → ⊥) (IsNumberOr default values least most)
 number_at default least most values None r e h = subst (λ vs. MatchOption r ((n : ℕ) → IsNumberOr default vs least most n → ⊥) (IsNumberOr default vs least most)) (sym e) h
 number_at default least most values (Some t) r e h = subst (λ vs. MatchOption r ((n : ℕ) → IsNumberOr default vs least most n → ⊥) (IsNumberOr default vs least most)) (sym e) h
+
+pub number_in_at : (least most : ℕ) (values : List Text) (found : Option (Bor Text)) (r : Option (Option ℕ)) → IsValue values found
+    → MatchOption r ((o : Option ℕ) → NumberIn (option_map (λ t. t.now) found) least most o → ⊥) (NumberIn (option_map (λ t. t.now) found) least most)
+    → MatchOption r ((o : Option ℕ) → IsNumberIn values least most o → ⊥) (IsNumberIn values least most)
+number_in_at least most values None r e h = subst (λ vs. MatchOption r ((o : Option ℕ) → IsNumberIn vs least most o → ⊥) (IsNumberIn vs least most)) (sym e) h
+number_in_at least most values (Some t) r e h = subst (λ vs. MatchOption r ((o : Option ℕ) → IsNumberIn vs least most o → ⊥) (IsNumberIn vs least most)) (sym e) h
+
+pub many_numbers : (least most : ℕ) (values : List Text) → 2 ≤ length values → (o : Option ℕ) → IsNumberIn values least most o → ⊥
+many_numbers least most [] l o h = omega arith
+many_numbers least most (t ∷ []) l o h = omega arith
+many_numbers least most (t ∷ u ∷ ts) l o h = h
 
 -- ---- the number of `selfrun`
 

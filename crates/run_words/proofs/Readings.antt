@@ -15,7 +15,7 @@ use Rattle.clap.specs.declared.error.kind.ErrorKind.TheVariants.{OutOfMemory}
 use Rattle.clap.specs.declared.parser.matches.ArgMatches.{ArgMatches}
 use Rattle.run_words.specs.declared.command.Command.{Command}
 use Rattle.run_words.specs.declared.command.Setting.{Setting}
-use Rattle.run_words.specs.declared.command.Setting.TheVariants.{Config, Within, Silent, Limit, Witness}
+use Rattle.run_words.specs.declared.command.Setting.TheVariants.{Config, Within, Silent, Limit, Witness, Why}
 use Rattle.run_words.specs.Job.{is_same, values_of}
 use Rattle.run_words.specs.Line.{Text, Part, apart, joined, stutter, positional, Line, Given, Gives, begins_with_dash, behind_given, given_behind, given_of, given_parts, has_setting, is_given, is_line, is_part, with_part, words_of, written}
 use Rattle.run_words.specs.Parsers.{Agree, Holds, app_for, are_given, given_by, given_in, has_given_alone, id_of, vals}
@@ -76,24 +76,26 @@ line_given c l e = let p = and_parts (list_all (is_part c) l.parts) (behind_give
 rows_given : (rows : List Row) → AllGiven (given_in rows) → are_given rows ≡ true
 rows_given rows a =
     let one : (s : Setting) → list_all is_given (vals (id_of s) rows) ≡ true = λ s. subst (λ vs. list_all is_given vs ≡ true) (values_in rows s) (a.settings s) in
-    and_from _ _ (and_from _ _ (and_from _ _ (and_from _ _ (and_from _ _ (one Config) (one Within)) (one Silent)) (one Limit)) (one Witness)) a.words
+    and_from _ _ (and_from _ _ (and_from _ _ (and_from _ _ (and_from _ _ (and_from _ _ (one Config) (one Within)) (one Silent)) (one Limit)) (one Witness)) (one Why)) a.words
 
 by_setting : (rows : List Row) → list_all is_given (vals (id_of Config) rows) ≡ true → list_all is_given (vals (id_of Within) rows) ≡ true → list_all is_given (vals (id_of Silent) rows) ≡ true
-    → list_all is_given (vals (id_of Limit) rows) ≡ true → list_all is_given (vals (id_of Witness) rows) ≡ true → (s : Setting) → list_all is_given (vals (id_of s) rows) ≡ true
-by_setting rows a b c d f Config = a
-by_setting rows a b c d f Within = b
-by_setting rows a b c d f Silent = c
-by_setting rows a b c d f Limit = d
-by_setting rows a b c d f Witness = f
+    → list_all is_given (vals (id_of Limit) rows) ≡ true → list_all is_given (vals (id_of Witness) rows) ≡ true → list_all is_given (vals (id_of Why) rows) ≡ true → (s : Setting) → list_all is_given (vals (id_of s) rows) ≡ true
+by_setting rows a b c d f g Config = a
+by_setting rows a b c d f g Within = b
+by_setting rows a b c d f g Silent = c
+by_setting rows a b c d f g Limit = d
+by_setting rows a b c d f g Witness = f
+by_setting rows a b c d f g Why = g
 
 given_rows : (rows : List Row) → are_given rows ≡ true → AllGiven (given_in rows)
 given_rows rows e =
     let w = and_parts _ (has_given_alone rows (codes "words")) e in
-    let f = and_parts _ (has_given_alone rows (codes "witness")) w.0 in
+    let g = and_parts _ (has_given_alone rows (codes "why")) w.0 in
+    let f = and_parts _ (has_given_alone rows (codes "witness")) g.0 in
     let d = and_parts _ (has_given_alone rows (codes "limit")) f.0 in
     let c = and_parts _ (has_given_alone rows (codes "silent")) d.0 in
     let a = and_parts (has_given_alone rows (codes "config")) (has_given_alone rows (codes "within")) c.0 in
-    record { settings = λ s. subst (λ vs. list_all is_given vs ≡ true) (sym (values_in rows s)) (by_setting rows a.0 a.1 c.1 d.1 f.1 s); words = w.1 }
+    record { settings = λ s. subst (λ vs. list_all is_given vs ≡ true) (sym (values_in rows s)) (by_setting rows a.0 a.1 c.1 d.1 f.1 g.1 s); words = w.1 }
 
 as_given : (g h : Given) → Agree g h → AllGiven g → AllGiven h
 as_given g h e a = record { settings = λ s. subst (λ vs. list_all is_given vs ≡ true) (e.settings s) (a.settings s); words = subst (λ ws. list_all is_given ws ≡ true) e.positional a.words }

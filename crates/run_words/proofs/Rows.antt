@@ -13,7 +13,7 @@ use Rattle.clap.specs.declared.builder.value_parser.Reading.{Reading}
 use Rattle.clap.specs.declared.parser.matches.ValueSource.TheVariants.{CommandLine}
 use Rattle.clap.specs.Simple.{filled}
 use Rattle.run_words.specs.declared.command.Setting.{Setting}
-use Rattle.run_words.specs.declared.command.Setting.TheVariants.{Config, Within, Silent, Limit, Witness}
+use Rattle.run_words.specs.declared.command.Setting.TheVariants.{Config, Within, Silent, Limit, Witness, Why}
 use Rattle.run_words.specs.Job.{is_same, values_of}
 use Rattle.run_words.specs.Line.{Text, Part, apart, joined, stutter, positional, Line, Given, given_behind, given_of, given_parts, with_part}
 use Rattle.run_words.specs.Parsers.{Agree, given_in, id_of, options_in, setting_rule, stutter_rule, texts_of, vals}
@@ -64,26 +64,37 @@ same_ids Config Within = refl
 same_ids Config Silent = refl
 same_ids Config Limit = refl
 same_ids Config Witness = refl
+same_ids Config Why = refl
 same_ids Within Config = refl
 same_ids Within Within = refl
 same_ids Within Silent = refl
 same_ids Within Limit = refl
 same_ids Within Witness = refl
+same_ids Within Why = refl
 same_ids Silent Config = refl
 same_ids Silent Within = refl
 same_ids Silent Silent = refl
 same_ids Silent Limit = refl
 same_ids Silent Witness = refl
+same_ids Silent Why = refl
 same_ids Limit Config = refl
 same_ids Limit Within = refl
 same_ids Limit Silent = refl
 same_ids Limit Limit = refl
 same_ids Limit Witness = refl
+same_ids Limit Why = refl
 same_ids Witness Config = refl
 same_ids Witness Within = refl
 same_ids Witness Silent = refl
 same_ids Witness Limit = refl
 same_ids Witness Witness = refl
+same_ids Witness Why = refl
+same_ids Why Config = refl
+same_ids Why Within = refl
+same_ids Why Silent = refl
+same_ids Why Limit = refl
+same_ids Why Witness = refl
+same_ids Why Why = refl
 
 pub same_self : (s : Setting) → is_same s s ≡ true
 same_self Config = refl
@@ -91,6 +102,7 @@ same_self Within = refl
 same_self Silent = refl
 same_self Limit = refl
 same_self Witness = refl
+same_self Why = refl
 
 -- the values of an option behind a use of it, or of another
 used_same : (s t : Setting) (v : Text) (rows : List Row) → is_same s t ≡ true → vals (id_of s) (used (filled (setting_rule t)) (v ∷ []) rows) ≡ vals (id_of s) rows ++ v ∷ []
@@ -99,6 +111,7 @@ used_same Within Within v rows e = vals_same (codes "within") _ (v ∷ []) rows 
 used_same Silent Silent v rows e = vals_same (codes "silent") _ (v ∷ []) rows refl
 used_same Limit Limit v rows e = vals_same (codes "limit") _ (v ∷ []) rows refl
 used_same Witness Witness v rows e = vals_same (codes "witness") _ (v ∷ []) rows refl
+used_same Why Why v rows e = vals_same (codes "why") _ (v ∷ []) rows refl
 used_same s t v rows e = cc
 
 option_used : (s t : Setting) (v : Text) (rows : List Row) → vals (id_of s) (used (filled (setting_rule t)) (v ∷ []) rows) ≡ vals (id_of s) rows ++ (if is_same s t then v ∷ [] else [])
@@ -114,6 +127,7 @@ flag_used Within rows = vals_other (codes "within") (codes "stutter") _ _ rows r
 flag_used Silent rows = vals_other (codes "silent") (codes "stutter") _ _ rows refl
 flag_used Limit rows = vals_other (codes "limit") (codes "stutter") _ _ rows refl
 flag_used Witness rows = vals_other (codes "witness") (codes "stutter") _ _ rows refl
+flag_used Why rows = vals_other (codes "why") (codes "stutter") _ _ rows refl
 
 word_used : (s : Setting) (w : Text) (rows : List Row) → vals (id_of s) (used word_rule (w ∷ []) rows) ≡ vals (id_of s) rows
 word_used Config w rows = vals_other (codes "config") (codes "words") _ _ rows refl
@@ -121,6 +135,7 @@ word_used Within w rows = vals_other (codes "within") (codes "words") _ _ rows r
 word_used Silent w rows = vals_other (codes "silent") (codes "words") _ _ rows refl
 word_used Limit w rows = vals_other (codes "limit") (codes "words") _ _ rows refl
 word_used Witness w rows = vals_other (codes "witness") (codes "words") _ _ rows refl
+word_used Why w rows = vals_other (codes "why") (codes "words") _ _ rows refl
 
 no_flag_used : (s : Setting) (v : Text) (rows : List Row) → vals (codes "stutter") (used (filled (setting_rule s)) (v ∷ []) rows) ≡ vals (codes "stutter") rows
 no_flag_used Config v rows = vals_other (codes "stutter") (codes "config") _ _ rows refl
@@ -128,6 +143,7 @@ no_flag_used Within v rows = vals_other (codes "stutter") (codes "within") _ _ r
 no_flag_used Silent v rows = vals_other (codes "stutter") (codes "silent") _ _ rows refl
 no_flag_used Limit v rows = vals_other (codes "stutter") (codes "limit") _ _ rows refl
 no_flag_used Witness v rows = vals_other (codes "stutter") (codes "witness") _ _ rows refl
+no_flag_used Why v rows = vals_other (codes "stutter") (codes "why") _ _ rows refl
 
 no_word_used : (s : Setting) (v : Text) (rows : List Row) → vals (codes "words") (used (filled (setting_rule s)) (v ∷ []) rows) ≡ vals (codes "words") rows
 no_word_used Config v rows = vals_other (codes "words") (codes "config") _ _ rows refl
@@ -135,6 +151,7 @@ no_word_used Within v rows = vals_other (codes "words") (codes "within") _ _ row
 no_word_used Silent v rows = vals_other (codes "words") (codes "silent") _ _ rows refl
 no_word_used Limit v rows = vals_other (codes "words") (codes "limit") _ _ rows refl
 no_word_used Witness v rows = vals_other (codes "words") (codes "witness") _ _ rows refl
+no_word_used Why v rows = vals_other (codes "words") (codes "why") _ _ rows refl
 
 -- ---- the values of an option
 
@@ -259,9 +276,9 @@ more_held : (rows : List Row) (s t : Setting) (os : List (Setting × Text)) (vs 
 unfolding held
 more_held rows s t os vs e = values_append s (options_in rows t) os ∙ ap₂ (λ us vs. us ++ vs) (values_own s t (vals (id_of t) rows)) e
 
-all_held : (rows : List Row) (s : Setting) → values_of s (given_in rows).options ≡ held rows s Config ++ (held rows s Within ++ (held rows s Silent ++ (held rows s Limit ++ held rows s Witness)))
+all_held : (rows : List Row) (s : Setting) → values_of s (given_in rows).options ≡ held rows s Config ++ (held rows s Within ++ (held rows s Silent ++ (held rows s Limit ++ (held rows s Witness ++ held rows s Why))))
 unfolding held
-all_held rows s = more_held rows s Config _ _ (more_held rows s Within _ _ (more_held rows s Silent _ _ (more_held rows s Limit _ _ (values_own s Witness (vals (id_of Witness) rows)))))
+all_held rows s = more_held rows s Config _ _ (more_held rows s Within _ _ (more_held rows s Silent _ _ (more_held rows s Limit _ _ (more_held rows s Witness _ _ (values_own s Why (vals (id_of Why) rows))))))
 
 pub values_in : (rows : List Row) (s : Setting) → values_of s (given_in rows).options ≡ vals (id_of s) rows
 unfolding held
@@ -269,7 +286,8 @@ values_in rows Config = all_held rows Config ∙ append-nil _
 values_in rows Within = all_held rows Within ∙ append-nil _
 values_in rows Silent = all_held rows Silent ∙ append-nil _
 values_in rows Limit = all_held rows Limit ∙ append-nil _
-values_in rows Witness = all_held rows Witness
+values_in rows Witness = all_held rows Witness ∙ append-nil _
+values_in rows Why = all_held rows Why
 
 pub line_agrees : (l : Line) → Agree (given_of l) (given_in (used_line l))
 unfolding flags

@@ -12,7 +12,7 @@ use Rattle.clap.specs.declared.error.kind.ErrorKind.TheVariants.{InvalidValue, T
 use Rattle.run_words.specs.declared.command.Command.{Command}
 use Rattle.run_words.specs.declared.command.Command.TheVariants.{Validate, Check, SelfRun}
 use Rattle.run_words.specs.declared.command.Setting.{Setting}
-use Rattle.run_words.specs.declared.command.Setting.TheVariants.{Config, Within, Silent, Limit, Witness}
+use Rattle.run_words.specs.declared.command.Setting.TheVariants.{Config, Within, Silent, Limit, Witness, Why}
 use Rattle.run_words.specs.Line.{Text, Part, apart, joined, stutter, positional, Line, name_of, has_setting, has_stutter, written, written_part, written_parts, written_behind}
 use Rattle.run_words.specs.Parsers.{app_for, id_of, rules_for, shape_for}
 use Rattle.run_words.proofs.Faults.{ends_fault, fault_from, fault_is, no_more, one_more, or_left, or_right, overrides_none, turn}
@@ -146,6 +146,7 @@ dashed Within = refl
 dashed Silent = refl
 dashed Limit = refl
 dashed Witness = refl
+dashed Why = refl
 
 dashed_joined : (s : Setting) (v : Text) → 45 ∷ 45 ∷ id_of s ++ 61 ∷ v ≡ name_of s ++ 61 ∷ v
 dashed_joined s v = ap (λ (n : Text). n ++ 61 ∷ v) (dashed s)

@@ -13,7 +13,7 @@ use Rattle.run_words.proofs.Faults.{ends_fault, turn}
 use Rattle.run_words.specs.declared.command.Command.{Command}
 use Rattle.run_words.specs.declared.command.Command.TheVariants.{Validate, Check, SelfRun}
 use Rattle.run_words.specs.declared.command.Setting.{Setting}
-use Rattle.run_words.specs.declared.command.Setting.TheVariants.{Config, Within, Silent, Limit, Witness}
+use Rattle.run_words.specs.declared.command.Setting.TheVariants.{Config, Within, Silent, Limit, Witness, Why}
 use Rattle.run_words.specs.Line.{Text, name_of, has_setting, has_stutter, begins_with_dash}
 use Rattle.run_words.specs.Parsers.{app_for, id_of, rules_for, shape_for, setting_rule, stutter_rule, words_rule}
 
@@ -43,21 +43,25 @@ joins Validate false Within v h e = refl
 joins Validate false Silent v h e = refl
 joins Validate false Limit v h e = refl
 joins Validate false Witness v h e = cc
+joins Validate false Why v h e = refl
 joins Validate true Config v h e = refl
 joins Validate true Within v h e = refl
 joins Validate true Silent v h e = refl
 joins Validate true Limit v h e = refl
 joins Validate true Witness v h e = cc
+joins Validate true Why v h e = refl
 joins Check false Config v h e = refl
 joins Check false Within v h e = refl
 joins Check false Silent v h e = refl
 joins Check false Witness v h e = refl
 joins Check false Limit v h e = cc
+joins Check false Why v h e = cc
 joins Check true Config v h e = refl
 joins Check true Within v h e = refl
 joins Check true Silent v h e = refl
 joins Check true Witness v h e = refl
 joins Check true Limit v h e = cc
+joins Check true Why v h e = cc
 joins SelfRun b s v h e = cc
 
 pub flags : (c : Command) (b : Bool) (h : Held) → has_stutter c ≡ true
@@ -84,21 +88,25 @@ names Validate false Within h e = refl
 names Validate false Silent h e = refl
 names Validate false Limit h e = refl
 names Validate false Witness h e = cc
+names Validate false Why h e = refl
 names Validate true Config h e = refl
 names Validate true Within h e = refl
 names Validate true Silent h e = refl
 names Validate true Limit h e = refl
 names Validate true Witness h e = cc
+names Validate true Why h e = refl
 names Check false Config h e = refl
 names Check false Within h e = refl
 names Check false Silent h e = refl
 names Check false Witness h e = refl
 names Check false Limit h e = cc
+names Check false Why h e = cc
 names Check true Config h e = refl
 names Check true Within h e = refl
 names Check true Silent h e = refl
 names Check true Witness h e = refl
 names Check true Limit h e = cc
+names Check true Why h e = cc
 names SelfRun b s h e = cc
 
 -- a word that begins with no dash, as clap sees it
@@ -150,11 +158,13 @@ takes_value Validate Within w h e n = value_met Validate Within w h n
 takes_value Validate Silent w h e n = value_met Validate Silent w h n
 takes_value Validate Limit w h e n = value_met Validate Limit w h n
 takes_value Validate Witness w h e n = cc
+takes_value Validate Why w h e n = value_met Validate Why w h n
 takes_value Check Config w h e n = value_met Check Config w h n
 takes_value Check Within w h e n = value_met Check Within w h n
 takes_value Check Silent w h e n = value_met Check Silent w h n
 takes_value Check Witness w h e n = value_met Check Witness w h n
 takes_value Check Limit w h e n = cc
+takes_value Check Why w h e n = cc
 takes_value SelfRun s w h e n = cc
 
 -- a word of its own is not added to what waits
@@ -203,21 +213,25 @@ joins_fault Validate false Within v h e g = ap (λ x. or_else (or_else x []) [])
 joins_fault Validate false Silent v h e g = ap (λ x. or_else (or_else x []) []) g
 joins_fault Validate false Limit v h e g = ap (λ x. or_else (or_else x []) []) g
 joins_fault Validate false Witness v h e g = cc
+joins_fault Validate false Why v h e g = ap (λ x. or_else (or_else x []) []) g
 joins_fault Validate true Config v h e g = ap (λ x. or_else (or_else x []) []) g
 joins_fault Validate true Within v h e g = ap (λ x. or_else (or_else x []) []) g
 joins_fault Validate true Silent v h e g = ap (λ x. or_else (or_else x []) []) g
 joins_fault Validate true Limit v h e g = ap (λ x. or_else (or_else x []) []) g
 joins_fault Validate true Witness v h e g = cc
+joins_fault Validate true Why v h e g = ap (λ x. or_else (or_else x []) []) g
 joins_fault Check false Config v h e g = ap (λ x. or_else (or_else x []) []) g
 joins_fault Check false Within v h e g = ap (λ x. or_else (or_else x []) []) g
 joins_fault Check false Silent v h e g = ap (λ x. or_else (or_else x []) []) g
 joins_fault Check false Witness v h e g = ap (λ x. or_else (or_else x []) []) g
 joins_fault Check false Limit v h e g = cc
+joins_fault Check false Why v h e g = cc
 joins_fault Check true Config v h e g = ap (λ x. or_else (or_else x []) []) g
 joins_fault Check true Within v h e g = ap (λ x. or_else (or_else x []) []) g
 joins_fault Check true Silent v h e g = ap (λ x. or_else (or_else x []) []) g
 joins_fault Check true Witness v h e g = ap (λ x. or_else (or_else x []) []) g
 joins_fault Check true Limit v h e g = cc
+joins_fault Check true Why v h e g = cc
 joins_fault SelfRun b s v h e g = cc
 
 pub names_fault : (c : Command) (b : Bool) (s : Setting) (h : Held) → has_setting c s ≡ true → ends_fault c h ≡ []
@@ -227,21 +241,25 @@ names_fault Validate false Within h e g = ap (λ x. or_else x []) g
 names_fault Validate false Silent h e g = ap (λ x. or_else x []) g
 names_fault Validate false Limit h e g = ap (λ x. or_else x []) g
 names_fault Validate false Witness h e g = cc
+names_fault Validate false Why h e g = ap (λ x. or_else x []) g
 names_fault Validate true Config h e g = ap (λ x. or_else x []) g
 names_fault Validate true Within h e g = ap (λ x. or_else x []) g
 names_fault Validate true Silent h e g = ap (λ x. or_else x []) g
 names_fault Validate true Limit h e g = ap (λ x. or_else x []) g
 names_fault Validate true Witness h e g = cc
+names_fault Validate true Why h e g = ap (λ x. or_else x []) g
 names_fault Check false Config h e g = ap (λ x. or_else x []) g
 names_fault Check false Within h e g = ap (λ x. or_else x []) g
 names_fault Check false Silent h e g = ap (λ x. or_else x []) g
 names_fault Check false Witness h e g = ap (λ x. or_else x []) g
 names_fault Check false Limit h e g = cc
+names_fault Check false Why h e g = cc
 names_fault Check true Config h e g = ap (λ x. or_else x []) g
 names_fault Check true Within h e g = ap (λ x. or_else x []) g
 names_fault Check true Silent h e g = ap (λ x. or_else x []) g
 names_fault Check true Witness h e g = ap (λ x. or_else x []) g
 names_fault Check true Limit h e g = cc
+names_fault Check true Why h e g = cc
 names_fault SelfRun b s h e g = cc
 
 pub flags_fault : (c : Command) (b : Bool) (h : Held) → has_stutter c ≡ true → ends_fault c h ≡ [] → turn c (before b false h) (codes "--stutter") ≡ []
@@ -303,11 +321,13 @@ value_ends Validate Within v h e = refl
 value_ends Validate Silent v h e = refl
 value_ends Validate Limit v h e = refl
 value_ends Validate Witness v h e = cc
+value_ends Validate Why v h e = refl
 value_ends Check Config v h e = refl
 value_ends Check Within v h e = refl
 value_ends Check Silent v h e = refl
 value_ends Check Witness v h e = refl
 value_ends Check Limit v h e = cc
+value_ends Check Why v h e = cc
 value_ends SelfRun s v h e = cc
 
 pub word_ends : (c : Command) (w : Text) (h : Held) → ends_fault c (awaited c (codes "words") (w ∷ []) h) ≡ []
@@ -321,9 +341,11 @@ no_value Validate Within h e = refl
 no_value Validate Silent h e = refl
 no_value Validate Limit h e = refl
 no_value Validate Witness h e = cc
+no_value Validate Why h e = refl
 no_value Check Config h e = refl
 no_value Check Within h e = refl
 no_value Check Silent h e = refl
 no_value Check Witness h e = refl
 no_value Check Limit h e = cc
+no_value Check Why h e = cc
 no_value SelfRun s h e = cc

@@ -6,7 +6,7 @@ use Rattle.tla_tokens.specs.Shapes.{is_digit}
 use Rattle.run_words.specs.Line.{Text, Given}
 use Rattle.run_words.specs.Names.{IsName, IsModule}
 use Rattle.run_words.specs.declared.command.Setting.{Setting}
-use Rattle.run_words.specs.declared.command.Setting.TheVariants.{Config, Within, Silent, Limit, Witness}
+use Rattle.run_words.specs.declared.command.Setting.TheVariants.{Config, Within, Silent, Limit, Witness, Why}
 use Rattle.run_words.specs.declared.job.Job.{Job}
 use Rattle.run_words.specs.declared.job.Options.{Options}
 
@@ -16,6 +16,7 @@ is_same Within Within = true
 is_same Silent Silent = true
 is_same Limit Limit = true
 is_same Witness Witness = true
+is_same Why Why = true
 is_same a b = false
 
 -- the values of an option, in their order
@@ -39,6 +40,12 @@ IsNumberOr default [] least most n = n ≡ default
 IsNumberOr default (text ∷ []) least most n = IsNumber text least most n
 IsNumberOr default (text ∷ more ∷ texts) least most n = ⊥
 
+-- the number of the range that the values of an option give, or none where it does not stand; of more values none
+abbrev pub IsNumberIn : List Text → ℕ → ℕ → Option ℕ → Type 0
+IsNumberIn [] least most found = found ≡ None
+IsNumberIn (text ∷ []) least most found = (n : ℕ) × (found ≡ Some n) × IsNumber text least most n
+IsNumberIn (text ∷ more ∷ texts) least most found = ⊥
+
 -- the options that a line gives
 pub record SetsOptions (given : Given) (options : Options) : Type 0 where
   pub within : IsNumberOr 1 (values_of Within given.options) 1 8 options.within
@@ -59,3 +66,4 @@ pub record IsJob (given : Given) (job : Job) : Type 0 where
   pub silent : values_of Silent given.options ≡ option_to_list job.silent
   pub operator : IfSome job.silent IsName
   pub options : SetsOptions given job.options
+  pub why : IsNumberIn (values_of Why given.options) 1 1000 job.why

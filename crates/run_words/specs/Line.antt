@@ -7,7 +7,7 @@ use Rattle.std.specs.declared.alloc.Global.{Global}
 use Rattle.run_words.specs.declared.command.Command.{Command}
 use Rattle.run_words.specs.declared.command.Command.TheVariants.{Validate, Check, SelfRun}
 use Rattle.run_words.specs.declared.command.Setting.{Setting}
-use Rattle.run_words.specs.declared.command.Setting.TheVariants.{Config, Within, Silent, Limit, Witness}
+use Rattle.run_words.specs.declared.command.Setting.TheVariants.{Config, Within, Silent, Limit, Witness, Why}
 
 abbrev pub Text : Type 0
 Text = List ℕ
@@ -22,6 +22,7 @@ name_of Within = codes "--within"
 name_of Silent = codes "--silent"
 name_of Limit = codes "--limit"
 name_of Witness = codes "--witness"
+name_of Why = codes "--why"
 
 -- the command has this option
 abbrev pub has_setting : Command → Setting → Bool
@@ -30,11 +31,13 @@ has_setting Validate Within = true
 has_setting Validate Silent = true
 has_setting Validate Limit = true
 has_setting Validate Witness = false
+has_setting Validate Why = true
 has_setting Check Config = true
 has_setting Check Within = true
 has_setting Check Silent = true
 has_setting Check Limit = false
 has_setting Check Witness = true
+has_setting Check Why = false
 has_setting SelfRun setting = false
 
 -- the command has the flag `--stutter`

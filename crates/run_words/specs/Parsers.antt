@@ -10,7 +10,7 @@ use Rattle.clap.specs.declared.builder.action.ArgAction.TheVariants.{Append}
 use Rattle.run_words.specs.declared.command.Command.{Command}
 use Rattle.run_words.specs.declared.command.Command.TheVariants.{Validate, Check, SelfRun}
 use Rattle.run_words.specs.declared.command.Setting.{Setting}
-use Rattle.run_words.specs.declared.command.Setting.TheVariants.{Config, Within, Silent, Limit, Witness}
+use Rattle.run_words.specs.declared.command.Setting.TheVariants.{Config, Within, Silent, Limit, Witness, Why}
 use Rattle.run_words.specs.Job.{values_of}
 use Rattle.run_words.specs.Line.{Text, Given, Gives, is_given}
 
@@ -20,6 +20,7 @@ id_of Within = codes "within"
 id_of Silent = codes "silent"
 id_of Limit = codes "limit"
 id_of Witness = codes "witness"
+id_of Why = codes "why"
 
 abbrev pub setting_rule : Setting → Rule
 setting_rule s = record (new_rule (id_of s)) { long = Some (id_of s); action = Some Append }
@@ -38,14 +39,14 @@ words_rule = record (new_rule (codes "words")) { action = Some Append }
 abbrev pub bare_app : Text → App
 bare_app name = on_top (λ s. record s { no_binary_name = true; disable_help_flag = true; disable_version_flag = true }) (new_app name)
 
--- a command that takes a module and logs, with one option more
+-- the options of a command that takes a module and logs, with one option more
 abbrev pub files_app : Text → Setting → App
-files_app name last = with_rule (with_rule (with_rule (with_rule (with_rule (with_rule (bare_app name) (setting_rule Config)) (setting_rule Within)) (setting_rule Silent)) stutter_rule)
-    (setting_rule last)) words_rule
+files_app name last = with_rule (with_rule (with_rule (with_rule (with_rule (bare_app name) (setting_rule Config)) (setting_rule Within)) (setting_rule Silent)) stutter_rule)
+    (setting_rule last)
 
 abbrev pub app_for : Command → App
-app_for Validate = files_app (codes "validate") Limit
-app_for Check = files_app (codes "check") Witness
+app_for Validate = with_rule (with_rule (files_app (codes "validate") Limit) (setting_rule Why)) words_rule
+app_for Check = with_rule (files_app (codes "check") Witness) words_rule
 app_for SelfRun = with_rule (bare_app (codes "selfrun")) words_rule
 
 abbrev pub shape_for : Command → Shape
@@ -64,7 +65,7 @@ options_in rows s = map (λ v. (s, v)) (vals (id_of s) rows)
 -- what the matches give, the options ordered by their names
 abbrev pub given_in : List Row → Given
 given_in rows = record {
-  options = options_in rows Config ++ (options_in rows Within ++ (options_in rows Silent ++ (options_in rows Limit ++ options_in rows Witness)));
+  options = options_in rows Config ++ (options_in rows Within ++ (options_in rows Silent ++ (options_in rows Limit ++ (options_in rows Witness ++ options_in rows Why))));
   stutters = length (vals (codes "stutter") rows);
   positional = vals (codes "words") rows;
 }
@@ -76,7 +77,7 @@ has_given_alone rows id = list_all is_given (vals id rows)
 abbrev pub are_given : List Row → Bool
 are_given rows =
     has_given_alone rows (codes "config") && has_given_alone rows (codes "within") && has_given_alone rows (codes "silent") && has_given_alone rows (codes "limit")
-    && has_given_alone rows (codes "witness") && has_given_alone rows (codes "words")
+    && has_given_alone rows (codes "witness") && has_given_alone rows (codes "why") && has_given_alone rows (codes "words")
 
 -- what two lines give that differ only in the order of different options
 pub record Agree (g h : Given) : Type 0 where

@@ -18,5 +18,9 @@ abbrev pub NumberFrom : ℕ → Option Text → ℕ → ℕ → ℕ → Type 0
 NumberFrom default None least most n = n ≡ default
 NumberFrom default (Some text) least most n = IsNumber text least most n
 
+abbrev pub NumberIn : Option Text → ℕ → ℕ → Option ℕ → Type 0
+NumberIn None least most found = found ≡ None
+NumberIn (Some text) least most found = (n : ℕ) × (found ≡ Some n) × IsNumber text least most n
+
 abbrev pub IsStutter : ℕ → Bool → Type 0
 IsStutter count stutter = count ≡ (if stutter then 1 else 0)

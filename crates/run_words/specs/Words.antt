@@ -65,6 +65,10 @@ pub record OptionsMeet (options : Options) : Type 0 where
   pub limit_least : 1 ≤ options.limit
   pub limit_most : options.limit ≤ 100000
 
+-- how many branches may be told of at most
+abbrev pub IsFew : ℕ → Type 0
+IsFew most = (1 ≤ most) × (most ≤ 1000)
+
 -- the names, numbers and counts of a job are such as the words may give
 pub record JobMeets (job : Job) : Type 0 where
   pub module_path : IsModule job.module
@@ -74,6 +78,7 @@ pub record JobMeets (job : Job) : Type 0 where
   pub config : IfSome job.config (λ name. is_given name ≡ true)
   pub silent : IfSome job.silent IsName
   pub options : OptionsMeet job.options
+  pub why : IfSome job.why IsFew
 
 abbrev pub MeetsRules : Words → Type 0
 MeetsRules (Validate job) = JobMeets job

@@ -19,6 +19,7 @@ pub enum Setting {
     Silent,
     Limit,
     Witness,
+    Why,
 }
 
 impl Setting {
@@ -32,6 +33,7 @@ impl Setting {
             Setting::Silent => "silent",
             Setting::Limit => "limit",
             Setting::Witness => "witness",
+            Setting::Why => "why",
         }
     }
 }

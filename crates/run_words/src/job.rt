@@ -23,6 +23,8 @@ pub struct Job {
     /// The operator whose steps alone may be unlogged; without one any step of Next may.
     pub silent: Option<Text>,
     pub options: Options,
+    /// How many branches are told of at most where the log is not explained; none are where nothing was asked for.
+    pub why: Option<u32>,
 }
 
 /// A command with what it needs.

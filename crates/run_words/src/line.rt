@@ -53,13 +53,16 @@ fn parser_of<'a>(alloc: Global, command: Command) -> Result<clap::Command<'a>, N
     ensures { IfOk result (λ parser. app_of parser ≡ app_for command) }
 {
     match command {
-        Command::Validate => with_files(alloc, "validate", Setting::Limit),
-        Command::Check => with_files(alloc, "check", Setting::Witness),
+        Command::Validate => {
+            let parser = with_files(alloc, "validate", Setting::Limit)?;
+            with_words(alloc, with_setting(alloc, parser, Setting::Why)?)
+        }
+        Command::Check => with_words(alloc, with_files(alloc, "check", Setting::Witness)?),
         Command::SelfRun => with_words(alloc, bare(alloc, "selfrun")),
     }
 }
 
-/// The parser of a command that takes a module and logs, with one option more.
+/// The parser of the options of a command that takes a module and logs, with one option more.
 fn with_files<'a>(
     alloc: Global,
     name: &'a str,
@@ -71,8 +74,7 @@ fn with_files<'a>(
     let parser = with_setting(alloc, parser, Setting::Within)?;
     let parser = with_setting(alloc, parser, Setting::Silent)?;
     let parser = with_stutter(alloc, parser)?;
-    let parser = with_setting(alloc, parser, last)?;
-    with_words(alloc, parser)
+    with_setting(alloc, parser, last)
 }
 
 fn bare<'a>(alloc: Global, name: &'a str) -> clap::Command<'a>
@@ -130,6 +132,7 @@ fn are_given(matches: &ArgMatches<'_>) -> bool
         && has_given_alone(matches, "silent")
         && has_given_alone(matches, "limit")
         && has_given_alone(matches, "witness")
+        && has_given_alone(matches, "why")
         && has_given_alone(matches, "words")
 }
 

@@ -1,9 +1,9 @@
 //! The values of the options of a line.
 
 ghost use Rattle.std.specs.Prelude.{◌≡◌, ◌≢◌, ◌≤◌, [], ◌∷◌, ℕ, Bool, List, Option, MatchOption, MatchResult, length, option_map};
-ghost use Rattle.run_words.specs.Job.{IsNumberOr, SetsOptions, values_of};
+ghost use Rattle.run_words.specs.Job.{IsNumberIn, IsNumberOr, SetsOptions, values_of};
 ghost use Rattle.run_words.specs.Parsers.{given_by, texts_of};
-ghost use Rattle.run_words.specs.Values.{IsOperator, IsValue, NumberFrom, IsStutter};
+ghost use Rattle.run_words.specs.Values.{IsOperator, IsValue, NumberFrom, NumberIn, IsStutter};
 
 use crate::command::Setting;
 use crate::job::Options;
@@ -63,6 +63,30 @@ pub(crate) fn witness<'a>(matches: &ArgMatches<'a>) -> Option<&'a str>
     match value_of(matches, Setting::Witness) {
         Ok(found) => found,
         Err(_) => None,
+    }
+}
+
+/// The number of `--why`, where it stands.
+pub(crate) fn why(matches: &ArgMatches<'_>) -> Option<Option<u32>>
+    ensures { MatchOption result ((o : Option ℕ) → ¬ IsNumberIn (values_of Setting.Why (given_by matches.now).options) 1 1000 o)
+        (IsNumberIn (values_of Setting.Why (given_by matches.now).options) 1 1000) }
+{
+    match value_of(matches, Setting::Why) {
+        Ok(value) => number_in(value, 1, 1000),
+        Err(_) => None,
+    }
+}
+
+fn number_in(value: Option<&str>, least: u32, most: u32) -> Option<Option<u32>>
+    ensures { MatchOption result ((o : Option ℕ) → ¬ NumberIn (option_map (λ t. t.now) value.entry) least most o)
+        (NumberIn (option_map (λ t. t.now) value.entry) least most) }
+{
+    match value {
+        Some(text) => match number(text, least, most) {
+            Some(n) => Some(Some(n)),
+            None => None,
+        },
+        None => Some(None),
     }
 }
 

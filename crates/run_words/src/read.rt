@@ -12,7 +12,7 @@ use crate::job::{Job, Words};
 use crate::line::{read_line, values};
 use crate::name::is_module;
 use crate::number::number;
-use crate::options::{operator, read_options, value_of, witness};
+use crate::options::{operator, read_options, value_of, why, witness};
 use clap::ArgMatches;
 use std::alloc::Global;
 use trace_base::{Names, NoMemory, Text};
@@ -142,6 +142,9 @@ fn read_job(alloc: Global, matches: &ArgMatches<'_>) -> Result<Option<Job>, NoMe
     let Some(options) = read_options(matches) else {
         return Ok(None);
     };
+    let Some(why) = why(matches) else {
+        return Ok(None);
+    };
     let module = Text::from_text(alloc, path)?;
     let logs = names(alloc, logs)?;
     let config = owned(alloc, config)?;
@@ -152,6 +155,7 @@ fn read_job(alloc: Global, matches: &ArgMatches<'_>) -> Result<Option<Job>, NoMe
         config,
         silent,
         options,
+        why,
     }))
 }
 

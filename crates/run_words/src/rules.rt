@@ -4,7 +4,7 @@ ghost use Rattle.std.specs.Prelude.{◌≡◌, ◌↔◌, IsTrue, IfSome, true};
 ghost use Rattle.std.specs.List.{list_all};
 ghost use Rattle.run_words.specs.Line.{is_given};
 ghost use Rattle.run_words.specs.Names.{IsName};
-ghost use Rattle.run_words.specs.Words.{JobMeets, MeetsRules, OptionsMeet};
+ghost use Rattle.run_words.specs.Words.{IsFew, JobMeets, MeetsRules, OptionsMeet};
 
 use crate::job::{Job, Options, Words};
 use crate::line::is_given;
@@ -53,7 +53,19 @@ fn job_meets(job: &Job) -> bool
     if !is_name_or_none(&job.silent) {
         return false;
     }
+    if !is_few_or_none(job.why) {
+        return false;
+    }
     options_meet(&job.options)
+}
+
+fn is_few_or_none(why: Option<u32>) -> bool
+    ensures { IsTrue result ↔ IfSome why IsFew }
+{
+    match why {
+        Some(most) => 1 <= most && most <= 1000,
+        None => true,
+    }
 }
 
 fn are_given(names: &[Text]) -> bool

@@ -8,7 +8,7 @@ use Rattle.tla_core.specs.declared.state.Shown.{Shown}
 use Rattle.state_files.specs.Fields.{LineFields}
 use Rattle.state_files.specs.Files.{StateLinesSay, pieces_of}
 use Rattle.state_files.specs.Lines.{FieldsSay, StateLineSays, StateSays, ValuesSay}
-use Rattle.run_texts.specs.States.{states_text}
+use Rattle.run_texts.specs.States.{before_text, behind_text, state_text, states_text}
 use Rattle.run_texts.specs.Ordered.{OrderAscends}
 use Rattle.state_file_laws.specs.Laws.{AreNames, IsShown, StatesReadBack}
 use Rattle.state_file_laws.proofs.CleanData.{IsClean, read_back, utf8_printed}
@@ -41,18 +41,34 @@ module _ (prints_back : PrintsReadBack) (order : OrderAscends) (names : List (Li
         subst (λ (r : Result LineFields (List ℕ)). FieldsSay names r o) (sym (fields_back names s.mark s.state h.mark)) says,
       )
 
-  -- the lines of states say these states, behind those that were found
-  pub lines_say : (states found : List Shown) (number : ℕ) → All (IsShown names) states → StateLinesSay names number found (pieces_of (states_text names states)) (Ok (found ++ states))
-  lines_say [] found number h = (_, refl, ap Ok (append-nil found))
-  lines_say (s ∷ states) found number h =
+  -- what other lines say behind them
+  abbrev pub SayBehind : List Shown → List ℕ → Type 0
+  SayBehind found text = (number : ℕ) → StateLinesSay names number found (pieces_of text) (Ok found)
+
+  -- the lines of states say these states, behind those that were found, where what follows says no more
+  pub lines_lead : (states found : List Shown) (text : List ℕ) (number : ℕ) → All (IsShown names) states → SayBehind (found ++ states) text
+      → StateLinesSay names number found (pieces_of (states_text names states ++ text)) (Ok (found ++ states))
+  lines_lead [] found text number h behind =
+      subst (λ (all : List Shown). StateLinesSay names number found (pieces_of text) (Ok all)) (sym (append-nil found)) (subst (λ (all : List Shown). SayBehind all text) (append-nil found) behind number)
+  lines_lead (s ∷ states) found text number h behind =
       let one : IsShown names s = All-head (IsShown names) s states h in
-      let text = line_written names s.mark s.state (states_text names states) (state_given names s.state are.differ are.texts one.whole one.values prints_back order) in
+      let more = states_text names states ++ text in
+      let joined : states_text names (s ∷ states) ++ text ≡ before_text s.mark ++ state_text names s.state ++ behind_text s.mark ++ more =
+      append_assoc (before_text s.mark ++ state_text names s.state ++ behind_text s.mark) (states_text names states) text in
+      let written = line_written names s.mark s.state more (state_given names s.state are.differ are.texts one.whole one.values prints_back order) in
       let values = state_reads names s.state are.differ are.texts one.whole one.values prints_back order in
-      let cut : pieces_of (states_text names (s ∷ states)) ≡ line_of s ∷ pieces_of (states_text names states) =
-      ap pieces_of text ∙ first_piece (line_of s) (states_text names states) (feedless (object (line_data names s.mark s.state)) (object_clean s one)) in
-      let rest = subst (λ (all : List Shown). StateLinesSay names (number + 1) (found ++ s ∷ []) (pieces_of (states_text names states)) (Ok all)) (append_assoc found (s ∷ []) states)
-      (lines_say states (found ++ s ∷ []) (number + 1) (All-tail (IsShown names) s states h)) in
+      let cut : pieces_of (states_text names (s ∷ states) ++ text) ≡ line_of s ∷ pieces_of more =
+      ap pieces_of (joined ∙ written) ∙ first_piece (line_of s) more (feedless (object (line_data names s.mark s.state)) (object_clean s one)) in
+      let moved = append_assoc found (s ∷ []) states in
+      let rest = subst (λ (all : List Shown). StateLinesSay names (number + 1) (found ++ s ∷ []) (pieces_of more) (Ok all)) moved
+      (lines_lead states (found ++ s ∷ []) text (number + 1) (All-tail (IsShown names) s states h) (subst (λ (all : List Shown). SayBehind all text) (sym moved) behind)) in
       subst (λ (ps : List (List ℕ)). StateLinesSay names number found ps (Ok (found ++ s ∷ states))) (sym cut) (_, line_said s _ one (values_said s _ one (inl (s.state, values, refl))), rest)
+
+  -- so where nothing follows
+  pub lines_say : (states found : List Shown) (number : ℕ) → All (IsShown names) states → StateLinesSay names number found (pieces_of (states_text names states)) (Ok (found ++ states))
+  lines_say states found number h =
+      subst (λ (text : List ℕ). StateLinesSay names number found (pieces_of text) (Ok (found ++ states))) (append-nil (states_text names states))
+      (lines_lead states found [] number h (λ k. (_, refl, refl)))
 
 pub states_read_back : PrintsReadBack → OrderAscends → StatesReadBack
 states_read_back prints_back order names states are shown = lines_say prints_back order names are states [] 1 shown

@@ -1,9 +1,9 @@
 mod CleanData
 mod CleanValues
-mod Feedless
-mod ShownData
+pub mod Feedless
+pub mod ShownData
 mod FieldOrder
-mod StateData
+pub mod StateData
 mod LineData
 mod FileSays
-mod ReportSays
+pub mod ReportSays

@@ -1,5 +1,5 @@
 -- Which states are printed, and that they are read again as the same states.
-use Rattle.std.specs.Prelude.{◌≡◌, ◌≢◌, ◌<◌, ◌^◌, ℕ, List, length, All, AllPairs, IsUtf8, Ok}
+use Rattle.std.specs.Prelude.{◌≡◌, ◌≢◌, ◌<◌, ◌^◌, ◌∷◌, ◌++◌, [], ℕ, List, length, false, All, AllPairs, IsUtf8, Ok}
 use Rattle.trace_base.specs.declared.place.LineAt.{LineAt}
 use Rattle.tla_values.specs.IsValue.{IsValue}
 use Rattle.tla_core.specs.declared.state.Mark.{Mark}
@@ -7,6 +7,7 @@ use Rattle.tla_core.specs.declared.state.Mark.TheVariants.{Init, Silent, Line}
 use Rattle.tla_core.specs.declared.state.Shown.{Shown}
 use Rattle.state_layers.specs.declared.answer.Answer.TheVariants.{Explained, NotExplained}
 use Rattle.state_files.specs.Files.{StateFileSays}
+use Rattle.state_files.specs.Lines.{is_shown}
 use Rattle.run_texts.specs.Answers.{Named, answer_text, log_name}
 use Rattle.run_texts.specs.States.{states_text}
 
@@ -44,3 +45,18 @@ ExplainedReadsBack = (l : Named) (behaviour : List Shown) (widest : ℕ) → Are
 abbrev pub NotExplainedReadsBack : Type 0
 NotExplainedReadsBack = (l : Named) (prefix all : ℕ) (next : LineAt) (behaviour : List Shown) → AreNames l.variables → All (IsShown l.variables) behaviour → All IsOneLine l.unchecked
     → IsOneLine (log_name l.logs next.file) → StateFileSays l.variables (answer_text l (NotExplained prefix all next behaviour)) (Ok behaviour)
+
+-- a line that is no state: it does not begin with {
+abbrev pub IsAside : List ℕ → Type 0
+IsAside line = IsOneLine line × (is_shown line ≡ false)
+
+-- lines, each with a line feed behind it
+abbrev pub asides_text : List (List ℕ) → List ℕ
+asides_text [] = []
+asides_text (line ∷ lines) = line ++ 10 ∷ asides_text lines
+
+-- so is that report with lines behind it that are no states, which are passed over
+abbrev pub AsidesReadBack : Type 0
+AsidesReadBack = (l : Named) (prefix all : ℕ) (next : LineAt) (behaviour : List Shown) (lines : List (List ℕ)) → AreNames l.variables → All (IsShown l.variables) behaviour
+    → All IsOneLine l.unchecked → IsOneLine (log_name l.logs next.file) → All IsAside lines
+    → StateFileSays l.variables (answer_text l (NotExplained prefix all next behaviour) ++ asides_text lines) (Ok behaviour)

@@ -38,8 +38,14 @@ use Rattle.run_reading.specs.Refusals.{all_files}
 use Rattle.run_texts.specs.Answers.{Named, answer_text}
 use Rattle.run_texts.specs.Verdicts.{verdict_text}
 use Rattle.run_texts.specs.Files.{device_text}
+use Rattle.why_report.specs.Reports.{IsReport}
+use Rattle.why_report.proofs.Reporting.{unasked_report}
 use Rattle.trace_cli.specs.Smoke.{IsSmokeStop, SmokeTests, is_not_explained, is_sure}
 use Rattle.trace_cli.specs.Run.{HasFailed, HoldsPart, IsStop, IsWanted, Runs, checks, in_no_form, tests_itself, validates, of_report, of_device}
+
+-- what is behind the labels of a report
+abbrev pub labelled : Job → Spec → List (List ℕ) → ℕ → Named
+labelled job s files lines = record { files = files; logs = job.logs; variables = s.variables; unchecked = s.unchecked; lines = lines; limit = job.options.limit }
 
 -- what a job calls for, the words being that job
 pub runs_job : (words : List (List ℕ)) (holds : Option (List File)) (b n : ℕ) (job : Job) (r : Result Judged Stop) → AreWords words (Validate job)
@@ -186,19 +192,47 @@ pub given_answered : (holds : Option (List File)) (b n : ℕ) (job : Job) (witne
 given_answered holds b n job witness p c s log w (Ok j) read answers = is_answered_given p c s log w j.status (string_bytes j.report) read answers
 given_answered holds b n job witness p c s log w (Err x) read answers = tt
 
+-- an answer with its status and its report, where it is not asked why
+pub answer_alone : (job : Job) (p : Program) (c : Config) (s : Spec) (log : Log) (a : Answer) (x : Status) (report : List ℕ) → job.why ≡ None
+    → IsAnswer (system s log (asked_by job.options)) a → x ≡ status_of a → report ≡ answer_text (named_in job p c s log) a → Answers job p c s log x report
+answer_alone job p c s log a x report unasked is at told =
+    let asked = asked_by job.options in
+    let named = named_in job p c s log in
+    record {
+      answer = a;
+      is_true = is;
+      status_is = at;
+      report_is = subst (λ (why : Option ℕ). IsReport s log asked named why a report) (sym unasked) (unasked_report s log asked named a report told);
+    }
+
+-- an answer with its status, and with the whole report, by what the labels are
+pub answered_whole : (job : Job) (p : Program) (c : Config) (s : Spec) (log : Log) (most lines : ℕ) (files : List (List ℕ)) (a : Answer) (x : Status) (report : List ℕ)
+    → job.why ≡ Some most → files ≡ all_files p c → lines ≡ length log.lines → IsAnswer (system s log (asked_by job.options)) a → x ≡ status_of a
+    → IsReport s log (asked_by job.options) (labelled job s files lines) (Some most) a report → Answers job p c s log x report
+answered_whole job p c s log most lines files a x report asked are count is at told =
+    let options = asked_by job.options in
+    let of_files = subst (λ (fs : List (List ℕ)). IsReport s log options (labelled job s fs lines) (Some most) a report) are told in
+    let of_lines = subst (λ (n : ℕ). IsReport s log options (named_beside job p c s n) (Some most) a report) count of_files in
+    record {
+      answer = a;
+      is_true = is;
+      status_is = at;
+      report_is = subst (λ (why : Option ℕ). IsReport s log options (named_in job p c s log) why a report) (sym asked) of_lines;
+    }
+
 -- an answer with its status and its report
-pub answered : (job : Job) (p : Program) (c : Config) (s : Spec) (log : Log) (a : Answer) (r : Result Judged Stop) → IsAnswer (system s log (asked_by job.options)) a
-    → IfOk r (λ j. j.status ≡ status_of a) → IfOk r (λ j. string_bytes j.report ≡ answer_text (named_in job p c s log) a)
-    → IfOk r (λ j. Answers job p c s log j.status (string_bytes j.report))
-answered job p c s log a (Ok j) is at told = record { answer = a; is_true = is; status_is = at; report_is = told }
-answered job p c s log a (Err x) is at told = tt
+pub answered : (job : Job) (p : Program) (c : Config) (s : Spec) (log : Log) (a : Answer) (r : Result Judged Stop) → job.why ≡ None
+    → IsAnswer (system s log (asked_by job.options)) a → IfOk r (λ j. j.status ≡ status_of a)
+    → IfOk r (λ j. string_bytes j.report ≡ answer_text (named_in job p c s log) a) → IfOk r (λ j. Answers job p c s log j.status (string_bytes j.report))
+answered job p c s log a (Ok j) unasked is at told = answer_alone job p c s log a j.status (string_bytes j.report) unasked is at told
+answered job p c s log a (Err x) unasked is at told = tt
 
 -- the same where the lines of the log are counted apart
 pub answered_beside : (job : Job) (p : Program) (c : Config) (s : Spec) (log : Log) (lines : ℕ) (a : Answer) (r : Result Judged Stop) → lines ≡ length log.lines
-    → IsAnswer (system s log (asked_by job.options)) a → IfOk r (λ j. j.status ≡ status_of a)
+    → job.why ≡ None → IsAnswer (system s log (asked_by job.options)) a → IfOk r (λ j. j.status ≡ status_of a)
     → IfOk r (λ j. string_bytes j.report ≡ answer_text (named_beside job p c s lines) a) → IfOk r (λ j. Answers job p c s log j.status (string_bytes j.report))
-answered_beside job p c s log lines a r count is at told =
-    answered job p c s log a r is at (subst (λ (n : ℕ). IfOk r (λ j. string_bytes j.report ≡ answer_text (named_beside job p c s n) a)) count told)
+answered_beside job p c s log lines a r count unasked is at told =
+    answered job p c s log a r unasked is at (subst (λ (n : ℕ). IfOk r (λ j. string_bytes j.report ≡ answer_text (named_beside job p c s n) a)) count told)
 
 -- the report of an answer, where the lines of the log are counted apart
 pub counted_told : (job : Job) (p : Program) (c : Config) (s : Spec) (log : Log) (lines : ℕ) (a : Answer) (r : Result Judged Stop) → lines ≡ length log.lines
@@ -246,8 +280,7 @@ no_form words read reads is = subst (λ (r : Option Words). Reads words (Ok r)) 
 
 -- the report of an answer, by what the labels are
 pub report_told : (job : Job) (p : Program) (c : Config) (s : Spec) (lines : ℕ) (answer : Answer) (files : List (List ℕ)) (report : List ℕ) → files ≡ all_files p c
-    → report ≡ answer_text (record { files = files; logs = job.logs; variables = s.variables; unchecked = s.unchecked; lines = lines; limit = job.options.limit }) answer
+    → report ≡ answer_text (labelled job s files lines) answer
     → report ≡ answer_text (named_beside job p c s lines) answer
 report_told job p c s lines answer files report are told =
-    let with : List (List ℕ) → Named = λ fs. record { files = fs; logs = job.logs; variables = s.variables; unchecked = s.unchecked; lines = lines; limit = job.options.limit } in
-    told ∙ ap (λ (fs : List (List ℕ)). answer_text (with fs) answer) are
+    told ∙ ap (λ (fs : List (List ℕ)). answer_text (labelled job s fs lines) answer) are

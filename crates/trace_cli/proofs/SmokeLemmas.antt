@@ -1,5 +1,5 @@
 -- From what is true of the module Ring beside its log to what the smoke test calls for.
-use Rattle.std.proofs.Common.{arith, ◌≡◌, ◌∙◌, ℕ, List, Some, Result, Ok, Err, All, IfOk, length, refl, string_bytes, subst, sym}
+use Rattle.std.proofs.Common.{arith, ◌≡◌, ◌∙◌, ℕ, List, Some, None, Result, Ok, Err, All, IfOk, length, refl, string_bytes, subst, sym}
 use Rattle.std.specs.Prelude.{◌≢◌}
 use Rattle.trace_base.specs.Device.{File}
 use Rattle.trace_base.specs.declared.place.Place.{Place}
@@ -33,6 +33,7 @@ use Rattle.trace_cli.specs.declared.judge.Judged.{Judged}
 use Rattle.trace_cli.specs.declared.call.Status.{Status}
 use Rattle.trace_cli.specs.declared.call.Status.TheVariants as status
 use Rattle.trace_cli.specs.Calls.{asked_by, is_answered, is_refused, named_in, status_of}
+use Rattle.trace_cli.proofs.CallLemmas.{answer_alone}
 use Rattle.trace_cli.specs.Smoke.{IsSmokeStop, SmokeTests, is_not_explained, is_sure}
 use Rattle.trace_cli.specs.Tested.{IsTested, tested_other, tested_sure}
 
@@ -47,13 +48,13 @@ tested_surely n job p c s log w widest (Ok j) is valid at told =
 tested_surely n job p c s log w widest (Err x) is valid at told = tt
 
 -- another answer with its status and its report
-pub tested_otherwise : (n : ℕ) (job : Job) (p : Program) (c : Config) (s : Spec) (log : Log) (a : Answer) (r : Result Judged Stop)
+pub tested_otherwise : (n : ℕ) (job : Job) (p : Program) (c : Config) (s : Spec) (log : Log) (a : Answer) (r : Result Judged Stop) → job.why ≡ None
     → IsAnswer (system s log (asked_by job.options)) a → status_of a ≢ status.Done → IfOk r (λ j. j.status ≡ status_of a)
     → IfOk r (λ j. string_bytes j.report ≡ answer_text (named_in job p c s log) a)
     → IfOk r (λ j. IsTested n job p c s log j.status (string_bytes j.report))
-tested_otherwise n job p c s log a (Ok j) is other at told =
-    tested_other j.status (string_bytes j.report) (record { answer = a; is_true = is; status_is = at; report_is = told }) (λ e. other (sym at ∙ e))
-tested_otherwise n job p c s log a (Err x) is other at told = tt
+tested_otherwise n job p c s log a (Ok j) unasked is other at told =
+    tested_other j.status (string_bytes j.report) (answer_alone job p c s log a j.status (string_bytes j.report) unasked is at told) (λ e. other (sym at ∙ e))
+tested_otherwise n job p c s log a (Err x) unasked is other at told = tt
 
 -- the answer is that the log is explained
 pub is_explained : (s : Spec) (log : Log) (job : Job) (a : Answer) (w : List Shown) (widest : ℕ) → a ≡ Explained w widest

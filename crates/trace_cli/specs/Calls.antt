@@ -23,6 +23,7 @@ use Rattle.run_texts.specs.Answers.{Named, answer_text}
 use Rattle.run_texts.specs.Verdicts.{verdict_text}
 use Rattle.ready_specs.specs.Beside.{asked}
 use Rattle.spec_pairs.specs.Filling.{pair_asks}
+use Rattle.why_report.specs.Reports.{IsReport}
 use Rattle.trace_cli.specs.declared.call.Status.{Status}
 use Rattle.trace_cli.specs.declared.call.Status.TheVariants.{Done, Not, Reading, Evaluation, Limit}
 
@@ -56,12 +57,12 @@ named_beside job p c s lines = record {
 abbrev pub named_in : Job → Program → Config → Spec → Log → Named
 named_in job p c s log = named_beside job p c s (length log.lines)
 
--- The answer is true of the specification beside the log; these are its status and its report.
+-- The answer is true of the specification beside the log; these are its status and its report, with what is told behind it where it is asked why.
 pub record Answers (job : Job) (p : Program) (c : Config) (s : Spec) (log : Log) (status : Status) (report : List ℕ) : Type 0 where
   pub answer : Answer
   pub is_true : IsAnswer (system s log (asked_by job.options)) answer
   pub status_is : status ≡ status_of answer
-  pub report_is : report ≡ answer_text (named_in job p c s log) answer
+  pub report_is : IsReport s log (asked_by job.options) (named_in job p c s log) job.why answer report
 
 -- what the job calls for; the files' count of faults was before and is now
 pub data Calls (holds : Option (List File)) (before now : ℕ) (job : Job) : Status → List ℕ → Type 0 where

@@ -1,6 +1,4 @@
-ghost use Rattle.std.specs.Prelude.{◌≡◌, ◌≤◌, ℕ, List, IfOk, IfErr, length, string_bytes};
-ghost use Rattle.line_steps.specs.Logs.{system};
-ghost use Rattle.state_layers.specs.Answers.{IsAnswer};
+ghost use Rattle.std.specs.Prelude.{◌≡◌, ◌≤◌, ℕ, List, IfOk, IfErr, None, length, string_bytes};
 ghost use Rattle.run_words.specs.Line.{words_of};
 ghost use Rattle.run_words.specs.Words.{AreWords, JobMeets, MeetsRules};
 ghost use Rattle.run_stages.specs.Stops.{StopsBy};
@@ -10,17 +8,20 @@ ghost use Rattle.run_texts.specs.Answers.{answer_text};
 ghost use Rattle.ready_specs.specs.Beside.{IsReady};
 ghost use Rattle.trace_cli.specs.Calls.{Answers, Calls, asked_by, named_beside, named_in, status_of};
 ghost use Rattle.trace_cli.specs.Run.{IsStop, Runs};
+ghost use Rattle.why_report.specs.Searched.{IsSearched};
 
 use crate::call::Status;
 use crate::given::judge_given;
 use crate::smoke::judge_smoke;
+use crate::whole::told_whole;
 use run_stages::{Accepted, Stop, all_files, read_all};
 use run_texts::{Labels, answer_text, words_text};
 use run_words::{Job, Words, read_words};
 use spec_steps::{SpecSteps, small_law};
-use state_layers::{Answer, search_layers};
+use state_layers::{Answer, Searched, search_entries};
 use std::alloc::Global;
 use tla_ast::{Config, Program};
+use tla_core::State;
 use tla_terms::Spec;
 use trace_base::Files;
 
@@ -85,7 +86,7 @@ fn judge_job<F: Files>(alloc: Global, job: &Job, files: &mut F) -> Result<Judged
     answer(alloc, job, accepted)
 }
 
-/// What is true of the specification beside the log. The log is let go before the report is made, which may be as large.
+/// What is true of the specification beside the log.
 fn answer(alloc: Global, job: &Job, accepted: Accepted) -> Result<Judged, Stop>
     requires meets { JobMeets job.now }
     requires ready { IsReady accepted.spec accepted.log }
@@ -93,7 +94,27 @@ fn answer(alloc: Global, job: &Job, accepted: Accepted) -> Result<Judged, Stop>
     ensures answers { IfOk result (λ j. Answers job.now accepted.program accepted.config accepted.spec accepted.log j.status (string_bytes j.report)) }
     ensures stopped { IfErr result (λ stop. stop ≡ NoMemory) }
 {
-    let answer = search_log(alloc, job, &accepted)?;
+    let searched = search_log(alloc, job, &accepted)?;
+    match job.why {
+        Some(most) => told_whole(alloc, job, &accepted, searched, most),
+        None => told_alone(alloc, job, accepted, searched),
+    }
+}
+
+/// The status and the report of an answer alone. The log is let go before the report is made, which may be as large.
+fn told_alone(
+    alloc: Global,
+    job: &Job,
+    accepted: Accepted,
+    searched: Searched<State>,
+) -> Result<Judged, Stop>
+    requires unasked { job.now.why ≡ None }
+    requires searched { IsSearched accepted.spec accepted.log (asked_by job.now.options) searched.answer searched.last.items }
+    ensures answers { IfOk result (λ j. Answers job.now accepted.program accepted.config accepted.spec accepted.log j.status (string_bytes j.report)) }
+    ensures stopped { IfErr result (λ stop. stop ≡ NoMemory) }
+{
+    let Searched { answer, last } = searched;
+    drop(last);
     let Accepted {
         program,
         config,
@@ -111,12 +132,16 @@ fn answer(alloc: Global, job: &Job, accepted: Accepted) -> Result<Judged, Stop>
     told_beside(alloc, job, heading, &answer)
 }
 
-/// The answer of a search for what explains the log.
-pub(crate) fn search_log(alloc: Global, job: &Job, accepted: &Accepted) -> Result<Answer, Stop>
+/// The answer of a search for what explains the log, and what the lines that are explained lead to, where that is not all of them.
+pub(crate) fn search_log(
+    alloc: Global,
+    job: &Job,
+    accepted: &Accepted,
+) -> Result<Searched<State>, Stop>
     requires meets { JobMeets job.now }
     requires ready { IsReady accepted.now.spec accepted.now.log }
     requires few_lines { length accepted.now.log.lines ≤ 200000 }
-    ensures is_true { IfOk result (IsAnswer (system accepted.now.spec accepted.now.log (asked_by job.now.options))) }
+    ensures searched { IfOk result (λ searched. IsSearched accepted.now.spec accepted.now.log (asked_by job.now.options) searched.answer searched.last.items) }
     ensures stopped { IfErr result (λ stop. stop ≡ NoMemory) }
 {
     let steps = SpecSteps {
@@ -127,8 +152,8 @@ pub(crate) fn search_log(alloc: Global, job: &Job, accepted: &Accepted) -> Resul
         limit: job.options.limit,
     };
     small_law(&steps);
-    let answer = search_layers(alloc, &steps)?;
-    Ok(answer)
+    let searched = search_entries(alloc, &steps)?;
+    Ok(searched)
 }
 
 /// What a report tells of what was accepted, beside the answer: the lines of the log are only counted.
@@ -188,7 +213,7 @@ fn told_beside(
     })
 }
 
-fn status_of(answer: &Answer) -> Status
+pub(crate) fn status_of(answer: &Answer) -> Status
     ensures { result ≡ status_of answer.now }
 {
     match answer {

@@ -5,5 +5,6 @@ mod call;
 mod given;
 mod judge;
 mod smoke;
+mod whole;
 
 pub use call::{Status, run};

@@ -1,4 +1,4 @@
-ghost use Rattle.std.specs.Prelude.{◌≡◌, ◌≢◌, ◌≤◌, IfErr, IfOk, MatchOption, length, string_bytes};
+ghost use Rattle.std.specs.Prelude.{◌≡◌, ◌≢◌, ◌≤◌, IfErr, IfOk, MatchOption, None, length, string_bytes};
 ghost use Rattle.line_steps.specs.Logs.{system};
 ghost use Rattle.state_layers.specs.Answers.{IsAnswer};
 ghost use Rattle.state_layers.specs.declared.answer.Answer.TheVariants.{Explained};
@@ -43,11 +43,13 @@ fn answer_smoke(alloc: Global, lines: u32, job: &Job, accepted: &Accepted) -> Re
     requires meets { JobMeets job.now }
     requires ready { IsReady accepted.now.spec accepted.now.log }
     requires few_lines { length accepted.now.log.lines ≤ 200000 }
+    requires unasked { job.now.why ≡ None }
     ensures tested { IfOk result (λ j. IsTested lines job.now accepted.now.program accepted.now.config accepted.now.spec accepted.now.log j.status
         (string_bytes j.report)) }
     ensures stopped { IfErr result (λ stop. stop ≡ NoMemory) }
 {
-    let answer = search_log(alloc, job, accepted)?;
+    let searched = search_log(alloc, job, accepted)?;
+    let answer = searched.answer;
     match explaining(&answer) {
         Some((behaviour, widest)) => told_valid(alloc, lines, job, accepted, behaviour, widest),
         None => told(alloc, job, accepted, &answer),

@@ -1,5 +1,5 @@
 use Rattle.state_file_laws.proofs.FileSays.{states_read_back}
-use Rattle.state_file_laws.proofs.ReportSays.{explained_reads_back, not_explained_reads_back}
+use Rattle.state_file_laws.proofs.ReportSays.{asides_read_back, explained_reads_back, not_explained_reads_back}
 use Rattle.state_file_laws.proofs.laws.printed_law.Goals as goal
 
 pub returns-clause-states : goal.returns-clause-states
@@ -10,3 +10,6 @@ returns-clause-explained c = explained_reads_back c.json_laws.ensures.printed c.
 
 pub returns-clause-not_explained : goal.returns-clause-not_explained
 returns-clause-not_explained c = not_explained_reads_back c.json_laws.ensures.printed c.text_laws.ensures.ascending
+
+pub returns-clause-asides : goal.returns-clause-asides
+returns-clause-asides c = asides_read_back c.json_laws.ensures.printed c.text_laws.ensures.ascending

@@ -1,4 +1,5 @@
-use Rattle.std.proofs.Common.{rules, ◌≡◌, IfErr, Some, subst, sym}
+use Rattle.std.proofs.Common.{ap, rules, ◌≡◌, IfErr, Some, subst, sym}
+use Rattle.run_words.specs.declared.job.Job.{Job}
 use Rattle.run_stages.specs.Stops.{StopsBy}
 use Rattle.run_stages.specs.declared.stop.Stop.TheVariants.{NoMemory}
 use Rattle.run_stages.proofs.Stopping.{err_mapped}
@@ -12,6 +13,9 @@ returns-in_err-accepted-clause-stopped c =
     let by = StopsBy (Some c.in_ok-files.files.files) 0 0 c.in_ok-job.job in
     let stopped : IfErr r.result by = search (rules, r.ensures, c.in_err-accepted.ensures.stopped, c.in_err-accepted.is) in
     err_mapped by (IsSmokeStop c.args.lines) r.result (λ stop why. smoke_stop _ _ _ stop c.in_ok-files.ensures c.in_ok-job.ensures.job why) stopped
+
+pub answer_smoke-requires-clause-unasked : goal.answer_smoke-requires-clause-unasked
+answer_smoke-requires-clause-unasked c = ap (λ (job : Job). job.why) c.in_ok-job.ensures.job
 
 pub returns-clause-runs : goal.returns-clause-runs
 returns-clause-runs c =

@@ -1,0 +1,15 @@
+pub mod Elements
+pub mod Order
+pub mod Copies
+pub mod FirstBranches
+pub mod Turns
+pub mod Choosing
+pub mod LeafSays
+pub mod OpenSays
+pub mod EachSays
+pub mod One
+pub mod Found
+pub mod FoundParts
+pub mod FoundTests
+pub mod FoundChanges
+pub mod Cutting

@@ -1,0 +1,172 @@
+-- What tells why is made of lines that are no states.
+use Rattle.std.proofs.Common.{◌≡◌, ◌≢◌, ◌∙◌, sym, ap, subst, refl, ℕ, zero, suc, List, [], ◌∷◌, ◌++◌, Option, Some, None, All, append_assoc, codes, decimal, false, true}
+use Rattle.std.specs.Prelude.{◌==◌}
+use Rattle.std.specs.List.{AllByRecursion}
+use Rattle.std.proofs.lemmas.List.Elements.{All-cons, All-from_recursion, All-head, All-nil, All-tail}
+use Rattle.serde_json.specs.Data.{object}
+use Rattle.json_values.specs.Prints.{PrintsReadBack}
+use Rattle.trace_base.specs.declared.place.LineAt.{LineAt}
+use Rattle.trace_base.specs.declared.place.Place.{Place}
+use Rattle.tla_values.specs.FaultCodes.{eval_code}
+use Rattle.tla_values.specs.declared.fault.EvalKind.{EvalKind}
+use Rattle.tla_values.specs.declared.fault.EvalKind.TheVariants as eval
+use Rattle.tla_core.specs.States.{Values}
+use Rattle.tla_terms.specs.declared.spec.Spec.{Spec}
+use Rattle.path_updates.specs.declared.line.Line.{Line}
+use Rattle.run_texts.specs.Answers.{Named, log_name}
+use Rattle.run_texts.specs.Logs.{line_text}
+use Rattle.run_texts.specs.Ordered.{OrderAscends}
+use Rattle.run_texts.specs.Places.{name_at, place_text}
+use Rattle.run_texts.specs.States.{state_text}
+use Rattle.state_file_laws.specs.Laws.{AreNames, AsidesReadBack, IsAside, IsOneLine, asides_text}
+use Rattle.state_file_laws.proofs.Feedless.{NoFeed, feedless, feedless-append, feedless-decimal, feedless-tested}
+use Rattle.state_file_laws.proofs.ReportSays.{one_line}
+use Rattle.state_file_laws.proofs.ShownData.{state_data, state_written}
+use Rattle.state_file_laws.proofs.StateData.{state_clean, state_given}
+use Rattle.why_branches.specs.declared.why.Why.{Why}
+use Rattle.why_branches.specs.declared.why.WhyKind.{WhyKind}
+use Rattle.why_branches.specs.declared.why.WhyKind.TheVariants as why
+use Rattle.why_report.specs.Lines.{entry_text, place_behind, reason_text, why_more, why_text, whys_text}
+use Rattle.why_report.specs.Tells.{Tells, entry_lines, is_cut, is_whole, no_entry_left, no_room_left}
+use Rattle.why_line_laws.specs.Laws.{AreOneLine, IsWhole, WhyReadsBack}
+
+-- ---- lines without a line feed in them
+
+no_feed_byte : (b : ℕ) → (b == 10) ≡ false → b ≢ 10
+no_feed_byte b e is = let same : (b == 10) ≡ true = rw is refl in cc
+
+feedless_is_one_line : (text : List ℕ) → NoFeed text → IsOneLine text
+feedless_is_one_line text h = All-from_recursion (λ b. b ≢ 10) text (each text h)
+  where
+    each : (bs : List ℕ) → NoFeed bs → AllByRecursion (λ b. b ≢ 10) bs
+    each [] h = tt
+    each (b ∷ bs) h = (no_feed_byte b h.0, each bs h.1)
+
+-- a name among some, or none
+name_feedless : (names : List (List ℕ)) (i : ℕ) → All IsOneLine names → NoFeed (name_at names i)
+name_feedless [] i h = tt
+name_feedless (n ∷ ns) zero h = one_line n (All-head IsOneLine n ns h)
+name_feedless (n ∷ ns) (suc i) h = name_feedless ns i (All-tail IsOneLine n ns h)
+
+log_feedless : (logs : List (List ℕ)) (file : ℕ) → All IsOneLine logs → NoFeed (log_name logs file)
+log_feedless logs zero h = tt
+log_feedless logs (suc n) h = name_feedless logs n h
+
+code_feedless : (kind : EvalKind) → NoFeed (eval_code kind)
+code_feedless eval.NotBoolean = feedless-tested (eval_code eval.NotBoolean) refl
+code_feedless eval.NotInteger = feedless-tested (eval_code eval.NotInteger) refl
+code_feedless eval.NotSet = feedless-tested (eval_code eval.NotSet) refl
+code_feedless eval.NotFunction = feedless-tested (eval_code eval.NotFunction) refl
+code_feedless eval.NotSequence = feedless-tested (eval_code eval.NotSequence) refl
+code_feedless eval.OutsideDomain = feedless-tested (eval_code eval.OutsideDomain) refl
+code_feedless eval.Overflow = feedless-tested (eval_code eval.Overflow) refl
+code_feedless eval.BadDivisor = feedless-tested (eval_code eval.BadDivisor) refl
+code_feedless eval.BadPower = feedless-tested (eval_code eval.BadPower) refl
+code_feedless eval.NoChoice = feedless-tested (eval_code eval.NoChoice) refl
+code_feedless eval.NoCase = feedless-tested (eval_code eval.NoCase) refl
+code_feedless eval.EmptySequence = feedless-tested (eval_code eval.EmptySequence) refl
+code_feedless eval.BadRange = feedless-tested (eval_code eval.BadRange) refl
+code_feedless eval.TooLarge = feedless-tested (eval_code eval.TooLarge) refl
+code_feedless eval.TooDeep = feedless-tested (eval_code eval.TooDeep) refl
+code_feedless eval.Nested = feedless-tested (eval_code eval.Nested) refl
+code_feedless eval.NotFinite = feedless-tested (eval_code eval.NotFinite) refl
+
+reason_feedless : (names : List (List ℕ)) (k : WhyKind) → All IsOneLine names → NoFeed (reason_text names k)
+reason_feedless names why.TestFalse h = feedless-tested (codes " TestFalse") refl
+reason_feedless names (why.Differs x) h = feedless-append (codes " Differs ") (name_at names x.0) (feedless-tested (codes " Differs ") refl) (name_feedless names x.0 h)
+reason_feedless names (why.NotIn x) h = feedless-append (codes " NotIn ") (name_at names x.0) (feedless-tested (codes " NotIn ") refl) (name_feedless names x.0 h)
+reason_feedless names why.NoMember h = feedless-tested (codes " NoMember") refl
+reason_feedless names (why.Fault kind) h = feedless-append (codes " Fault ") (eval_code kind) (feedless-tested (codes " Fault ") refl) (code_feedless kind)
+reason_feedless names (why.NoUpdate x) h = feedless-append (codes " NoUpdate ") (name_at names x.0) (feedless-tested (codes " NoUpdate ") refl) (name_feedless names x.0 h)
+reason_feedless names (why.NotSeen x) h = feedless-append (codes " NotSeen ") (name_at names x.0) (feedless-tested (codes " NotSeen ") refl) (name_feedless names x.0 h)
+
+place_feedless : (files : List (List ℕ)) (at : Option Place) → All IsOneLine files → NoFeed (place_behind files at)
+place_feedless files None h = tt
+place_feedless files (Some at) h =
+    let colon = feedless-tested (codes ":") refl in
+    let name = feedless-append (name_at files at.file) (codes ":") (name_feedless files at.file h) colon in
+    let line = feedless-append (name_at files at.file ++ codes ":") (decimal at.line) name (feedless-decimal at.line) in
+    let col = feedless-append (name_at files at.file ++ codes ":" ++ decimal at.line) (codes ":") line colon in
+    feedless-append (codes " at ") (place_text files at) (feedless-tested (codes " at ") refl)
+    (feedless-append (name_at files at.file ++ codes ":" ++ decimal at.line ++ codes ":") (decimal at.col) col (feedless-decimal at.col))
+
+-- ---- what tells why, as lines
+
+-- a text is some lines that are no states
+pub record AreAsides (text : List ℕ) : Type 0 where
+  pub lines : List (List ℕ)
+  pub aside : All IsAside lines
+  pub is : text ≡ asides_text lines
+
+none_aside : AreAsides []
+none_aside = record { lines = []; aside = All-nil IsAside; is = refl }
+
+-- a line more before them
+line_aside : (line rest : List ℕ) → NoFeed line → IsAside line → AreAsides rest → AreAsides ((line ++ codes "\n") ++ rest)
+line_aside line rest h one more = record {
+  lines = line ∷ more.lines;
+  aside = All-cons IsAside line more.lines one more.aside;
+  is = append_assoc line (codes "\n") rest ∙ ap (λ (t : List ℕ). line ++ 10 ∷ t) more.is;
+}
+
+-- what begins with the word WHY
+told_line : (body rest : List ℕ) → NoFeed body → AreAsides rest → AreAsides (((codes "WHY " ++ body) ++ codes "\n") ++ rest)
+told_line body rest h more =
+    let line = feedless-append (codes "WHY ") body (feedless-tested (codes "WHY ") refl) h in
+    line_aside (codes "WHY " ++ body) rest line (feedless_is_one_line (codes "WHY " ++ body) line, refl) more
+
+regrouped : (a b c d rest : List ℕ) → (a ++ b ++ c ++ d ++ codes "\n") ++ rest ≡ ((a ++ (b ++ c ++ d)) ++ codes "\n") ++ rest
+regrouped a b c d rest = simp append_assoc
+
+why_aside : (l : Named) (at : LineAt) (w : Why) (rest : List ℕ) → AreOneLine l → AreAsides rest → AreAsides (why_text l at w ++ rest)
+why_aside l at w rest one more =
+    let line = line_text (log_name l.logs at.file) at.line in
+    let reason = reason_text l.variables w.reason in
+    let place = place_behind l.files w.at in
+    let feedless_line = feedless-append (log_name l.logs at.file ++ codes ":") (decimal at.line)
+    (feedless-append (log_name l.logs at.file) (codes ":") (log_feedless l.logs at.file one.logs) (feedless-tested (codes ":") refl)) (feedless-decimal at.line) in
+    let body = feedless-append (line ++ reason) place (feedless-append line reason feedless_line (reason_feedless l.variables w.reason one.variables)) (place_feedless l.files w.at one.files) in
+    subst AreAsides (sym (regrouped (codes "WHY ") line reason place rest)) (told_line (line ++ reason ++ place) rest body more)
+
+whys_aside : (l : Named) (at : LineAt) (ws : List Why) (rest : List ℕ) → AreOneLine l → AreAsides rest → AreAsides (whys_text l at ws ++ rest)
+whys_aside l at [] rest one more = more
+whys_aside l at (w ∷ ws) rest one more =
+    subst AreAsides (sym (append_assoc (why_text l at w) (whys_text l at ws) rest)) (why_aside l at w (whys_text l at ws ++ rest) one (whys_aside l at ws rest one more))
+
+more_aside : AreAsides why_more
+more_aside = told_line (codes "MORE") [] (feedless-tested (codes "MORE") refl) none_aside
+
+state_line : (text rest : List ℕ) → (codes "WHY STATE " ++ text ++ codes "\n") ++ rest ≡ ((codes "WHY " ++ (codes "STATE " ++ text)) ++ codes "\n") ++ rest
+state_line text rest = ap (λ (t : List ℕ). (t ++ codes "\n") ++ rest) (append_assoc (codes "WHY ") (codes "STATE ") text)
+
+module _ (prints_back : PrintsReadBack) (order : OrderAscends) (g : Spec) (line : Line) (l : Named) (are : AreNames l.variables) (one : AreOneLine l) where
+  state_feedless : (s : Values) → IsWhole l.variables s → NoFeed (state_text l.variables s)
+  state_feedless s h =
+      let given = state_given l.variables s are.differ are.texts h.whole h.values prints_back order in
+      let clean = state_clean l.variables s are.differ are.texts h.whole h.values prints_back order in
+      subst NoFeed (sym (state_written l.variables s given)) (feedless (object (state_data l.variables s)) clean)
+
+  entry_aside : (s : Values) (rest : List ℕ) → IsWhole l.variables s → AreAsides rest → AreAsides (entry_text l s ++ rest)
+  entry_aside s rest h more =
+      let body = feedless-append (codes "STATE ") (state_text l.variables s) (feedless-tested (codes "STATE ") refl) (state_feedless s h) in
+      subst AreAsides (sym (state_line (state_text l.variables s) rest)) (told_line (codes "STATE " ++ state_text l.variables s) rest body more)
+
+  entry_lines_aside : (s : Values) (ws : List Why) (rest : List ℕ) → IsWhole l.variables s → AreAsides rest → AreAsides (entry_lines l line s ws ++ rest)
+  entry_lines_aside s ws rest h more =
+      subst AreAsides (sym (append_assoc (entry_text l s) (whys_text l line.at ws) rest)) (entry_aside s (whys_text l line.at ws ++ rest) h (whys_aside l line.at ws rest one more))
+
+  tells_aside : (most : ℕ) (entries : List Values) (told : List ℕ) → All (IsWhole l.variables) entries → Tells g line l most entries told → AreAsides told
+  tells_aside _ _ _ h (no_entry_left most) = none_aside
+  tells_aside _ _ _ h (no_room_left s ss) = more_aside
+  tells_aside _ _ _ h (is_cut most s ss ws are) = entry_lines_aside s ws why_more (All-head (IsWhole l.variables) s ss h) more_aside
+  tells_aside _ _ _ h (is_whole most left s ss ws text are sum rest) =
+      entry_lines_aside s ws text (All-head (IsWhole l.variables) s ss h) (tells_aside left ss text (All-tail (IsWhole l.variables) s ss h) rest)
+
+log_one_line : (logs : List (List ℕ)) (file : ℕ) → All IsOneLine logs → IsOneLine (log_name logs file)
+log_one_line logs file h = feedless_is_one_line (log_name logs file) (log_feedless logs file h)
+
+pub why_reads_back : PrintsReadBack → OrderAscends → AsidesReadBack → WhyReadsBack
+why_reads_back prints_back order back g line l prefix all most next behaviour entries told are shown unchecked one whole tells =
+    let asides = tells_aside prints_back order g line l are one most entries told whole tells in
+    let says = back l prefix all next behaviour asides.lines are shown unchecked (log_one_line l.logs next.file one.logs) asides.aside in
+    rw (sym asides.is) at says

@@ -1,0 +1,30 @@
+-- Lines that tell why are passed over where a report is read as a file of states.
+use Rattle.std.specs.Prelude.{◌≡◌, ◌++◌, ℕ, List, length, All, Ok}
+use Rattle.trace_base.specs.declared.place.LineAt.{LineAt}
+use Rattle.tla_values.specs.IsValue.{IsValue}
+use Rattle.tla_core.specs.States.{Values}
+use Rattle.tla_core.specs.declared.state.Shown.{Shown}
+use Rattle.tla_terms.specs.declared.spec.Spec.{Spec}
+use Rattle.path_updates.specs.declared.line.Line.{Line}
+use Rattle.state_layers.specs.declared.answer.Answer.TheVariants.{NotExplained}
+use Rattle.state_files.specs.Files.{StateFileSays}
+use Rattle.run_texts.specs.Answers.{Named, answer_text}
+use Rattle.state_file_laws.specs.Laws.{AreNames, IsOneLine, IsShown}
+use Rattle.why_report.specs.Tells.{Tells}
+
+-- no line feed stands in the names of files, logs and variables
+pub record AreOneLine (l : Named) : Type 0 where
+  pub files : All IsOneLine l.files
+  pub logs : All IsOneLine l.logs
+  pub variables : All IsOneLine l.variables
+
+-- a value for each of the names
+pub record IsWhole (names : List (List ℕ)) (s : Values) : Type 0 where
+  pub whole : length s ≡ length names
+  pub values : All IsValue s
+
+-- the report of a log that is explained in part, with what tells why of some entries, is read as its behaviour
+abbrev pub WhyReadsBack : Type 0
+WhyReadsBack = (g : Spec) (line : Line) (l : Named) (prefix all most : ℕ) (next : LineAt) (behaviour : List Shown) (entries : List Values) (told : List ℕ)
+    → AreNames l.variables → All (IsShown l.variables) behaviour → All IsOneLine l.unchecked → AreOneLine l → All (IsWhole l.variables) entries → Tells g line l most entries told
+    → StateFileSays l.variables (answer_text l (NotExplained prefix all next behaviour) ++ told) (Ok behaviour)

@@ -1,0 +1,4 @@
+pub mod Results
+pub mod Lines
+pub mod Whys
+pub mod Taken

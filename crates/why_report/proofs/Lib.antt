@@ -1,0 +1,4 @@
+mod Counting
+mod Going
+pub mod Reporting
+mod SoFar

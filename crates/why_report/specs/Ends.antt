@@ -1,0 +1,27 @@
+-- For the prover: where a log is explained no further.
+use Rattle.std.specs.Prelude.{◌≡◌, ℕ, ◌<◌, suc, List, length}
+use Rattle.tla_core.specs.Runs.{IsBehaviour}
+use Rattle.tla_core.specs.Sets.{IsList}
+use Rattle.tla_core.specs.States.{Values}
+use Rattle.tla_core.specs.declared.state.Shown.{Shown}
+use Rattle.tla_terms.specs.declared.spec.Spec.{Spec}
+use Rattle.path_updates.specs.declared.line.Log.{Log}
+use Rattle.line_steps.specs.Logs.{Asked, system}
+use Rattle.state_layers.specs.Gives.{IsReached}
+use Rattle.state_layers.specs.declared.answer.Answer.{Answer}
+use Rattle.state_layers.specs.declared.answer.Answer.TheVariants.{NotExplained}
+
+-- n lines and no more have a behaviour, and these are all that n lines and then some silent steps reach
+pub record EndsAt (g : Spec) (log : Log) (a : Asked) (n : ℕ) (last : List Values) : Type 0 where
+  pub left : n < length log.lines
+  pub none : (v : List Shown) → IsBehaviour (system g log a) (suc n) v → ⊥
+  pub all : IsList (IsReached (system g log a) n) last
+
+-- the answer is that so many lines are explained and no more; or it is another one
+abbrev pub IsPrefix : Answer → ℕ → Type 0
+IsPrefix (NotExplained n of after w) prefix = prefix ≡ n
+IsPrefix answer prefix = ⊥
+
+abbrev pub IsPlain : Answer → Type 0
+IsPlain (NotExplained n of after w) = ⊥
+IsPlain answer = Unit {0}

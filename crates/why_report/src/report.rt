@@ -1,0 +1,104 @@
+//! The report of an answer.
+
+ghost use Rattle.std.specs.Prelude.{◌≡◌, ◌++◌, ◌<◌, IfOk, List, MatchOption, Some, length, slice_get, string_bytes, ℕ};
+ghost use Rattle.ready_specs.specs.Beside.{IsReady, asked};
+ghost use Rattle.run_texts.specs.Answers.{answer_text, named};
+ghost use Rattle.why_report.specs.Ends.{EndsAt, IsPlain, IsPrefix};
+ghost use Rattle.why_report.specs.Reports.{IsReport};
+ghost use Rattle.why_report.specs.Searched.{IsSearched};
+ghost use Rattle.why_report.specs.Tells.{TellsWhy};
+
+use crate::entries::{Subject, push_entries};
+use path_updates::{Line, Log};
+use run_texts::{Labels, answer_text};
+use spec_steps::SpecSteps;
+use state_layers::{Answer, Searched};
+use std::alloc::Global;
+use tla_core::State;
+use trace_base::NoMemory;
+
+/// The report of an answer; and behind it, where some of the lines are explained and not all, why the next one leads on from nothing that is reached,
+/// with at most so many branches.
+pub fn whole_report(
+    alloc: Global,
+    labels: &Labels<'_>,
+    steps: &SpecSteps<'_>,
+    searched: Searched<State>,
+    most: u32,
+) -> Result<String, NoMemory>
+    requires ready { IsReady steps.now.spec.now steps.now.log.now }
+    requires searched { IsSearched steps.now.spec.now steps.now.log.now (asked steps.now.stutter steps.now.within steps.now.limit) searched.answer searched.last.items }
+    ensures { IfOk result (λ report. IsReport steps.now.spec.now steps.now.log.now (asked steps.now.stutter steps.now.within steps.now.limit) (named labels.now)
+        (Some most) searched.answer (string_bytes report)) }
+{
+    match prefix_of(&searched.answer) {
+        Some(prefix) => told_behind(alloc, labels, steps, searched, prefix, most),
+        None => told_alone(alloc, labels, searched),
+    }
+}
+
+/// How many lines are explained, where some are and not all.
+fn prefix_of(answer: &Answer) -> Option<u32>
+    ensures { MatchOption result (IsPlain answer.now) (IsPrefix answer.now) }
+{
+    match answer {
+        Answer::Explained { .. } => None,
+        Answer::NotExplained { prefix, .. } => Some(*prefix),
+        Answer::NoInitial => None,
+        Answer::InitFault { .. } => None,
+        Answer::Fault { .. } => None,
+        Answer::AssumeFault { .. } => None,
+        Answer::AssumeFalse { .. } => None,
+        Answer::LayerLimit { .. } => None,
+        Answer::TotalLimit { .. } => None,
+    }
+}
+
+/// The report of the answer alone.
+fn told_alone(
+    alloc: Global,
+    labels: &Labels<'_>,
+    searched: Searched<State>,
+) -> Result<String, NoMemory>
+    ensures { IfOk result (λ report. string_bytes report ≡ answer_text (named labels.now) searched.answer) }
+{
+    answer_text(alloc, labels, &searched.answer)
+}
+
+/// The report of the answer, and behind it why the line of that number leads on from none of the entries.
+fn told_behind(
+    alloc: Global,
+    labels: &Labels<'_>,
+    steps: &SpecSteps<'_>,
+    searched: Searched<State>,
+    number: u32,
+    most: u32,
+) -> Result<String, NoMemory>
+    requires ready { IsReady steps.now.spec.now steps.now.log.now }
+    requires ends { EndsAt steps.now.spec.now steps.now.log.now (asked steps.now.stutter steps.now.within steps.now.limit) number searched.last.items }
+    ensures { IfOk result (λ whole. (told : List ℕ) × TellsWhy steps.now.spec.now steps.now.log.now (asked steps.now.stutter steps.now.within steps.now.limit)
+        (named labels.now) number most told × (string_bytes whole ≡ answer_text (named labels.now) searched.answer ++ told)) }
+{
+    let Searched { answer, last } = searched;
+    let mut whole = answer_text(alloc, labels, &answer)?;
+    drop(answer);
+    let mut entries = last;
+    entries.sort_unstable();
+    let subject = Subject {
+        spec: steps.spec,
+        line: line_at(steps.log, number),
+    };
+    push_entries(alloc, &mut whole, labels, subject, &entries, most)?;
+    Ok(whole)
+}
+
+/// The line of that number, from 0.
+fn line_at(log: &Log, number: u32) -> &Line
+    requires { number < length log.now.lines }
+    ensures { slice_get log.now.lines number ≡ Some result.now }
+{
+    match log.lines.get(number as usize) {
+        Some(line) => line,
+        None => unreachable!(),
+    }
+}

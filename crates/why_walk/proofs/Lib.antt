@@ -1,0 +1,9 @@
+pub mod Keeping
+pub mod Passing
+pub mod Loops
+pub mod Combining
+pub mod Rows
+pub mod LeafRows
+pub mod Members
+pub mod Changing
+pub mod Taken

@@ -1,0 +1,78 @@
+//! That the value of a term changes, behind each of several branches.
+
+ghost use Rattle.std.specs.Prelude.{IfOk, map};
+ghost use Rattle.tla_eval.specs.Unchanged.{changed_of};
+ghost use Rattle.action_rows.specs.Rows.{before, setting};
+ghost use Rattle.why_branches.specs.declared.why.Ended.TheVariants.{Passed};
+ghost use Rattle.why_walk.specs.Walking.{EndAltered, EndReads, EndsAltered, EndsRead};
+
+use crate::ends::{fault_end, passed_if};
+use action_rows::Stage;
+use action_values::{changed_truth, scene_at};
+use std::alloc::Global;
+use tla_core::Partial;
+use tla_terms::Term;
+use tla_values::Value;
+use trace_base::{NoMemory, Place};
+use why_branches::{Ended, WhyKind};
+
+/// Of each branch, that the value of a term changes.
+pub fn altered_ends(
+    alloc: Global,
+    stage: Stage<'_>,
+    slots: &[&Value],
+    depth: u32,
+    at: Place,
+    found: Vec<Ended>,
+    term: &Term,
+) -> Result<Vec<Ended>, NoMemory>
+    requires { EndsRead (setting stage) depth (before stage (map (λ v. v.now) slots.now)) (changed_of at term.now) found.items }
+    ensures { IfOk result (λ ends. EndsAltered (setting stage.entry) depth (before stage.entry (map (λ v. v.now) slots.now)) (changed_of at term.now) found.items ends.items) }
+{
+    let mut all = Vec::with_capacity(alloc, found.len())?;
+    for end in found {
+        match altered_end(alloc, stage, slots, depth, at, end, term) {
+            Ok(further) => all.push(further)?,
+            Err(error) => return Err(error),
+        }
+    }
+    Ok(all)
+}
+
+/// The same of one branch.
+fn altered_end(
+    alloc: Global,
+    stage: Stage<'_>,
+    slots: &[&Value],
+    depth: u32,
+    at: Place,
+    end: Ended,
+    term: &Term,
+) -> Result<Ended, NoMemory>
+    requires { EndReads (setting stage) depth (before stage (map (λ v. v.now) slots.now)) (changed_of at term.now) end }
+    ensures { IfOk result (EndAltered (setting stage.entry) depth (before stage.entry (map (λ v. v.now) slots.now)) (changed_of at term.now) end) }
+{
+    match end {
+        Ended::Passed(places) => changed_end(alloc, stage, slots, depth, at, places, term),
+        Ended::Ends(why) => Ok(Ended::Ends(why)),
+    }
+}
+
+/// The same in these places.
+fn changed_end(
+    alloc: Global,
+    stage: Stage<'_>,
+    slots: &[&Value],
+    depth: u32,
+    at: Place,
+    places: Partial,
+    term: &Term,
+) -> Result<Ended, NoMemory>
+    requires { EndReads (setting stage) depth (before stage (map (λ v. v.now) slots.now)) (changed_of at term.now) (Passed places) }
+    ensures { IfOk result (EndAltered (setting stage.entry) depth (before stage.entry (map (λ v. v.now) slots.now)) (changed_of at term.now) (Passed places)) }
+{
+    match changed_truth(alloc, scene_at(stage, slots, &places), depth, at, term) {
+        Ok(holds) => Ok(passed_if(holds, places, at, WhyKind::NoMember)),
+        Err(fault) => fault_end(fault),
+    }
+}

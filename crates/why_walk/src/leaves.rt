@@ -1,0 +1,132 @@
+//! The ends of parts that say the value of a variable.
+
+ghost use Rattle.std.specs.Prelude.{◌≡◌, ◌≤◌, ◌<◌, IfOk, Some, length, slice_set};
+ghost use Rattle.eval_sets.specs.Soundness.{IsSound};
+ghost use Rattle.why_branches.specs.declared.why.Ended.TheVariants.{Passed};
+ghost use Rattle.why_walk.specs.Ends.{IsChosen, IsEquated, IsListedEnds, IsMembers};
+
+use crate::ends::{fault_end, one_end, or_no_member, passed_if};
+use eval_sets::{Described, member};
+use std::alloc::Global;
+use tla_core::{Partial, VarId};
+use tla_eval::list_at;
+use tla_values::Value;
+use trace_base::{NoMemory, Place};
+use why_branches::{Ended, WhyKind};
+
+/// The variable has the value: it is gone through where it has it, or has none yet and gets it.
+pub fn equated_end(
+    places: Partial,
+    number: VarId,
+    value: Value,
+    at: Place,
+) -> Result<Ended, NoMemory>
+    requires { number.0 < length places }
+    ensures { IfOk result (IsEquated number.0 value at places) }
+{
+    value.is_value();
+    match places.get(number) {
+        Some(known) => Ok(passed_if(*known == value, places, at, WhyKind::Differs(number))),
+        None => filled_end(places, number, value),
+    }
+}
+
+/// It is gone through with this value of the variable.
+fn filled_end(places: Partial, number: VarId, value: Value) -> Result<Ended, NoMemory>
+    requires { number.0 < length places }
+    ensures { IfOk result (λ end. end ≡ Passed (slice_set places number.0 (Some value))) }
+{
+    let mut further = places;
+    further.put(number, value)?;
+    Ok(Ended::Passed(further))
+}
+
+/// The variable has a member of the set, which stands at the first place in the part at the second: the first ends, at most `room` of them.
+pub fn chosen_ends(
+    alloc: Global,
+    room: usize,
+    places: Partial,
+    number: VarId,
+    set: Described,
+    set_at: Place,
+    at: Place,
+) -> Result<Vec<Ended>, NoMemory>
+    requires room { 1 ≤ room }
+    requires within { number.0 < length places }
+    requires sound { IsSound set }
+    ensures { IfOk result (λ ends. IsChosen room number.0 set set_at at places ends.items) }
+{
+    match places.get(number) {
+        Some(known) => one_end(
+            alloc,
+            passed_if(member(&set, known), places, at, WhyKind::NotIn(number)),
+        ),
+        None => listed_ends(alloc, room, &places, number, set, set_at, at),
+    }
+}
+
+/// The same where the variable has no value yet.
+fn listed_ends(
+    alloc: Global,
+    room: usize,
+    places: &Partial,
+    number: VarId,
+    set: Described,
+    set_at: Place,
+    at: Place,
+) -> Result<Vec<Ended>, NoMemory>
+    requires room { 1 ≤ room }
+    requires within { number.0 < length places.now }
+    requires sound { IsSound set }
+    ensures { IfOk result (λ ends. IsListedEnds room number.0 set set_at at places.now ends.items) }
+{
+    match list_at(alloc, set, set_at) {
+        Ok(listed) => {
+            listed.is_value();
+            let ends = member_ends(alloc, room, places, number, listed.members())?;
+            or_no_member(alloc, ends, at)
+        }
+        Err(fault) => {
+            let end = fault_end(fault)?;
+            one_end(alloc, end)
+        }
+    }
+}
+
+/// For each of the values the places with it.
+fn member_ends(
+    alloc: Global,
+    room: usize,
+    places: &Partial,
+    number: VarId,
+    values: &[Value],
+) -> Result<Vec<Ended>, NoMemory>
+    requires room { 1 ≤ room }
+    requires within { number.0 < length places.now }
+    ensures { IfOk result (λ ends. IsMembers room places.now number.0 values.now ends.items) }
+{
+    let mut ends = Vec::new(alloc);
+    for value in values {
+        if ends.len() >= room {
+            return Ok(ends);
+        }
+        let end = member_end(alloc, places, number, value)?;
+        ends.push(end)?;
+    }
+    Ok(ends)
+}
+
+/// The places with this value of the variable.
+fn member_end(
+    alloc: Global,
+    places: &Partial,
+    number: VarId,
+    value: &Value,
+) -> Result<Ended, NoMemory>
+    requires { number.0 < length places.now }
+    ensures { IfOk result (λ end. end ≡ Passed (slice_set places.now number.0 (Some value.now))) }
+{
+    let same = places.copy(alloc)?;
+    let copied = value.copy()?;
+    filled_end(same, number, copied)
+}
