@@ -1,21 +1,21 @@
 -- What `load` and `config` accept is what `resolve` asks for.
-use Rattle.std.specs.Prelude.{◌≤◌, ℕ, length, List, [], Option, Some, None, Ok, codes}
+use Rattle.std.specs.Prelude.{◌≤◌, ℕ, Bool, length, List, [], Option, Some, None, Ok, codes}
 use Rattle.trace_base.specs.Device.{File}
 use Rattle.tla_ast.specs.declared.config.Config.{Config}
 use Rattle.tla_ast.specs.declared.module.Program.{Program}
-use Rattle.tla_config.specs.Reads.{Reads}
+use Rattle.wide_config.specs.Wide.{ReadsBy}
 use Rattle.tla_modules.specs.Loads.{Loads}
 use Rattle.resolved_laws.specs.InOrder.{IsWellFormed}
 use Rattle.tla_tables.specs.Values.{AreSpelled}
 use Rattle.tla_levels.specs.Resolved.{IsOneForm}
 
--- each value that an accepted configuration writes is one within the limits of values
+-- each value that a configuration writes that is accepted, with `--wide` or without it, is one within the limits of values
 abbrev pub ConfigurationsAreSpelled : Type 0
-ConfigurationsAreSpelled = (file : ℕ) (name text : List ℕ) (c : Config) → Reads file name text (Ok c) → AreSpelled c.givens
+ConfigurationsAreSpelled = (wide : Bool) (file : ℕ) (name text : List ℕ) (c : Config) → ReadsBy wide file name text (Ok c) → AreSpelled c.givens
 
 -- an accepted configuration has SPECIFICATION alone, or INIT and NEXT without it
 abbrev pub ConfigurationsHaveOneForm : Type 0
-ConfigurationsHaveOneForm = (file : ℕ) (name text : List ℕ) (c : Config) → Reads file name text (Ok c) → IsOneForm c
+ConfigurationsHaveOneForm = (wide : Bool) (file : ℕ) (name text : List ℕ) (c : Config) → ReadsBy wide file name text (Ok c) → IsOneForm c
 
 -- a program that is loaded is one as the reader gives it
 abbrev pub LoadedAreWellFormed : Type 0

@@ -2,7 +2,7 @@ ghost use Rattle.load_laws.specs.Loaded.{ConfigurationsAreSpelled, Configuration
 
 use reader_model::laws_of_extents;
 use spec_laws::form_laws;
-use tla_config::givens_are_within_limits;
+use wide_config::givens_are_within_limits_by;
 
 /// A program that `load` accepts is well formed: its trees are those of the grammar, no two variables have one name and no two definitions, and each
 /// definition has a name. It has at most 32 files.
@@ -14,7 +14,7 @@ pub fn load_laws()
     laws_of_extents();
 }
 
-/// What `config` accepts, and the configuration that stands where none is read, is as `resolve` asks for: each value is within the limits of values, and
+/// What `config_by` accepts, and the configuration that stands where none is read, is as `resolve` asks for: each value is within the limits of values, and
 /// there is SPECIFICATION alone, or INIT and NEXT without it.
 pub fn configuration_laws()
     ensures spelled { ConfigurationsAreSpelled }
@@ -22,5 +22,5 @@ pub fn configuration_laws()
     ensures plain_spelled { PlainIsSpelled }
     ensures plain_form { PlainHasOneForm }
 {
-    givens_are_within_limits();
+    givens_are_within_limits_by();
 }

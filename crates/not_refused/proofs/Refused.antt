@@ -7,7 +7,7 @@ use Rattle.trace_base.specs.declared.reading.ReadFault.TheVariants.{Missing, Fai
 use Rattle.tla_ast.specs.declared.config.Config.{Config}
 use Rattle.tla_ast.specs.declared.module.Program.{Program}
 use Rattle.tla_config.specs.declared.fault.ConfigKind.{ConfigKind}
-use Rattle.tla_config.specs.Reads.{Reads}
+use Rattle.wide_config.specs.Wide.{ReadsBy}
 use Rattle.tla_modules.specs.declared.fault.LoadWhy.{LoadWhy}
 use Rattle.tla_modules.specs.declared.fault.LoadWhy.TheVariants.{Read, Lex, Lay, Parse, Cycle, TooMany, Twice, WrongName}
 use Rattle.tla_modules.specs.declared.so_far.SoFar.{SoFar}
@@ -94,13 +94,13 @@ module _ (known : Known) (files : List File) (job : Job) where
       (a.1, subst (λ (x : List ℕ). HasText (Some files) x config_limit a.1) (some_is a.0 name (sym a.2 ∙ some)) a.3)
 
   configuration_accepted : (p : Program) (c : Config) (name text : List ℕ) (kind : ConfigKind) (at : Place) → Given known.parts files job p c → job.config ≡ Some name
-      → HasText (Some files) name config_limit text → Reads (length p.files) name text (Err (kind, at)) → ⊥
+      → HasText (Some files) name config_limit text → ReadsBy job.wide (length p.files) name text (Err (kind, at)) → ⊥
   configuration_accepted p c name text kind at (inl a) some has reads = none_is_some name (sym a.0 ∙ some)
   configuration_accepted p c name text kind at (inr a) some has reads =
       let named : a.0 ≡ name = some_is a.0 name (sym a.2 ∙ some) in
       let texts : a.1 ≡ text = one_text files a.0 name config_limit config_limit a.1 text named a.3 has in
-      let here : Reads (length p.files) name a.1 (Ok c) = subst (λ (x : List ℕ). Reads (length p.files) x a.1 (Ok c)) named a.4 in
-      known.configuration (length p.files) name text c kind at (subst (λ (x : List ℕ). Reads (length p.files) name x (Ok c)) texts here) reads
+      let here : ReadsBy job.wide (length p.files) name a.1 (Ok c) = subst (λ (x : List ℕ). ReadsBy job.wide (length p.files) x a.1 (Ok c)) named a.4 in
+      known.configuration job.wide (length p.files) name text c kind at (subst (λ (x : List ℕ). ReadsBy job.wide (length p.files) name x (Ok c)) texts here) reads
 
   -- ---- names
 
@@ -157,7 +157,7 @@ module _ (known : Known) (files : List File) (job : Job) where
     text_not_refused _ _ reaches (in_all_modules folder name every why path flat twice) = known.repeats files folder name p every why (is_program folder name path) flat twice
     text_not_refused _ _ reaches (in_the_configuration q name text kind at some has reads) =
         let same : p ≡ q = one_more_program q reaches in
-        configuration_accepted p c name text kind at is_configured.1 some has (subst (λ (x : Program). Reads (length x.files) name text (Err (kind, at))) (sym same) reads)
+        configuration_accepted p c name text kind at is_configured.1 some has (subst (λ (x : Program). ReadsBy job.wide (length x.files) name text (Err (kind, at))) (sym same) reads)
     text_not_refused _ _ reaches (in_names q d fault is) = names_accepted p q c d s fault from reaches is
     text_not_refused _ _ reaches (in_forms q d t fault is) =
         forms_accepted known.forms s t is_in_order (in_order known.parts files job q d t reaches) (alike_to q d t reaches) fault

@@ -5,13 +5,13 @@ use Rattle.tla_ast.specs.declared.module.Declared.{Declared}
 use Rattle.tla_ast.specs.declared.module.Program.{Program}
 use Rattle.tla_ast.specs.Laid.{NeverBoth, OneLaid}
 use Rattle.tla_tokens.specs.Tokens.{OneOutcome}
-use Rattle.tla_config.specs.Reads as read
 use Rattle.tla_modules.specs.declared.fault.LoadWhy.{LoadWhy}
 use Rattle.tla_modules.specs.declared.fault.LoadWhy.TheVariants.{Read, Lex, Lay, Parse, Cycle, TooMany, Twice, WrongName}
 use Rattle.tla_modules.specs.declared.so_far.SoFar.{SoFar}
 use Rattle.tla_modules.specs.Loads.{IsProgram, IsRefused, in_a_module, in_the_whole}
 use Rattle.tla_modules.specs.Twice.{AreNew, Repeats, declared_as, declared_in, stands}
 use Rattle.tla_units.specs.LawsOfModules.{OneModule, ShallowNotRefused}
+use Rattle.wide_config.specs.Laws as read
 use Rattle.one_program.specs.Laws.{FlatteningMayStop, LoadingMayStop, MayStop, NoConfigurationRefused, NothingRepeats, OneFlattening}
 use Rattle.tla_modules.proofs.PathLaws.{path_same}
 use Rattle.one_program.proofs.Refused.{IsFound, IsOk, module_stop}
@@ -60,4 +60,4 @@ loading_may_stop stop new files before now earlier later path p named why h g =
     refused_stops stop new files earlier later g.0 g.1 p named why program g.3
 
 pub no_configuration_refused : read.OneConfiguration → NoConfigurationRefused
-no_configuration_refused one file name text c why at h g = subst IsOk (one file name text (Ok c) (Err (why, at)) h g) tt
+no_configuration_refused one wide file name text c why at h g = subst IsOk (one wide file name text (Ok c) (Err (why, at)) h g) tt

@@ -4,10 +4,10 @@ use Rattle.tla_ast.specs.declared.module.Program.{Program}
 use Rattle.tla_ast.specs.declared.module.Unit.{Unit as ModuleUnit}
 use Rattle.tla_ast.specs.Laid.{OneLaid}
 use Rattle.tla_tokens.specs.Tokens.{OneOutcome}
-use Rattle.tla_config.specs.Reads as read
 use Rattle.tla_modules.specs.declared.so_far.SoFar.{SoFar}
 use Rattle.tla_modules.specs.Loads.{IsProgram, IsProgramOf}
 use Rattle.tla_units.specs.LawsOfModules.{OneModule}
+use Rattle.wide_config.specs.Laws as read
 use Rattle.one_program.specs.Laws.{OneConfiguration, OneFlattening, OneLoading, OneProgram}
 use Rattle.one_program.proofs.Flattenings.{flattening_same}
 use Rattle.tla_modules.proofs.PathLaws.{path_same}
@@ -38,4 +38,4 @@ one_loading program files before now earlier later path p q h g =
     (subst (λ v. IsProgram (Some files) g.0 v p) parts.1 (subst (λ v. IsProgram (Some files) v h.1 p) parts.0 h.3)) g.3
 
 pub one_configuration : read.OneConfiguration → OneConfiguration
-one_configuration one file name text c d h g = ok_same c d (Ok c) refl (one file name text (Ok c) (Ok d) h g)
+one_configuration one wide file name text c d h g = ok_same c d (Ok c) refl (one wide file name text (Ok c) (Ok d) h g)

@@ -1,12 +1,12 @@
 -- What is read is one. It is said of files that tell: where they do not, nothing says which text was read.
-use Rattle.std.specs.Prelude.{◌≡◌, ℕ, List, Some, Ok, Err}
+use Rattle.std.specs.Prelude.{◌≡◌, ℕ, Bool, List, Some, Ok, Err}
 use Rattle.trace_base.specs.Device.{File, IsWhole}
 use Rattle.trace_base.specs.declared.place.Place.{Place}
 use Rattle.trace_base.specs.declared.reading.ReadFault.TheVariants.{Failed}
 use Rattle.tla_ast.specs.declared.config.Config.{Config}
 use Rattle.tla_ast.specs.declared.module.Program.{Program}
 use Rattle.tla_config.specs.declared.fault.ConfigKind.{ConfigKind}
-use Rattle.tla_config.specs.Reads.{Reads}
+use Rattle.wide_config.specs.Wide.{ReadsBy}
 use Rattle.tla_modules.specs.declared.fault.LoadFault.TheVariants.{Refused}
 use Rattle.tla_modules.specs.declared.fault.LoadWhy.{LoadWhy}
 use Rattle.tla_modules.specs.declared.fault.LoadWhy.TheVariants.{Read, Lex, Lay, Parse, Cycle, TooMany, Twice, WrongName}
@@ -42,9 +42,9 @@ OneLoading =
     (files : List File) (before now earlier later : ℕ) (path : List ℕ) (p q : Program) → Loads (Some files) before now path (Ok p)
     → Loads (Some files) earlier later path (Ok q) → p ≡ q
 
--- a text gives one configuration
+-- a text gives one configuration, with `--wide` and without it
 abbrev pub OneConfiguration : Type 0
-OneConfiguration = (file : ℕ) (name text : List ℕ) (c d : Config) → Reads file name text (Ok c) → Reads file name text (Ok d) → c ≡ d
+OneConfiguration = (wide : Bool) (file : ℕ) (name text : List ℕ) (c d : Config) → ReadsBy wide file name text (Ok c) → ReadsBy wide file name text (Ok d) → c ≡ d
 
 -- ---- what is refused beside it
 
@@ -78,4 +78,5 @@ LoadingMayStop =
 -- a text that gives a configuration is not refused
 abbrev pub NoConfigurationRefused : Type 0
 NoConfigurationRefused =
-    (file : ℕ) (name text : List ℕ) (c : Config) (why : ConfigKind) (at : Place) → Reads file name text (Ok c) → Reads file name text (Err (why, at)) → ⊥
+    (wide : Bool) (file : ℕ) (name text : List ℕ) (c : Config) (why : ConfigKind) (at : Place) → ReadsBy wide file name text (Ok c)
+    → ReadsBy wide file name text (Err (why, at)) → ⊥

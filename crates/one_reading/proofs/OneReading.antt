@@ -3,7 +3,7 @@ use Rattle.std.proofs.Common.{◌≡◌, ◌⊎◌, ℕ, List, [], length, Some,
 use Rattle.trace_base.specs.Device.{File}
 use Rattle.tla_ast.specs.declared.config.Config.{Config}
 use Rattle.tla_ast.specs.declared.module.Program.{Program}
-use Rattle.tla_config.specs.Reads.{Reads}
+use Rattle.wide_config.specs.Wide.{ReadsBy}
 use Rattle.tla_modules.specs.Loads.{IsProgram}
 use Rattle.tla_modules.specs.Paths.{IsPath}
 use Rattle.tla_core.specs.declared.state.Shown.{Shown}
@@ -66,9 +66,9 @@ module _ (known : Parts) (files : List File) (job : Job) where
   by_texts p c d a b =
       let named : a.0 ≡ b.0 = some_is a.0 b.0 (sym a.2 ∙ b.2) in
       let texts : a.1 ≡ b.1 = one_text files a.0 b.0 config_limit config_limit a.1 b.1 named a.3 b.3 in
-      let name : Reads (length p.files) a.0 b.1 (Ok d) = subst (λ (x : List ℕ). Reads (length p.files) x b.1 (Ok d)) (sym named) b.4 in
-      let there : Reads (length p.files) a.0 a.1 (Ok d) = subst (λ (x : List ℕ). Reads (length p.files) a.0 x (Ok d)) (sym texts) name in
-      known.configuration (length p.files) a.0 a.1 c d a.4 there
+      let name : ReadsBy job.wide (length p.files) a.0 b.1 (Ok d) = subst (λ (x : List ℕ). ReadsBy job.wide (length p.files) x b.1 (Ok d)) (sym named) b.4 in
+      let there : ReadsBy job.wide (length p.files) a.0 a.1 (Ok d) = subst (λ (x : List ℕ). ReadsBy job.wide (length p.files) a.0 x (Ok d)) (sym texts) name in
+      known.configuration job.wide (length p.files) a.0 a.1 c d a.4 there
 
   same_configuration : (p : Program) (c d : Config) → Given p c → Given p d → c ≡ d
   same_configuration p c d (inl a) (inl b) = a.1 ∙ sym b.1
@@ -78,7 +78,7 @@ module _ (known : Parts) (files : List File) (job : Job) where
 
   one_form : (p : Program) (c : Config) → Given p c → IsOneForm c
   one_form p c (inl a) = subst (λ (x : Config). IsOneForm x) (sym a.1) known.plain_form
-  one_form p c (inr a) = known.form (length p.files) a.0 a.1 c a.4
+  one_form p c (inr a) = known.form job.wide (length p.files) a.0 a.1 c a.4
 
   pub in_order : (p : Program) (c : Config) (s : Spec) → Comes p c s → IsSpec s
   in_order p c s reaches =

@@ -6,7 +6,7 @@ use Rattle.tla_ast.specs.declared.config.Config.{Config}
 use Rattle.tla_ast.specs.declared.module.Program.{Program}
 use Rattle.tla_modules.specs.Loads.{IsProgram}
 use Rattle.tla_modules.specs.Paths.{IsPath}
-use Rattle.tla_config.specs.Reads.{Reads}
+use Rattle.wide_config.specs.Wide.{ReadsBy}
 use Rattle.tla_terms.specs.declared.spec.Spec.{Spec}
 use Rattle.tla_levels.specs.Resolved.{Resolved}
 use Rattle.log_lines.specs.declared.file.FileLines.{FileLines}
@@ -49,7 +49,7 @@ module _ (holds : Option (List File)) (job : Job) where
   WithoutText c = (job.config ≡ None) × (c ≡ without_file)
 
   abbrev pub WithText : Program → Config → Type 0
-  WithText p c = (name : List ℕ) × (text : List ℕ) × (job.config ≡ Some name) × HasText holds name config_limit text × Reads (length p.files) name text (Ok c)
+  WithText p c = (name : List ℕ) × (text : List ℕ) × (job.config ≡ Some name) × HasText holds name config_limit text × ReadsBy job.wide (length p.files) name text (Ok c)
 
   pub configured_by : (p : Program) (c : Config) → Reaches holds job (configured p c) → Reaches holds job (loaded p) × (WithoutText c ⊎ WithText p c)
   configured_by _ _ (needs_no_configuration p reaches none) = (reaches, inl (none, refl))

@@ -46,4 +46,6 @@ ring_job = record {
   silent = None;
   options = record { within = 1; stutter = false; limit = 10000 };
   why = None;
+  near = None;
+  wide = false;
 }

@@ -32,5 +32,7 @@ fn made(alloc: Global) -> Result<Job, NoMemory>
             limit: 10_000,
         },
         why: None,
+        near: None,
+        wide: false,
     })
 }

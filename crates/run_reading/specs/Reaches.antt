@@ -11,7 +11,7 @@ use Rattle.tla_modules.specs.Flattened.{Flattened}
 use Rattle.tla_modules.specs.Loads.{IsProgram}
 use Rattle.tla_modules.specs.Paths.{IsPath}
 use Rattle.tla_modules.specs.Refusals.{module_limit}
-use Rattle.tla_config.specs.Reads.{Reads}
+use Rattle.wide_config.specs.Wide.{ReadsBy}
 use Rattle.tla_terms.specs.declared.spec.Spec.{Spec}
 use Rattle.tla_levels.specs.Resolved.{Resolved}
 use Rattle.spec_forms.specs.Forms.{AreWhole}
@@ -47,7 +47,7 @@ pub data Reaches (holds : Option (List File)) (job : Job) : Stage → Type 0 whe
   loads : (folder name : List ℕ) (p : Program) → IsPath job.module folder name → IsProgram holds folder name p → Reaches holds job (loaded p)
   needs_no_configuration : (p : Program) → Reaches holds job (loaded p) → job.config ≡ None → Reaches holds job (configured p without_file)
   reads_configuration : (p : Program) (name text : List ℕ) (c : Config) → Reaches holds job (loaded p) → job.config ≡ Some name
-      → HasText holds name config_limit text → Reads (length p.files) name text (Ok c) → Reaches holds job (configured p c)
+      → HasText holds name config_limit text → ReadsBy job.wide (length p.files) name text (Ok c) → Reaches holds job (configured p c)
   resolves : (p : Program) (c : Config) (s : Spec) → Reaches holds job (configured p c) → Resolved p c job.silent (Ok s) → Reaches holds job (resolved p c s)
   has_forms : (p : Program) (c : Config) (s : Spec) → Reaches holds job (resolved p c s) → AreWhole s → Reaches holds job (logged p c s no_logs job.logs)
   reads_log : (p : Program) (c : Config) (s : Spec) (read : LogsRead) (name : List ℕ) (names : List (List ℕ)) (text : List ℕ) (f : FileLines)

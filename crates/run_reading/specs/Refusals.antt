@@ -12,7 +12,7 @@ use Rattle.tla_modules.specs.Loads.{files_of}
 use Rattle.tla_modules.specs.Paths.{IsPath}
 use Rattle.tla_modules.specs.Twice.{Repeats, declared_in}
 use Rattle.tla_config.specs.declared.fault.ConfigKind.{ConfigKind}
-use Rattle.tla_config.specs.Reads.{Reads}
+use Rattle.wide_config.specs.Wide.{ReadsBy}
 use Rattle.tla_terms.specs.declared.spec.Spec.{Spec}
 use Rattle.tla_levels.specs.Resolved.{Resolved}
 use Rattle.tla_levels.specs.declared.fault.ResolveFault.{ResolveFault}
@@ -51,7 +51,7 @@ pub data Rejects (holds : Option (List File)) (job : Job) : Stage → List ℕ �
   in_all_modules : (folder name : List ℕ) (all : SoFar) (why : LoadWhy) → IsPath job.module folder name → Flattened holds folder name (Ok all)
       → Repeats all.standard (declared_in all.units) why → Rejects holds job begun (module_refusal (files_of folder all.modules) why)
   in_the_configuration : (p : Program) (name text : List ℕ) (kind : ConfigKind) (at : Place) → job.config ≡ Some name → HasText holds name config_limit text
-      → Reads (length p.files) name text (Err (kind, at)) → Rejects holds job (loaded p) (config_refusal (p.files ++ name ∷ []) kind at)
+      → ReadsBy job.wide (length p.files) name text (Err (kind, at)) → Rejects holds job (loaded p) (config_refusal (p.files ++ name ∷ []) kind at)
   in_names : (p : Program) (c : Config) (fault : ResolveFault) → Resolved p c job.silent (Err fault)
       → Rejects holds job (configured p c) (names_refusal (all_files p c) fault)
   in_forms : (p : Program) (c : Config) (s : Spec) (fault : FormFault) → IsFirstFault s fault

@@ -27,11 +27,11 @@ formed holds job p c law (reads_configuration _ name text _ reaches some has rea
 
 pub spelled : (holds : Option (List File)) (job : Job) (p : Program) (c : Config) → ConfigurationsAreSpelled → PlainIsSpelled → Reaches holds job (configured p c) → AreSpelled c.givens
 spelled holds job p c law plain (needs_no_configuration _ reaches none) = plain
-spelled holds job p c law plain (reads_configuration _ name text _ reaches some has reads) = law (length p.files) name text c reads
+spelled holds job p c law plain (reads_configuration _ name text _ reaches some has reads) = law job.wide (length p.files) name text c reads
 
 pub one_form : (holds : Option (List File)) (job : Job) (p : Program) (c : Config) → ConfigurationsHaveOneForm → PlainHasOneForm → Reaches holds job (configured p c) → IsOneForm c
 one_form holds job p c law plain (needs_no_configuration _ reaches none) = plain
-one_form holds job p c law plain (reads_configuration _ name text _ reaches some has reads) = law (length p.files) name text c reads
+one_form holds job p c law plain (reads_configuration _ name text _ reaches some has reads) = law job.wide (length p.files) name text c reads
 
 -- what the logs say can be asked of the specification
 pub files_ready : (holds : Option (List File)) (job : Job) (p : Program) (c : Config) (s : Spec) (read : LogsRead) (names : List (List ℕ)) → FilesAreReady → IsSpec s

@@ -14,7 +14,7 @@ use Rattle.tla_modules.specs.Loads.{IsRefused, Loads, files_of, in_a_module, in_
 use Rattle.tla_modules.specs.Paths.{IsPath}
 use Rattle.tla_modules.specs.Refusals.{IsCaused, module_limit}
 use Rattle.tla_config.specs.declared.fault.ConfigKind.{ConfigKind}
-use Rattle.tla_config.specs.Reads.{Reads}
+use Rattle.wide_config.specs.Wide.{ReadsBy}
 use Rattle.tla_terms.specs.declared.spec.Spec.{Spec}
 use Rattle.tla_levels.specs.Resolved.{Resolved}
 use Rattle.tla_levels.specs.declared.fault.ResolveFault.{ResolveFault}
@@ -118,10 +118,10 @@ module _ (holds : Option (List File)) (before now : ℕ) (job : Job) where
   module_stop files why stop h s = by_refused h.0 h.1 files why stop h.2 h.3 s
 
   pub config_stop : (p : Program) (name text : List ℕ) (stop : Stop) → Reaches holds job (loaded p) → job.config ≡ Some name → HasText holds name config_limit text
-      → RefusedWith (λ report. (kind : ConfigKind) × (at : Place) × Reads (length p.files) name text (Err (kind, at)) × (report ≡ config_refusal (p.files ++ name ∷ []) kind at)) stop
+      → RefusedWith (λ report. (kind : ConfigKind) × (at : Place) × ReadsBy job.wide (length p.files) name text (Err (kind, at)) × (report ≡ config_refusal (p.files ++ name ∷ []) kind at)) stop
       → StopsBy holds before now job stop
   config_stop p name text stop reaches e has h =
-      refused_with (λ report. (kind : ConfigKind) × (at : Place) × Reads (length p.files) name text (Err (kind, at)) × (report ≡ config_refusal (p.files ++ name ∷ []) kind at))
+      refused_with (λ report. (kind : ConfigKind) × (at : Place) × ReadsBy job.wide (length p.files) name text (Err (kind, at)) × (report ≡ config_refusal (p.files ++ name ∷ []) kind at))
       (λ report r. as_report report (config_refusal (p.files ++ name ∷ []) r.0 r.1) r.3 (is_refused (loaded p) (config_refusal (p.files ++ name ∷ []) r.0 r.1) reaches
       (rejects.in_the_configuration p name text r.0 r.1 e has r.2))) stop h
 
@@ -145,12 +145,12 @@ module _ (holds : Option (List File)) (before now : ℕ) (job : Job) where
 
   -- what a configuration's text gives
   pub config_accepted : (p : Program) (name text : List ℕ) (r : Result Config Stop) → Reaches holds job (loaded p) → job.config ≡ Some name → HasText holds name config_limit text
-      → IfOk r (λ c. Reads (length p.files) name text (Ok c)) → IfOk r (λ c. Reaches holds job (configured p c))
+      → IfOk r (λ c. ReadsBy job.wide (length p.files) name text (Ok c)) → IfOk r (λ c. Reaches holds job (configured p c))
   config_accepted p name text (Ok c) reaches e has h = reads_configuration p name text c reaches e has h
   config_accepted p name text (Err stop) reaches e has h = tt
 
   pub config_refused : (p : Program) (name text : List ℕ) (r : Result Config Stop) → Reaches holds job (loaded p) → job.config ≡ Some name → HasText holds name config_limit text
-      → IfErr r (RefusedWith (λ report. (kind : ConfigKind) × (at : Place) × Reads (length p.files) name text (Err (kind, at)) × (report ≡ config_refusal (p.files ++ name ∷ []) kind at)))
+      → IfErr r (RefusedWith (λ report. (kind : ConfigKind) × (at : Place) × ReadsBy job.wide (length p.files) name text (Err (kind, at)) × (report ≡ config_refusal (p.files ++ name ∷ []) kind at)))
       → IfErr r (StopsBy holds before now job)
   config_refused p name text (Ok c) reaches e has h = tt
   config_refused p name text (Err stop) reaches e has h = config_stop p name text stop reaches e has h

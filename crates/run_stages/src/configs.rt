@@ -1,7 +1,7 @@
 ghost use Rattle.std.specs.Prelude.{◌≡◌, ◌≤◌, ◌++◌, ◌∷◌, [], IfOk, IfErr, Ok, Err, length};
 ghost use Rattle.trace_base.specs.declared.place.Place.{Place};
-ghost use Rattle.tla_config.specs.Reads.{Reads};
 ghost use Rattle.tla_config.specs.declared.fault.ConfigKind.{ConfigKind};
+ghost use Rattle.wide_config.specs.Wide.{ReadsBy};
 ghost use Rattle.run_texts.specs.Configs.{config_refusal};
 ghost use Rattle.run_reading.specs.Texts.{config_limit, without_file};
 ghost use Rattle.run_reading.specs.Reaches.{Reaches, configured, loaded};
@@ -15,8 +15,9 @@ use run_texts::config_refusal;
 use run_words::Job;
 use std::alloc::Global;
 use tla_ast::{Config, Givens, Program};
-use tla_config::{ConfigFault, config};
+use tla_config::ConfigFault;
 use trace_base::{Files, Names, NoMemory, Text};
+use wide_config::config_by;
 
 /// How many bytes a configuration's file may have.
 const CONFIG_LIMIT: usize = 65_536;
@@ -39,21 +40,27 @@ pub(crate) fn read_config<F: Files>(
         None => Ok(without_file(alloc)?),
         Some(name) => {
             let text = read_wanted(alloc, job, files, name, CONFIG_LIMIT)?;
-            config_of(alloc, program, name, text.as_slice())
+            config_of(alloc, job, program, name, text.as_slice())
         }
     }
 }
 
-/// The configuration of a text, whose file is counted behind those of the program.
-fn config_of(alloc: Global, program: &Program, name: &Text, text: &[u8]) -> Result<Config, Stop>
+/// The configuration of a text, whose file is counted behind those of the program, as the job asks for it to be read.
+fn config_of(
+    alloc: Global,
+    job: &Job,
+    program: &Program,
+    name: &Text,
+    text: &[u8],
+) -> Result<Config, Stop>
     requires few { length program.now.files ≤ 32 }
     requires short { length text.now ≤ config_limit }
-    ensures accepted { IfOk result (λ c. Reads (length program.now.files) name.now text.now (Ok c)) }
-    ensures refused { IfErr result (RefusedWith (λ report. (kind : ConfigKind) × (at : Place) × Reads (length program.now.files) name.now text.now (Err (kind, at))
-        × (report ≡ config_refusal (program.now.files ++ name.now ∷ []) kind at))) }
+    ensures accepted { IfOk result (λ c. ReadsBy job.now.wide (length program.now.files) name.now text.now (Ok c)) }
+    ensures refused { IfErr result (RefusedWith (λ report. (kind : ConfigKind) × (at : Place)
+        × ReadsBy job.now.wide (length program.now.files) name.now text.now (Err (kind, at)) × (report ≡ config_refusal (program.now.files ++ name.now ∷ []) kind at))) }
 {
     let number = program.files.len() as u32;
-    match config(alloc, number, name.as_str(), text) {
+    match config_by(alloc, job.wide, number, name.as_str(), text) {
         Ok(config) => Ok(config),
         Err(ConfigFault::Refused(kind, at)) => {
             let files = with_file(alloc, &program.files, name)?;

@@ -1,17 +1,18 @@
 -- What the words give is one command, and meets the rules on names, numbers and counts.
-use Rattle.std.proofs.Common.{◌≡◌, ◌∙◌, sym, ap, subst, refl, ℕ, ◌≤◌, Bool, true, false, if◌then◌else◌, List, [], ◌∷◌, Option, Some, None, IfSome, option_to_list, IfOk, Result, Ok, Err, arith}
+use Rattle.std.proofs.Common.{◌≡◌, ◌∙◌, sym, ap, subst, refl, ℕ, ◌≤◌, Bool, true, false, List, [], ◌∷◌, Option, Some, None, IfSome, option_to_list, IfOk, Result, Ok, Err, arith}
 use Rattle.std.specs.List.{list_all}
 use Rattle.std.specs.declared.alloc.AllocError.{AllocError}
 use Rattle.std.proofs.lemmas.Bool.{and_parts}
 use Rattle.run_words.specs.declared.command.Command.{Command}
 use Rattle.run_words.specs.declared.command.Command.TheVariants as command
-use Rattle.run_words.specs.declared.command.Setting.TheVariants.{Config, Within, Limit, Witness, Why}
+use Rattle.run_words.specs.declared.command.Flag.TheVariants.{Stutter, Wide}
+use Rattle.run_words.specs.declared.command.Setting.TheVariants.{Config, Within, Limit, Witness, Why, Near}
 use Rattle.run_words.specs.declared.job.Job.{Job}
 use Rattle.run_words.specs.declared.job.Options.{Options}
 use Rattle.run_words.specs.declared.job.Words.{Words}
 use Rattle.run_words.specs.declared.job.Words.TheVariants.{Validate, Check, SelfRun}
 use Rattle.run_words.specs.Line.{Text, Given, Gives, is_given}
-use Rattle.run_words.specs.Job.{IsJob, IsNumber, IsNumberIn, IsNumberOr, SetsOptions, values_of}
+use Rattle.run_words.specs.Job.{IsJob, IsNumber, IsNumberIn, IsNumberOr, IsSet, SetsOptions, times, values_of}
 use Rattle.run_words.specs.Words.{AreWords, Asks, AsksCheck, AsksNumber, IsFew, IsOnlyNumber, IsWitnessed, JobMeets, MeetsRules, OneCommand, OptionsMeet, Reads}
 use Rattle.run_words.proofs.ReadLaws.{job_as, number_as, witnessed_as}
 use Rattle.run_words.proofs.Readings.{AllGiven, line_given, one_given}
@@ -31,7 +32,7 @@ one_found [] least most a b g h = g ∙ sym h
 one_found (t ∷ []) least most a b g h = g.1 ∙ ap Some (one_number t least most g.0 h.0 g.2 h.2) ∙ sym h.1
 one_found (t ∷ u ∷ ts) least most a b g h = absurd g
 
-one_flag : (n : ℕ) (a b : Bool) → n ≡ (if a then 1 else 0) → n ≡ (if b then 1 else 0) → a ≡ b
+one_flag : (n : ℕ) (a b : Bool) → IsSet n a → IsSet n b → a ≡ b
 one_flag n true true e f = refl
 one_flag n false false e f = refl
 one_flag n true false e f = absurd (omega arith)
@@ -49,19 +50,21 @@ options_are a b e f g =
     ∙ ap (λ s. let o : Options = record { within = b.within; stutter = s; limit = a.limit } in o) f
     ∙ ap (λ l. let o : Options = record { within = b.within; stutter = b.stutter; limit = l } in o) g
 
-job_are : (a b : Job) → a.module ≡ b.module → a.logs ≡ b.logs → a.config ≡ b.config → a.silent ≡ b.silent → a.options ≡ b.options → a.why ≡ b.why → a ≡ b
-job_are a b e f g h i k =
-    ap (λ m. let j : Job = record { «module» = m; logs = a.logs; config = a.config; silent = a.silent; options = a.options; why = a.why } in j) e
-    ∙ ap (λ l. let j : Job = record { «module» = b.module; logs = l; config = a.config; silent = a.silent; options = a.options; why = a.why } in j) f
-    ∙ ap (λ x. let j : Job = record { «module» = b.module; logs = b.logs; config = x; silent = a.silent; options = a.options; why = a.why } in j) g
-    ∙ ap (λ x. let j : Job = record { «module» = b.module; logs = b.logs; config = b.config; silent = x; options = a.options; why = a.why } in j) h
-    ∙ ap (λ o. let j : Job = record { «module» = b.module; logs = b.logs; config = b.config; silent = b.silent; options = o; why = a.why } in j) i
-    ∙ ap (λ w. let j : Job = record { «module» = b.module; logs = b.logs; config = b.config; silent = b.silent; options = b.options; why = w } in j) k
+job_are : (a b : Job) → a.module ≡ b.module → a.logs ≡ b.logs → a.config ≡ b.config → a.silent ≡ b.silent → a.options ≡ b.options → a.why ≡ b.why → a.near ≡ b.near → a.wide ≡ b.wide → a ≡ b
+job_are a b e f g h i k l m =
+    ap (λ m. let j : Job = record { «module» = m; logs = a.logs; config = a.config; silent = a.silent; options = a.options; why = a.why; near = a.near; wide = a.wide } in j) e
+    ∙ ap (λ l. let j : Job = record { «module» = b.module; logs = l; config = a.config; silent = a.silent; options = a.options; why = a.why; near = a.near; wide = a.wide } in j) f
+    ∙ ap (λ x. let j : Job = record { «module» = b.module; logs = b.logs; config = x; silent = a.silent; options = a.options; why = a.why; near = a.near; wide = a.wide } in j) g
+    ∙ ap (λ x. let j : Job = record { «module» = b.module; logs = b.logs; config = b.config; silent = x; options = a.options; why = a.why; near = a.near; wide = a.wide } in j) h
+    ∙ ap (λ o. let j : Job = record { «module» = b.module; logs = b.logs; config = b.config; silent = b.silent; options = o; why = a.why; near = a.near; wide = a.wide } in j) i
+    ∙ ap (λ w. let j : Job = record { «module» = b.module; logs = b.logs; config = b.config; silent = b.silent; options = b.options; why = w; near = a.near; wide = a.wide } in j) k
+    ∙ ap (λ n. let j : Job = record { «module» = b.module; logs = b.logs; config = b.config; silent = b.silent; options = b.options; why = b.why; near = n; wide = a.wide } in j) l
+    ∙ ap (λ w. let j : Job = record { «module» = b.module; logs = b.logs; config = b.config; silent = b.silent; options = b.options; why = b.why; near = b.near; wide = w } in j) m
 
 one_options : (g : Given) (a b : Options) → SetsOptions g a → SetsOptions g b → a ≡ b
 one_options g a b h i = options_are a b
     (one_number_or 1 (values_of Within g.options) 1 8 a.within b.within h.within i.within)
-    (one_flag g.stutters a.stutter b.stutter h.stutter i.stutter)
+    (one_flag (times Stutter g.flags) a.stutter b.stutter h.stutter i.stutter)
     (one_number_or 10000 (values_of Limit g.options) 1 100000 a.limit b.limit h.limit i.limit)
 
 one_job : (g : Given) (a b : Job) → IsJob g a → IsJob g b → a ≡ b
@@ -70,6 +73,7 @@ one_job g a b h i =
     job_are a b (let e : a.module ≡ b.module = cc in e) (let e : a.logs ≡ b.logs = cc in e)
     (one_option a.config b.config (sym h.config ∙ i.config)) (one_option a.silent b.silent (sym h.silent ∙ i.silent))
     (one_options g a.options b.options h.options i.options) (one_found (values_of Why g.options) 1 1000 a.why b.why h.why i.why)
+    (one_found (values_of Near g.options) 1 1000 a.near b.near h.near i.near) (one_flag (times Wide g.flags) a.wide b.wide h.wide i.wide)
 
 one_asked : (c : Command) (ws : List Text) (a b : Job) → Asks c ws a → Asks c ws b → a ≡ b
 one_asked c ws a b h i = one_job h.given a b h.job_is (job_as i.given h.given b (one_given c ws i.given h.given i.line h.line) i.job_is)
@@ -155,6 +159,7 @@ job_meets c ws g j l h =
       silent = h.operator;
       options = options_meet g j.options h.options;
       why = found_meets (values_of Why g.options) j.why h.why;
+      near = found_meets (values_of Near g.options) j.near h.near;
     }
 
 witness_meets : (c : Command) (ws : List Text) (g : Given) (w : Text) → Gives c ws g → values_of Witness g.options ≡ w ∷ [] → is_given w ≡ true

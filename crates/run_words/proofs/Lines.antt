@@ -6,10 +6,12 @@ use Rattle.clap.specs.Kinds.{or_else}
 use Rattle.clap.specs.Faults.{fault_of}
 use Rattle.run_words.specs.declared.command.Command.{Command}
 use Rattle.run_words.specs.declared.command.Command.TheVariants.{Validate, Check, SelfRun}
+use Rattle.run_words.specs.declared.command.Flag.{Flag}
+use Rattle.run_words.specs.declared.command.Flag.TheVariants.{Stutter, Wide}
 use Rattle.run_words.specs.declared.command.Setting.{Setting}
-use Rattle.run_words.specs.declared.command.Setting.TheVariants.{Config, Within, Silent, Limit, Witness, Why}
-use Rattle.run_words.specs.Line.{Text, Part, apart, joined, stutter, positional, Line, name_of, has_setting, has_stutter, written, written_part, written_parts, written_behind}
-use Rattle.run_words.specs.Parsers.{app_for, id_of, rules_for, setting_rule, stutter_rule}
+use Rattle.run_words.specs.declared.command.Setting.TheVariants.{Config, Within, Silent, Limit, Witness, Why, Near}
+use Rattle.run_words.specs.Line.{Text, Part, apart, joined, flag, positional, Line, flag_name, name_of, has_flag, has_setting, written, written_part, written_parts, written_behind}
+use Rattle.run_words.specs.Parsers.{app_for, flag_rule, id_of, rules_for, setting_rule}
 use Rattle.run_words.proofs.Faults.{ends_fault, fault_from, fault_is, matches_are, no_more, one_more, turn, walk_on}
 use Rattle.run_words.proofs.Walks.{NoFlag, awaited, before, ends, flags, flags_fault, joins, joins_fault, marks_fault, names, names_fault, takes_trailing, takes_value, takes_word, trailing_fault, value_ends, value_turn, waits_value, word_ends, word_rule, word_turn}
 
@@ -17,7 +19,7 @@ use Rattle.run_words.proofs.Walks.{NoFlag, awaited, before, ends, flags, flags_f
 abbrev pub Fits : Command → Part → Type 0
 Fits c (apart s v) = (has_setting c s ≡ true) × NoFlag v
 Fits c (joined s v) = has_setting c s ≡ true
-Fits c stutter = has_stutter c ≡ true
+Fits c (flag f) = has_flag c f ≡ true
 Fits c (positional w) = NoFlag w
 
 abbrev pub AllFit : Command → List Part → Type 0
@@ -28,7 +30,7 @@ AllFit c (p ∷ ps) = Fits c p × AllFit c ps
 abbrev pub used_part : Part → List Row → List Row
 used_part (apart s v) rows = used (filled (setting_rule s)) (v ∷ []) rows
 used_part (joined s v) rows = used (filled (setting_rule s)) (v ∷ []) rows
-used_part stutter rows = used (filled stutter_rule) [] rows
+used_part (flag f) rows = used (filled (flag_rule f)) [] rows
 used_part (positional w) rows = used word_rule (w ∷ []) rows
 
 abbrev pub used_parts : List Part → List Row → List Row
@@ -57,12 +59,14 @@ value_settled Validate Silent v h e = refl
 value_settled Validate Limit v h e = refl
 value_settled Validate Witness v h e = cc
 value_settled Validate Why v h e = refl
+value_settled Validate Near v h e = refl
 value_settled Check Config v h e = refl
 value_settled Check Within v h e = refl
 value_settled Check Silent v h e = refl
 value_settled Check Witness v h e = refl
 value_settled Check Limit v h e = cc
 value_settled Check Why v h e = cc
+value_settled Check Near v h e = cc
 value_settled SelfRun s v h e = cc
 
 word_settled : (c : Command) (w : Text) (h : Held) → rows_held c (awaited c (codes "words") (w ∷ []) h) ≡ used word_rule (w ∷ []) (rows_held c h)
@@ -96,6 +100,15 @@ leads_on c w v word ws rows t e l = record {
 abbrev pub After : Command → List Text → List Row → List Row → Type 0
 After c ws before_rows rows = (k : Bool) (h : Held) → Good c h → rows_held c h ≡ before_rows → Leads c (before k false h) ws rows
 
+flag_leads : (c : Command) (s : Flag) (k : Bool) (h : Held) (ws : List Text) (rows : List Row) → has_flag c s ≡ true → Good c h → After c ws (used_part (flag s) (rows_held c h)) rows
+    → Leads c (before k false h) (flag_name s ∷ ws) rows
+flag_leads c Stutter k h ws rows f g a =
+    leads_on c (before k false h) _ (flag_name Stutter) ws rows (flags_fault c k Stutter h f g.none) (flags c k Stutter h f)
+    (a false _ (record { none = refl; skips = g.skips }) refl)
+flag_leads c Wide k h ws rows f g a =
+    leads_on c (before k false h) _ (flag_name Wide) ws rows (flags_fault c k Wide h f g.none) (flags c k Wide h f)
+    (a false _ (record { none = refl; skips = g.skips }) refl)
+
 part_leads : (c : Command) (p : Part) (k : Bool) (h : Held) (ws : List Text) (rows : List Row) → Fits c p → Good c h → After c ws (used_part p (rows_held c h)) rows
     → Leads c (before k false h) (written_part p ++ ws) rows
 part_leads c (apart s v) k h ws rows f g a =
@@ -105,9 +118,7 @@ part_leads c (apart s v) k h ws rows f g a =
 part_leads c (joined s v) k h ws rows f g a =
     leads_on c (before k false h) _ (name_of s ++ 61 ∷ v) ws rows (joins_fault c k s v h f g.none) (joins c k s v h f)
     (a false _ (record { none = refl; skips = g.skips }) refl)
-part_leads c stutter k h ws rows f g a =
-    leads_on c (before k false h) _ (codes "--stutter") ws rows (flags_fault c k h f g.none) (flags c k h f)
-    (a false _ (record { none = refl; skips = g.skips }) refl)
+part_leads c (flag s) k h ws rows f g a = flag_leads c s k h ws rows f g a
 part_leads c (positional w) k h ws rows f g a =
     leads_on c (before k false h) (before true false (awaited c (codes "words") (w ∷ []) h)) w ws rows (word_turn c k w h f g.none) (takes_word c k w h f)
     (a true (awaited c (codes "words") (w ∷ []) h) (record { none = word_ends c w h; skips = g.skips }) (word_settled c w h))

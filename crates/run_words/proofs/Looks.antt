@@ -10,10 +10,12 @@ use Rattle.clap.specs.Walk.{Rule, arg_by_long, has_long}
 use Rattle.clap.specs.Simple.{filled}
 use Rattle.run_words.specs.declared.command.Command.{Command}
 use Rattle.run_words.specs.declared.command.Command.TheVariants.{Validate, Check, SelfRun}
+use Rattle.run_words.specs.declared.command.Flag.{Flag}
+use Rattle.run_words.specs.declared.command.Flag.TheVariants.{Stutter, Wide}
 use Rattle.run_words.specs.declared.command.Setting.{Setting}
-use Rattle.run_words.specs.declared.command.Setting.TheVariants.{Config, Within, Silent, Limit, Witness, Why}
-use Rattle.run_words.specs.Line.{Text, has_setting, has_stutter}
-use Rattle.run_words.specs.Parsers.{id_of, rules_for, setting_rule, stutter_rule}
+use Rattle.run_words.specs.declared.command.Setting.TheVariants.{Config, Within, Silent, Limit, Witness, Why, Near}
+use Rattle.run_words.specs.Line.{Text, has_flag, has_setting}
+use Rattle.run_words.specs.Parsers.{flag_id, flag_rule, id_of, rules_for, setting_rule}
 use Rattle.run_words.proofs.Walks.{NoFlag, no_flag, word_rule}
 
 pub data Looks (w : Text) : Type 0 where
@@ -107,7 +109,7 @@ named t = named_at t (has_byte 61 t) refl
 -- which argument a name names
 pub data Means (c : Command) (n : Text) : Type 0 where
   setting : (s : Setting) → has_setting c s ≡ true → n ≡ id_of s → Means c n
-  flag : has_stutter c ≡ true → n ≡ codes "stutter" → Means c n
+  switch : (f : Flag) → has_flag c f ≡ true → n ≡ flag_id f → Means c n
   unknown : arg_by_long (rules_for c) n ≡ None → Means c n
 
 passed : (b : Bool) (x y : Option Rule) → (if b && false then x else y) ≡ y
@@ -120,40 +122,52 @@ other_rule a rs n e = ap (λ b. if not (is_some a.index) && b then Some a else a
 or_nothing : (b : Bool) → b ≡ false → (b || false) ≡ false
 or_nothing b e = ap (λ b. b || false) e
 
--- the arguments of `validate` and `check`, which differ behind `--stutter`
+-- the arguments of `validate` and `check`, which differ behind `--wide`
 abbrev behind_silent : Setting → List Rule → List Rule
-behind_silent last others = filled stutter_rule ∷ filled (setting_rule last) ∷ others
+behind_silent last others = filled (flag_rule Stutter) ∷ filled (flag_rule Wide) ∷ filled (setting_rule last) ∷ others
 
 abbrev behind_config : Setting → List Rule → List Rule
 behind_config last others = filled (setting_rule Within) ∷ filled (setting_rule Silent) ∷ behind_silent last others
 
 other_name : (last : Setting) (others : List Rule) (n : Text) → bytes_eq (codes "config") n ≡ false → bytes_eq (codes "within") n ≡ false → bytes_eq (codes "silent") n ≡ false
-    → bytes_eq (codes "stutter") n ≡ false → bytes_eq (id_of last) n ≡ false → arg_by_long (filled (setting_rule Config) ∷ behind_config last others) n ≡ arg_by_long others n
-other_name last others n p q r s t =
+    → bytes_eq (codes "stutter") n ≡ false → bytes_eq (codes "wide") n ≡ false → bytes_eq (id_of last) n ≡ false
+    → arg_by_long (filled (setting_rule Config) ∷ behind_config last others) n ≡ arg_by_long others n
+other_name last others n p q r s u t =
     other_rule (filled (setting_rule Config)) (behind_config last others) n (or_nothing _ p)
     ∙ other_rule (filled (setting_rule Within)) (filled (setting_rule Silent) ∷ behind_silent last others) n (or_nothing _ q)
     ∙ other_rule (filled (setting_rule Silent)) (behind_silent last others) n (or_nothing _ r)
-    ∙ other_rule (filled stutter_rule) (filled (setting_rule last) ∷ others) n (or_nothing _ s)
+    ∙ other_rule (filled (flag_rule Stutter)) (filled (flag_rule Wide) ∷ filled (setting_rule last) ∷ others) n (or_nothing _ s)
+    ∙ other_rule (filled (flag_rule Wide)) (filled (setting_rule last) ∷ others) n (or_nothing _ u)
     ∙ other_rule (filled (setting_rule last)) others n (or_nothing _ t)
 
-name_means : (c : Command) (last : Setting) (others : List Rule) (n : Text) → has_stutter c ≡ true → has_setting c Config ≡ true → has_setting c Within ≡ true → has_setting c Silent ≡ true → has_setting c last ≡ true
+name_means : (c : Command) (last : Setting) (others : List Rule) (n : Text) → ((f : Flag) → has_flag c f ≡ true) → has_setting c Config ≡ true → has_setting c Within ≡ true → has_setting c Silent ≡ true → has_setting c last ≡ true
     → rules_for c ≡ filled (setting_rule Config) ∷ behind_config last others → (arg_by_long (rules_for c) n ≡ arg_by_long others n → Means c n)
-    → (a b d e f : Bool) → bytes_eq (codes "config") n ≡ a → bytes_eq (codes "within") n ≡ b → bytes_eq (codes "silent") n ≡ d → bytes_eq (codes "stutter") n ≡ e → bytes_eq (id_of last) n ≡ f
+    → (a b d e g f : Bool) → bytes_eq (codes "config") n ≡ a → bytes_eq (codes "within") n ≡ b → bytes_eq (codes "silent") n ≡ d → bytes_eq (codes "stutter") n ≡ e
+    → bytes_eq (codes "wide") n ≡ g → bytes_eq (id_of last) n ≡ f
     → Means c n
-name_means c last others n h i j k l m o true b d e f p q r s t = setting Config i (sym (same_bytes _ _ p))
-name_means c last others n h i j k l m o false true d e f p q r s t = setting Within j (sym (same_bytes _ _ q))
-name_means c last others n h i j k l m o false false true e f p q r s t = setting Silent k (sym (same_bytes _ _ r))
-name_means c last others n h i j k l m o false false false true f p q r s t = flag h (sym (same_bytes _ _ s))
-name_means c last others n h i j k l m o false false false false true p q r s t = setting last l (sym (same_bytes _ _ t))
-name_means c last others n h i j k l m o false false false false false p q r s t = o (ap (λ rs. arg_by_long rs n) m ∙ other_name last others n p q r s t)
+name_means c last others n h i j k l m o true b d e g f p q r s u t = setting Config i (sym (same_bytes _ _ p))
+name_means c last others n h i j k l m o false true d e g f p q r s u t = setting Within j (sym (same_bytes _ _ q))
+name_means c last others n h i j k l m o false false true e g f p q r s u t = setting Silent k (sym (same_bytes _ _ r))
+name_means c last others n h i j k l m o false false false true g f p q r s u t = switch Stutter (h Stutter) (sym (same_bytes _ _ s))
+name_means c last others n h i j k l m o false false false false true f p q r s u t = switch Wide (h Wide) (sym (same_bytes _ _ u))
+name_means c last others n h i j k l m o false false false false false true p q r s u t = setting last l (sym (same_bytes _ _ t))
+name_means c last others n h i j k l m o false false false false false false p q r s u t = o (ap (λ rs. arg_by_long rs n) m ∙ other_name last others n p q r s u t)
 
--- of the arguments behind those, the one option of `validate` is named, or none
-behind_limit : (n : Text) (b : Bool) → bytes_eq (codes "why") n ≡ b → arg_by_long (rules_for Validate) n ≡ arg_by_long (filled (setting_rule Why) ∷ word_rule ∷ []) n → Means Validate n
-behind_limit n true p e = setting Why refl (sym (same_bytes _ _ p))
-behind_limit n false p e = unknown (e ∙ other_rule (filled (setting_rule Why)) (word_rule ∷ []) n (or_nothing _ p))
+-- the arguments of `validate` behind those
+abbrev behind_limit : List Rule
+behind_limit = filled (setting_rule Why) ∷ filled (setting_rule Near) ∷ word_rule ∷ []
+
+-- of these an option is named, or none
+more_means : (n : Text) (a b : Bool) → bytes_eq (codes "why") n ≡ a → bytes_eq (codes "near") n ≡ b → arg_by_long (rules_for Validate) n ≡ arg_by_long behind_limit n → Means Validate n
+more_means n true b p q e = setting Why refl (sym (same_bytes _ _ p))
+more_means n false true p q e = setting Near refl (sym (same_bytes _ _ q))
+more_means n false false p q e =
+    unknown
+    (e ∙ other_rule (filled (setting_rule Why)) (filled (setting_rule Near) ∷ word_rule ∷ []) n (or_nothing _ p)
+    ∙ other_rule (filled (setting_rule Near)) (word_rule ∷ []) n (or_nothing _ q))
 
 pub means : (c : Command) (n : Text) → Means c n
 means Validate n =
-    name_means Validate Limit (filled (setting_rule Why) ∷ word_rule ∷ []) n refl refl refl refl refl refl (behind_limit n _ refl) _ _ _ _ _ refl refl refl refl refl
-means Check n = name_means Check Witness (word_rule ∷ []) n refl refl refl refl refl refl (λ e. unknown e) _ _ _ _ _ refl refl refl refl refl
+    name_means Validate Limit behind_limit n (λ f. refl) refl refl refl refl refl (more_means n _ _ refl refl) _ _ _ _ _ _ refl refl refl refl refl refl
+means Check n = name_means Check Witness (word_rule ∷ []) n (λ f. refl) refl refl refl refl refl (λ e. unknown e) _ _ _ _ _ _ refl refl refl refl refl refl
 means SelfRun n = unknown refl

@@ -6,7 +6,8 @@ use Rattle.std.specs.declared.alloc.AllocError.{AllocError}
 use Rattle.std.proofs.lemmas.List.{take_rest}
 use Rattle.run_words.specs.declared.command.Command.{Command}
 use Rattle.run_words.specs.declared.command.Command.TheVariants as command
-use Rattle.run_words.specs.declared.command.Setting.TheVariants.{Config, Within, Silent, Limit, Witness, Why}
+use Rattle.run_words.specs.declared.command.Flag.TheVariants.{Stutter, Wide}
+use Rattle.run_words.specs.declared.command.Setting.TheVariants.{Config, Within, Silent, Limit, Witness, Why, Near}
 use Rattle.run_words.specs.declared.job.Job.{Job}
 use Rattle.run_words.specs.declared.job.Options.{Options}
 use Rattle.run_words.specs.declared.job.Words.{Words}
@@ -24,13 +25,13 @@ at_some o x P Q e h = subst (λ o. MatchOption o P Q) e h
 pub at_none : {X : Type 0} (o : Option X) (P : Type 0) (Q : X → Type 0) → o ≡ None → MatchOption o P Q → P
 at_none o P Q e h = subst (λ o. MatchOption o P Q) e h
 
--- ---- the order of different options does not matter
+-- ---- the order of different options and flags does not matter
 
 options_as : (g h : Given) (o : Options) → Agree g h → SetsOptions g o → SetsOptions h o
 options_as g h o a s = record {
   within = subst (λ vs. IsNumberOr 1 vs 1 8 o.within) (a.settings Within) s.within;
   limit = subst (λ vs. IsNumberOr 10000 vs 1 100000 o.limit) (a.settings Limit) s.limit;
-  stutter = sym a.stutters ∙ s.stutter;
+  stutter = sym (a.flags Stutter) ∙ s.stutter;
 }
 
 pub job_as : (g h : Given) (j : Job) → Agree g h → IsJob g j → IsJob h j
@@ -41,6 +42,8 @@ job_as g h j a i = record {
   operator = i.operator;
   options = options_as g h j.options a i.options;
   why = subst (λ vs. IsNumberIn vs 1 1000 j.why) (a.settings Why) i.why;
+  near = subst (λ vs. IsNumberIn vs 1 1000 j.near) (a.settings Near) i.near;
+  wide = sym (a.flags Wide) ∙ i.wide;
 }
 
 pub witnessed_as : (g h : Given) (j : Job) (w : Text) → Agree g h → IsWitnessed g j w → IsWitnessed h j w

@@ -15,9 +15,9 @@ use Rattle.clap.specs.declared.error.kind.ErrorKind.TheVariants.{OutOfMemory}
 use Rattle.clap.specs.declared.parser.matches.ArgMatches.{ArgMatches}
 use Rattle.run_words.specs.declared.command.Command.{Command}
 use Rattle.run_words.specs.declared.command.Setting.{Setting}
-use Rattle.run_words.specs.declared.command.Setting.TheVariants.{Config, Within, Silent, Limit, Witness, Why}
+use Rattle.run_words.specs.declared.command.Setting.TheVariants.{Config, Within, Silent, Limit, Witness, Why, Near}
 use Rattle.run_words.specs.Job.{is_same, values_of}
-use Rattle.run_words.specs.Line.{Text, Part, apart, joined, stutter, positional, Line, Given, Gives, begins_with_dash, behind_given, given_behind, given_of, given_parts, has_setting, is_given, is_line, is_part, with_part, words_of, written}
+use Rattle.run_words.specs.Line.{Text, Part, apart, joined, flag, positional, Line, Given, Gives, begins_with_dash, behind_given, given_behind, given_of, given_parts, has_setting, is_given, is_line, is_part, with_part, words_of, written}
 use Rattle.run_words.specs.Parsers.{Agree, Holds, app_for, are_given, given_by, given_in, has_given_alone, id_of, vals}
 use Rattle.run_words.proofs.Walks.{NoFlag, no_flag, simple, simple_and_free}
 use Rattle.run_words.proofs.Lines.{AllFit, Fits, line_rows, line_taken, used_line}
@@ -31,7 +31,7 @@ part_fits c (apart s v) e =
     let p = and_parts (has_setting c s) (is_given v && not (begins_with_dash v)) e in
     (p.0, no_flag v (not-true _ (and_parts (is_given v) (not (begins_with_dash v)) p.1).1))
 part_fits c (joined s v) e = (and_parts (has_setting c s) (is_given v) e).0
-part_fits c stutter e = e
+part_fits c (flag f) e = e
 part_fits c (positional w) e = no_flag w (not-true _ (and_parts (is_given w) (not (begins_with_dash w)) e).1)
 
 parts_fit : (c : Command) (ps : List Part) → list_all (is_part c) ps ≡ true → AllFit c ps
@@ -59,7 +59,7 @@ part_given c (apart s v) g e a =
 part_given c (joined s v) g e a =
     let p = and_parts (has_setting c s) (is_given v) e in
     record { settings = λ t. value_more (is_same t s) v (values_of t g.options) p.1 (a.settings t); words = a.words }
-part_given c stutter g e a = record { settings = a.settings; words = a.words }
+part_given c (flag f) g e a = record { settings = a.settings; words = a.words }
 part_given c (positional w) g e a = record { settings = a.settings; words = and_from _ _ (and_parts (is_given w) (not (begins_with_dash w)) e).0 a.words }
 
 parts_given : (c : Command) (ps : List Part) (g : Given) → list_all (is_part c) ps ≡ true → AllGiven g → AllGiven (given_parts ps g)
@@ -76,35 +76,38 @@ line_given c l e = let p = and_parts (list_all (is_part c) l.parts) (behind_give
 rows_given : (rows : List Row) → AllGiven (given_in rows) → are_given rows ≡ true
 rows_given rows a =
     let one : (s : Setting) → list_all is_given (vals (id_of s) rows) ≡ true = λ s. subst (λ vs. list_all is_given vs ≡ true) (values_in rows s) (a.settings s) in
-    and_from _ _ (and_from _ _ (and_from _ _ (and_from _ _ (and_from _ _ (and_from _ _ (one Config) (one Within)) (one Silent)) (one Limit)) (one Witness)) (one Why)) a.words
+    and_from _ _ (and_from _ _ (and_from _ _ (and_from _ _ (and_from _ _ (and_from _ _ (and_from _ _ (one Config) (one Within)) (one Silent)) (one Limit)) (one Witness)) (one Why)) (one Near)) a.words
 
 by_setting : (rows : List Row) → list_all is_given (vals (id_of Config) rows) ≡ true → list_all is_given (vals (id_of Within) rows) ≡ true → list_all is_given (vals (id_of Silent) rows) ≡ true
-    → list_all is_given (vals (id_of Limit) rows) ≡ true → list_all is_given (vals (id_of Witness) rows) ≡ true → list_all is_given (vals (id_of Why) rows) ≡ true → (s : Setting) → list_all is_given (vals (id_of s) rows) ≡ true
-by_setting rows a b c d f g Config = a
-by_setting rows a b c d f g Within = b
-by_setting rows a b c d f g Silent = c
-by_setting rows a b c d f g Limit = d
-by_setting rows a b c d f g Witness = f
-by_setting rows a b c d f g Why = g
+    → list_all is_given (vals (id_of Limit) rows) ≡ true → list_all is_given (vals (id_of Witness) rows) ≡ true → list_all is_given (vals (id_of Why) rows) ≡ true
+    → list_all is_given (vals (id_of Near) rows) ≡ true → (s : Setting) → list_all is_given (vals (id_of s) rows) ≡ true
+by_setting rows a b c d f g h Config = a
+by_setting rows a b c d f g h Within = b
+by_setting rows a b c d f g h Silent = c
+by_setting rows a b c d f g h Limit = d
+by_setting rows a b c d f g h Witness = f
+by_setting rows a b c d f g h Why = g
+by_setting rows a b c d f g h Near = h
 
 given_rows : (rows : List Row) → are_given rows ≡ true → AllGiven (given_in rows)
 given_rows rows e =
     let w = and_parts _ (has_given_alone rows (codes "words")) e in
-    let g = and_parts _ (has_given_alone rows (codes "why")) w.0 in
+    let h = and_parts _ (has_given_alone rows (codes "near")) w.0 in
+    let g = and_parts _ (has_given_alone rows (codes "why")) h.0 in
     let f = and_parts _ (has_given_alone rows (codes "witness")) g.0 in
     let d = and_parts _ (has_given_alone rows (codes "limit")) f.0 in
     let c = and_parts _ (has_given_alone rows (codes "silent")) d.0 in
     let a = and_parts (has_given_alone rows (codes "config")) (has_given_alone rows (codes "within")) c.0 in
-    record { settings = λ s. subst (λ vs. list_all is_given vs ≡ true) (sym (values_in rows s)) (by_setting rows a.0 a.1 c.1 d.1 f.1 g.1 s); words = w.1 }
+    record { settings = λ s. subst (λ vs. list_all is_given vs ≡ true) (sym (values_in rows s)) (by_setting rows a.0 a.1 c.1 d.1 f.1 g.1 h.1 s); words = w.1 }
 
 as_given : (g h : Given) → Agree g h → AllGiven g → AllGiven h
 as_given g h e a = record { settings = λ s. subst (λ vs. list_all is_given vs ≡ true) (e.settings s) (a.settings s); words = subst (λ ws. list_all is_given ws ≡ true) e.positional a.words }
 
 pub turned : (g h : Given) → Agree g h → Agree h g
-turned g h e = record { settings = λ s. sym (e.settings s); stutters = sym e.stutters; positional = sym e.positional }
+turned g h e = record { settings = λ s. sym (e.settings s); flags = λ f. sym (e.flags f); positional = sym e.positional }
 
 pub then_agree : (g h i : Given) → Agree g h → Agree h i → Agree g i
-then_agree g h i a b = record { settings = λ s. a.settings s ∙ b.settings s; stutters = a.stutters ∙ b.stutters; positional = a.positional ∙ b.positional }
+then_agree g h i a b = record { settings = λ s. a.settings s ∙ b.settings s; flags = λ f. a.flags f ∙ b.flags f; positional = a.positional ∙ b.positional }
 
 -- ---- what is taken and given is a line
 
@@ -153,7 +156,7 @@ parts_allowed c (joined s v ∷ ps) b f a =
     let i = first_value s v vs (a.settings s) in
     let rest = parts_allowed c ps b f.1 (record { settings = λ t. value_parts (is_same t s) v (values_of t (given_parts ps (given_behind b)).options) (a.settings t); words = a.words }) in
     with_first (is_part c (joined s v)) _ _ (and_from _ _ f.0 i) rest
-parts_allowed c (stutter ∷ ps) b f a = with_first (is_part c stutter) _ _ f.0 (parts_allowed c ps b f.1 (record { settings = a.settings; words = a.words }))
+parts_allowed c (flag s ∷ ps) b f a = with_first (is_part c (flag s)) _ _ f.0 (parts_allowed c ps b f.1 (record { settings = a.settings; words = a.words }))
 parts_allowed c (positional w ∷ ps) b f a =
     let p = and_parts (is_given w) (list_all is_given (given_parts ps (given_behind b)).positional) a.words in
     with_first (is_part c (positional w)) _ _ (and_from _ _ p.0 (ap not (no_dash w f.0 p.0))) (parts_allowed c ps b f.1 (record { settings = a.settings; words = p.1 }))

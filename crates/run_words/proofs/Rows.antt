@@ -12,11 +12,13 @@ use Rattle.clap.proofs.WalkLemmas.{raw_values-rows}
 use Rattle.clap.specs.declared.builder.value_parser.Reading.{Reading}
 use Rattle.clap.specs.declared.parser.matches.ValueSource.TheVariants.{CommandLine}
 use Rattle.clap.specs.Simple.{filled}
+use Rattle.run_words.specs.declared.command.Flag.{Flag}
+use Rattle.run_words.specs.declared.command.Flag.TheVariants.{Stutter, Wide}
 use Rattle.run_words.specs.declared.command.Setting.{Setting}
-use Rattle.run_words.specs.declared.command.Setting.TheVariants.{Config, Within, Silent, Limit, Witness, Why}
-use Rattle.run_words.specs.Job.{is_same, values_of}
-use Rattle.run_words.specs.Line.{Text, Part, apart, joined, stutter, positional, Line, Given, given_behind, given_of, given_parts, with_part}
-use Rattle.run_words.specs.Parsers.{Agree, given_in, id_of, options_in, setting_rule, stutter_rule, texts_of, vals}
+use Rattle.run_words.specs.declared.command.Setting.TheVariants.{Config, Within, Silent, Limit, Witness, Why, Near}
+use Rattle.run_words.specs.Job.{is_flag, is_same, times, values_of}
+use Rattle.run_words.specs.Line.{Text, Part, apart, joined, flag, positional, Line, Given, given_behind, given_of, given_parts, with_part}
+use Rattle.run_words.specs.Parsers.{Agree, flag_id, flag_rule, flags_in, given_in, id_of, options_in, setting_rule, texts_of, vals}
 use Rattle.run_words.proofs.Walks.{word_rule}
 use Rattle.run_words.proofs.Lines.{used_behind, used_line, used_part, used_parts, used_words}
 
@@ -65,36 +67,49 @@ same_ids Config Silent = refl
 same_ids Config Limit = refl
 same_ids Config Witness = refl
 same_ids Config Why = refl
+same_ids Config Near = refl
 same_ids Within Config = refl
 same_ids Within Within = refl
 same_ids Within Silent = refl
 same_ids Within Limit = refl
 same_ids Within Witness = refl
 same_ids Within Why = refl
+same_ids Within Near = refl
 same_ids Silent Config = refl
 same_ids Silent Within = refl
 same_ids Silent Silent = refl
 same_ids Silent Limit = refl
 same_ids Silent Witness = refl
 same_ids Silent Why = refl
+same_ids Silent Near = refl
 same_ids Limit Config = refl
 same_ids Limit Within = refl
 same_ids Limit Silent = refl
 same_ids Limit Limit = refl
 same_ids Limit Witness = refl
 same_ids Limit Why = refl
+same_ids Limit Near = refl
 same_ids Witness Config = refl
 same_ids Witness Within = refl
 same_ids Witness Silent = refl
 same_ids Witness Limit = refl
 same_ids Witness Witness = refl
 same_ids Witness Why = refl
+same_ids Witness Near = refl
 same_ids Why Config = refl
 same_ids Why Within = refl
 same_ids Why Silent = refl
 same_ids Why Limit = refl
 same_ids Why Witness = refl
 same_ids Why Why = refl
+same_ids Why Near = refl
+same_ids Near Config = refl
+same_ids Near Within = refl
+same_ids Near Silent = refl
+same_ids Near Limit = refl
+same_ids Near Witness = refl
+same_ids Near Why = refl
+same_ids Near Near = refl
 
 pub same_self : (s : Setting) → is_same s s ≡ true
 same_self Config = refl
@@ -103,6 +118,7 @@ same_self Silent = refl
 same_self Limit = refl
 same_self Witness = refl
 same_self Why = refl
+same_self Near = refl
 
 -- the values of an option behind a use of it, or of another
 used_same : (s t : Setting) (v : Text) (rows : List Row) → is_same s t ≡ true → vals (id_of s) (used (filled (setting_rule t)) (v ∷ []) rows) ≡ vals (id_of s) rows ++ v ∷ []
@@ -112,6 +128,7 @@ used_same Silent Silent v rows e = vals_same (codes "silent") _ (v ∷ []) rows 
 used_same Limit Limit v rows e = vals_same (codes "limit") _ (v ∷ []) rows refl
 used_same Witness Witness v rows e = vals_same (codes "witness") _ (v ∷ []) rows refl
 used_same Why Why v rows e = vals_same (codes "why") _ (v ∷ []) rows refl
+used_same Near Near v rows e = vals_same (codes "near") _ (v ∷ []) rows refl
 used_same s t v rows e = cc
 
 option_used : (s t : Setting) (v : Text) (rows : List Row) → vals (id_of s) (used (filled (setting_rule t)) (v ∷ []) rows) ≡ vals (id_of s) rows ++ (if is_same s t then v ∷ [] else [])
@@ -121,13 +138,26 @@ option_used s t v rows = by_same (is_same s t) refl
     by_same true e = used_same s t v rows e
     by_same false e = vals_other (id_of s) (id_of t) _ (v ∷ []) rows (same_ids s t ∙ e) ∙ sym (append-nil _)
 
-flag_used : (s : Setting) (rows : List Row) → vals (id_of s) (used (filled stutter_rule) [] rows) ≡ vals (id_of s) rows
-flag_used Config rows = vals_other (codes "config") (codes "stutter") _ _ rows refl
-flag_used Within rows = vals_other (codes "within") (codes "stutter") _ _ rows refl
-flag_used Silent rows = vals_other (codes "silent") (codes "stutter") _ _ rows refl
-flag_used Limit rows = vals_other (codes "limit") (codes "stutter") _ _ rows refl
-flag_used Witness rows = vals_other (codes "witness") (codes "stutter") _ _ rows refl
-flag_used Why rows = vals_other (codes "why") (codes "stutter") _ _ rows refl
+-- the option and the flag have different names
+apart_names : (s : Setting) (f : Flag) → (bytes_eq (flag_id f) (id_of s) ≡ false) × (bytes_eq (id_of s) (flag_id f) ≡ false)
+apart_names Config Stutter = (refl, refl)
+apart_names Config Wide = (refl, refl)
+apart_names Within Stutter = (refl, refl)
+apart_names Within Wide = (refl, refl)
+apart_names Silent Stutter = (refl, refl)
+apart_names Silent Wide = (refl, refl)
+apart_names Limit Stutter = (refl, refl)
+apart_names Limit Wide = (refl, refl)
+apart_names Witness Stutter = (refl, refl)
+apart_names Witness Wide = (refl, refl)
+apart_names Why Stutter = (refl, refl)
+apart_names Why Wide = (refl, refl)
+apart_names Near Stutter = (refl, refl)
+apart_names Near Wide = (refl, refl)
+
+flag_used : (s : Setting) (f : Flag) (rows : List Row) → vals (id_of s) (used (filled (flag_rule f)) [] rows) ≡ vals (id_of s) rows
+flag_used s Stutter rows = vals_other (id_of s) (codes "stutter") _ _ rows (apart_names s Stutter).0
+flag_used s Wide rows = vals_other (id_of s) (codes "wide") _ _ rows (apart_names s Wide).0
 
 word_used : (s : Setting) (w : Text) (rows : List Row) → vals (id_of s) (used word_rule (w ∷ []) rows) ≡ vals (id_of s) rows
 word_used Config w rows = vals_other (codes "config") (codes "words") _ _ rows refl
@@ -136,14 +166,16 @@ word_used Silent w rows = vals_other (codes "silent") (codes "words") _ _ rows r
 word_used Limit w rows = vals_other (codes "limit") (codes "words") _ _ rows refl
 word_used Witness w rows = vals_other (codes "witness") (codes "words") _ _ rows refl
 word_used Why w rows = vals_other (codes "why") (codes "words") _ _ rows refl
+word_used Near w rows = vals_other (codes "near") (codes "words") _ _ rows refl
 
-no_flag_used : (s : Setting) (v : Text) (rows : List Row) → vals (codes "stutter") (used (filled (setting_rule s)) (v ∷ []) rows) ≡ vals (codes "stutter") rows
-no_flag_used Config v rows = vals_other (codes "stutter") (codes "config") _ _ rows refl
-no_flag_used Within v rows = vals_other (codes "stutter") (codes "within") _ _ rows refl
-no_flag_used Silent v rows = vals_other (codes "stutter") (codes "silent") _ _ rows refl
-no_flag_used Limit v rows = vals_other (codes "stutter") (codes "limit") _ _ rows refl
-no_flag_used Witness v rows = vals_other (codes "stutter") (codes "witness") _ _ rows refl
-no_flag_used Why v rows = vals_other (codes "stutter") (codes "why") _ _ rows refl
+no_flag_used : (f : Flag) (s : Setting) (v : Text) (rows : List Row) → vals (flag_id f) (used (filled (setting_rule s)) (v ∷ []) rows) ≡ vals (flag_id f) rows
+no_flag_used f Config v rows = vals_other (flag_id f) (codes "config") _ _ rows (apart_names Config f).1
+no_flag_used f Within v rows = vals_other (flag_id f) (codes "within") _ _ rows (apart_names Within f).1
+no_flag_used f Silent v rows = vals_other (flag_id f) (codes "silent") _ _ rows (apart_names Silent f).1
+no_flag_used f Limit v rows = vals_other (flag_id f) (codes "limit") _ _ rows (apart_names Limit f).1
+no_flag_used f Witness v rows = vals_other (flag_id f) (codes "witness") _ _ rows (apart_names Witness f).1
+no_flag_used f Why v rows = vals_other (flag_id f) (codes "why") _ _ rows (apart_names Why f).1
+no_flag_used f Near v rows = vals_other (flag_id f) (codes "near") _ _ rows (apart_names Near f).1
 
 no_word_used : (s : Setting) (v : Text) (rows : List Row) → vals (codes "words") (used (filled (setting_rule s)) (v ∷ []) rows) ≡ vals (codes "words") rows
 no_word_used Config v rows = vals_other (codes "words") (codes "config") _ _ rows refl
@@ -152,20 +184,21 @@ no_word_used Silent v rows = vals_other (codes "words") (codes "silent") _ _ row
 no_word_used Limit v rows = vals_other (codes "words") (codes "limit") _ _ rows refl
 no_word_used Witness v rows = vals_other (codes "words") (codes "witness") _ _ rows refl
 no_word_used Why v rows = vals_other (codes "words") (codes "why") _ _ rows refl
+no_word_used Near v rows = vals_other (codes "words") (codes "near") _ _ rows refl
 
 -- ---- the values of an option
 
 own : Setting → Part → List Text
 own s (apart t v) = if is_same s t then v ∷ [] else []
 own s (joined t v) = if is_same s t then v ∷ [] else []
-own s stutter = []
+own s (flag f) = []
 own s (positional w) = []
 
 part_values : (s : Setting) (p : Part) (rows : List Row) → vals (id_of s) (used_part p rows) ≡ vals (id_of s) rows ++ own s p
 unfolding own
 part_values s (apart t v) rows = option_used s t v rows
 part_values s (joined t v) rows = option_used s t v rows
-part_values s stutter rows = flag_used s rows ∙ sym (append-nil _)
+part_values s (flag f) rows = flag_used s f rows ∙ sym (append-nil _)
 part_values s (positional w) rows = word_used s w rows ∙ sym (append-nil _)
 
 one_or_none : (b : Bool) (v : Text) (vs : List Text) → (if b then v ∷ [] else []) ++ vs ≡ (if b then v ∷ vs else vs)
@@ -176,7 +209,7 @@ own_values : (s : Setting) (p : Part) (g : Given) → own s p ++ values_of s g.o
 unfolding own
 own_values s (apart t v) g = one_or_none (is_same s t) v (values_of s g.options)
 own_values s (joined t v) g = one_or_none (is_same s t) v (values_of s g.options)
-own_values s stutter g = refl
+own_values s (flag f) g = refl
 own_values s (positional w) g = refl
 
 words_values : (s : Setting) (ws : List Text) (rows : List Row) → vals (id_of s) (used_words ws rows) ≡ vals (id_of s) rows
@@ -197,10 +230,14 @@ parts_values s (p ∷ ps) b rows =
 
 -- ---- the positional words
 
+no_flag_word : (f : Flag) (rows : List Row) → vals (codes "words") (used (filled (flag_rule f)) [] rows) ≡ vals (codes "words") rows
+no_flag_word Stutter rows = vals_other (codes "words") (codes "stutter") _ _ rows refl
+no_flag_word Wide rows = vals_other (codes "words") (codes "wide") _ _ rows refl
+
 part_words : (p : Part) (g : Given) (rows : List Row) → vals (codes "words") (used_part p rows) ++ g.positional ≡ vals (codes "words") rows ++ (with_part p g).positional
 part_words (apart s v) g rows = ap (λ vs. vs ++ g.positional) (no_word_used s v rows)
 part_words (joined s v) g rows = ap (λ vs. vs ++ g.positional) (no_word_used s v rows)
-part_words stutter g rows = ap (λ vs. vs ++ g.positional) (vals_other (codes "words") (codes "stutter") _ _ rows refl)
+part_words (flag f) g rows = ap (λ vs. vs ++ g.positional) (no_flag_word f rows)
 part_words (positional w) g rows = ap (λ vs. vs ++ g.positional) (vals_same (codes "words") _ (w ∷ []) rows refl) ∙ append_assoc (vals (codes "words") rows) (w ∷ []) g.positional
 
 words_words : (ws : List Text) (rows : List Row) → vals (codes "words") (used_words ws rows) ≡ vals (codes "words") rows ++ ws
@@ -216,34 +253,46 @@ parts_words : (ps : List Part) (b : Option (List Text)) (rows : List Row) → va
 parts_words [] b rows = behind_words b rows
 parts_words (p ∷ ps) b rows = parts_words ps b (used_part p rows) ∙ part_words p (given_parts ps (given_behind b)) rows
 
--- ---- how often the flag stands
+-- ---- how often a flag stands
 
-flags : List Row → ℕ
-flags rows = length (vals (codes "stutter") rows)
+flags : Flag → List Row → ℕ
+flags f rows = length (vals (flag_id f) rows)
 
-one_flag : (rows : List Row) → flags (used (filled stutter_rule) [] rows) ≡ flags rows + 1
+raised : (f : Flag) (rows : List Row) → flags f (used (filled (flag_rule f)) [] rows) ≡ flags f rows + 1
 unfolding flags
-one_flag rows = ap length (vals_same (codes "stutter") _ (codes "" ∷ []) rows refl) ∙ length-append (vals (codes "stutter") rows) (codes "" ∷ [])
+raised Stutter rows = ap length (vals_same (codes "stutter") _ (codes "" ∷ []) rows refl) ∙ length-append (vals (codes "stutter") rows) (codes "" ∷ [])
+raised Wide rows = ap length (vals_same (codes "wide") _ (codes "" ∷ []) rows refl) ∙ length-append (vals (codes "wide") rows) (codes "" ∷ [])
 
-part_flags : (p : Part) (g : Given) (rows : List Row) → flags (used_part p rows) + g.stutters ≡ flags rows + (with_part p g).stutters
+one_more : (f g : Flag) (rows : List Row) (fs : List Flag) → flags f (used (filled (flag_rule g)) [] rows) + times f fs ≡ flags f rows + times f (g ∷ fs)
 unfolding flags
-part_flags (apart s v) g rows = ap (λ vs. length vs + g.stutters) (no_flag_used s v rows)
-part_flags (joined s v) g rows = ap (λ vs. length vs + g.stutters) (no_flag_used s v rows)
-part_flags stutter g rows = let one = one_flag rows in omega arith
-part_flags (positional w) g rows = ap (λ vs. length vs + g.stutters) (vals_other (codes "stutter") (codes "words") _ _ rows refl)
+one_more Stutter Stutter rows fs = let one = raised Stutter rows in omega arith
+one_more Wide Wide rows fs = let one = raised Wide rows in omega arith
+one_more Stutter Wide rows fs = ap (λ vs. length vs + times Stutter fs) (vals_other (codes "stutter") (codes "wide") _ _ rows refl)
+one_more Wide Stutter rows fs = ap (λ vs. length vs + times Wide fs) (vals_other (codes "wide") (codes "stutter") _ _ rows refl)
 
-words_flags : (ws : List Text) (rows : List Row) → flags (used_words ws rows) ≡ flags rows
+word_is_none : (f : Flag) (w : Text) (rows : List Row) → vals (flag_id f) (used word_rule (w ∷ []) rows) ≡ vals (flag_id f) rows
+word_is_none Stutter w rows = vals_other (codes "stutter") (codes "words") _ _ rows refl
+word_is_none Wide w rows = vals_other (codes "wide") (codes "words") _ _ rows refl
+
+part_flags : (f : Flag) (p : Part) (g : Given) (rows : List Row) → flags f (used_part p rows) + times f g.flags ≡ flags f rows + times f (with_part p g).flags
 unfolding flags
-words_flags [] rows = refl
-words_flags (w ∷ ws) rows = words_flags ws (used word_rule (w ∷ []) rows) ∙ ap length (vals_other (codes "stutter") (codes "words") _ _ rows refl)
+part_flags f (apart s v) g rows = ap (λ vs. length vs + times f g.flags) (no_flag_used f s v rows)
+part_flags f (joined s v) g rows = ap (λ vs. length vs + times f g.flags) (no_flag_used f s v rows)
+part_flags f (flag s) g rows = one_more f s rows g.flags
+part_flags f (positional w) g rows = ap (λ vs. length vs + times f g.flags) (word_is_none f w rows)
 
-behind_flags : (b : Option (List Text)) (rows : List Row) → flags (used_behind b rows) ≡ flags rows + (given_behind b).stutters
-behind_flags None rows = omega arith
-behind_flags (Some ws) rows = let same = words_flags ws rows in omega arith
+words_flags : (f : Flag) (ws : List Text) (rows : List Row) → flags f (used_words ws rows) ≡ flags f rows
+unfolding flags
+words_flags f [] rows = refl
+words_flags f (w ∷ ws) rows = words_flags f ws (used word_rule (w ∷ []) rows) ∙ ap length (word_is_none f w rows)
 
-parts_flags : (ps : List Part) (b : Option (List Text)) (rows : List Row) → flags (used_behind b (used_parts ps rows)) ≡ flags rows + (given_parts ps (given_behind b)).stutters
-parts_flags [] b rows = behind_flags b rows
-parts_flags (p ∷ ps) b rows = parts_flags ps b (used_part p rows) ∙ part_flags p (given_parts ps (given_behind b)) rows
+behind_flags : (f : Flag) (b : Option (List Text)) (rows : List Row) → flags f (used_behind b rows) ≡ flags f rows + times f (given_behind b).flags
+behind_flags f None rows = omega arith
+behind_flags f (Some ws) rows = let same = words_flags f ws rows in omega arith
+
+parts_flags : (f : Flag) (ps : List Part) (b : Option (List Text)) (rows : List Row) → flags f (used_behind b (used_parts ps rows)) ≡ flags f rows + times f (given_parts ps (given_behind b)).flags
+parts_flags f [] b rows = behind_flags f b rows
+parts_flags f (p ∷ ps) b rows = parts_flags f ps b (used_part p rows) ∙ part_flags f p (given_parts ps (given_behind b)) rows
 
 -- ---- what the matches give
 
@@ -276,9 +325,11 @@ more_held : (rows : List Row) (s t : Setting) (os : List (Setting × Text)) (vs 
 unfolding held
 more_held rows s t os vs e = values_append s (options_in rows t) os ∙ ap₂ (λ us vs. us ++ vs) (values_own s t (vals (id_of t) rows)) e
 
-all_held : (rows : List Row) (s : Setting) → values_of s (given_in rows).options ≡ held rows s Config ++ (held rows s Within ++ (held rows s Silent ++ (held rows s Limit ++ (held rows s Witness ++ held rows s Why))))
+all_held : (rows : List Row) (s : Setting)
+    → values_of s (given_in rows).options ≡ held rows s Config ++ (held rows s Within ++ (held rows s Silent ++ (held rows s Limit ++ (held rows s Witness ++ (held rows s Why ++ (held rows s Near))))))
 unfolding held
-all_held rows s = more_held rows s Config _ _ (more_held rows s Within _ _ (more_held rows s Silent _ _ (more_held rows s Limit _ _ (more_held rows s Witness _ _ (values_own s Why (vals (id_of Why) rows))))))
+all_held rows s =
+    more_held rows s Config _ _ (more_held rows s Within _ _ (more_held rows s Silent _ _ (more_held rows s Limit _ _ (more_held rows s Witness _ _ (more_held rows s Why _ _ (values_own s Near (vals (id_of Near) rows)))))))
 
 pub values_in : (rows : List Row) (s : Setting) → values_of s (given_in rows).options ≡ vals (id_of s) rows
 unfolding held
@@ -287,13 +338,49 @@ values_in rows Within = all_held rows Within ∙ append-nil _
 values_in rows Silent = all_held rows Silent ∙ append-nil _
 values_in rows Limit = all_held rows Limit ∙ append-nil _
 values_in rows Witness = all_held rows Witness ∙ append-nil _
-values_in rows Why = all_held rows Why
+values_in rows Why = all_held rows Why ∙ append-nil _
+values_in rows Near = all_held rows Near
+
+times_append : (f : Flag) (fs gs : List Flag) → times f (fs ++ gs) ≡ times f fs + times f gs
+times_append f [] gs = omega arith
+times_append f (g ∷ fs) gs = by_same (is_flag f g) (times_append f fs gs)
+  where
+    by_same : (b : Bool) → times f (fs ++ gs) ≡ times f fs + times f gs
+        → (if b then 1 + times f (fs ++ gs) else times f (fs ++ gs)) ≡ (if b then 1 + times f fs else times f fs) + times f gs
+    by_same true e = omega arith
+    by_same false e = e
+
+either_count : (b : Bool) (n : ℕ) → n ≡ (if b then n else n)
+either_count true n = refl
+either_count false n = refl
+
+times_own : (f g : Flag) (vs : List Text) → times f (map (λ _. g) vs) ≡ (if is_flag f g then length vs else 0)
+times_own f g [] = either_count (is_flag f g) 0
+times_own f g (v ∷ vs) = by_same (is_flag f g) (times_own f g vs)
+  where
+    by_same : (b : Bool) → times f (map (λ _. g) vs) ≡ (if b then length vs else 0)
+        → (if b then 1 + times f (map (λ _. g) vs) else times f (map (λ _. g) vs)) ≡ (if b then length (v ∷ vs) else 0)
+    by_same true e = omega arith
+    by_same false e = e
+
+-- how often a flag stands is how many values the matches hold for it
+pub times_in : (rows : List Row) (f : Flag) → times f (given_in rows).flags ≡ length (vals (flag_id f) rows)
+times_in rows Stutter =
+    let both = times_append Stutter (flags_in rows Stutter) (flags_in rows Wide) in
+    let one = times_own Stutter Stutter (vals (flag_id Stutter) rows) in
+    let none = times_own Stutter Wide (vals (flag_id Wide) rows) in
+    omega arith
+times_in rows Wide =
+    let both = times_append Wide (flags_in rows Stutter) (flags_in rows Wide) in
+    let none = times_own Wide Stutter (vals (flag_id Stutter) rows) in
+    let one = times_own Wide Wide (vals (flag_id Wide) rows) in
+    omega arith
 
 pub line_agrees : (l : Line) → Agree (given_of l) (given_in (used_line l))
 unfolding flags
 line_agrees l = record {
   settings = λ s. sym (values_in (used_line l) s ∙ parts_values s l.parts l.behind []);
-  stutters = let e = parts_flags l.parts l.behind [] in omega arith;
+  flags = λ f. let e = parts_flags f l.parts l.behind [] in let held = times_in (used_line l) f in omega arith;
   positional = sym (parts_words l.parts l.behind []);
 }
 
@@ -308,3 +395,6 @@ values_are f id r e = by_rows r (e ∙ raw_values-rows f id)
 
 pub setting_held : (rows : List Row) (s : Setting) (id : Text) (vs : List Text) → id ≡ id_of s → vs ≡ vals id rows → vs ≡ values_of s (given_in rows).options
 setting_held rows s id vs e q = q ∙ ap (λ id. vals id rows) e ∙ sym (values_in rows s)
+
+pub flag_held : (rows : List Row) (f : Flag) (id : Text) (vs : List Text) → id ≡ flag_id f → vs ≡ vals id rows → length vs ≡ times f (given_in rows).flags
+flag_held rows f id vs e q = ap length (q ∙ ap (λ id. vals id rows) e) ∙ sym (times_in rows f)

@@ -11,13 +11,15 @@ use Rattle.clap.specs.Faults.{bundle_fault, bundle_step_fault, fault_of, flag_wo
 use Rattle.clap.specs.declared.error.kind.ErrorKind.TheVariants.{InvalidValue, TooManyValues, UnknownArgument}
 use Rattle.run_words.specs.declared.command.Command.{Command}
 use Rattle.run_words.specs.declared.command.Command.TheVariants.{Validate, Check, SelfRun}
+use Rattle.run_words.specs.declared.command.Flag.{Flag}
+use Rattle.run_words.specs.declared.command.Flag.TheVariants.{Stutter, Wide}
 use Rattle.run_words.specs.declared.command.Setting.{Setting}
-use Rattle.run_words.specs.declared.command.Setting.TheVariants.{Config, Within, Silent, Limit, Witness, Why}
-use Rattle.run_words.specs.Line.{Text, Part, apart, joined, stutter, positional, Line, name_of, has_setting, has_stutter, written, written_part, written_parts, written_behind}
-use Rattle.run_words.specs.Parsers.{app_for, id_of, rules_for, shape_for}
+use Rattle.run_words.specs.declared.command.Setting.TheVariants.{Config, Within, Silent, Limit, Witness, Why, Near}
+use Rattle.run_words.specs.Line.{Text, Part, apart, joined, flag, positional, Line, flag_name, name_of, has_flag, has_setting, written, written_part, written_parts, written_behind}
+use Rattle.run_words.specs.Parsers.{app_for, flag_id, id_of, rules_for, shape_for}
 use Rattle.run_words.proofs.Faults.{ends_fault, fault_from, fault_is, no_more, one_more, or_left, or_right, overrides_none, turn}
 use Rattle.run_words.proofs.Walks.{NoFlag, awaited, before, flags, joins, names, no_value, step_is, takes_value, takes_word, value_ends, waits_value, word_ends}
-use Rattle.run_words.proofs.Looks.{Looks, marks, plain, long, short, looks, short_chars, Named, alone, valued, named, Means, setting, flag, unknown, means}
+use Rattle.run_words.proofs.Looks.{Looks, marks, plain, long, short, looks, short_chars, Named, alone, valued, named, Means, setting, switch, unknown, means}
 use Rattle.run_words.proofs.Lines.{AllFit, Fits, Good}
 
 -- the fault of a word comes first in its turn
@@ -147,16 +149,25 @@ dashed Silent = refl
 dashed Limit = refl
 dashed Witness = refl
 dashed Why = refl
+dashed Near = refl
 
 dashed_joined : (s : Setting) (v : Text) → 45 ∷ 45 ∷ id_of s ++ 61 ∷ v ≡ name_of s ++ 61 ∷ v
 dashed_joined s v = ap (λ (n : Text). n ++ 61 ∷ v) (dashed s)
 
-flag_valued : (c : Command) (k : Bool) (v : Text) (h : Held) → has_stutter c ≡ true → turn c (before k false h) (codes "--stutter" ++ 61 ∷ v) ≡ TooManyValues ∷ []
-flag_valued Validate false v h i = refl
-flag_valued Validate true v h i = refl
-flag_valued Check false v h i = refl
-flag_valued Check true v h i = refl
-flag_valued SelfRun k v h i = cc
+flag_dashed : (f : Flag) → 45 ∷ 45 ∷ flag_id f ≡ flag_name f
+flag_dashed Stutter = refl
+flag_dashed Wide = refl
+
+flag_valued : (c : Command) (k : Bool) (f : Flag) (v : Text) (h : Held) → has_flag c f ≡ true → turn c (before k false h) (flag_name f ++ 61 ∷ v) ≡ TooManyValues ∷ []
+flag_valued Validate false Stutter v h i = refl
+flag_valued Validate false Wide v h i = refl
+flag_valued Validate true Stutter v h i = refl
+flag_valued Validate true Wide v h i = refl
+flag_valued Check false Stutter v h i = refl
+flag_valued Check false Wide v h i = refl
+flag_valued Check true Stutter v h i = refl
+flag_valued Check true Wide v h i = refl
+flag_valued SelfRun k f v h i = cc
 
 module _ (c : Command) (ws : List Text) (k : Bool) (h : Held) (g : Good c h) (rest : Rest c ws) where
   Passes : Text → Type 0
@@ -168,8 +179,8 @@ module _ (c : Command) (ws : List Text) (k : Bool) (h : Held) (g : Good c h) (re
   a_joined : (s : Setting) (v : Text) → has_setting c s ≡ true → fault_from c (before k false h) ((name_of s ++ 61 ∷ v) ∷ ws) ≡ [] → Spells c ((name_of s ++ 61 ∷ v) ∷ ws)
   a_joined s v i e = part_more c (joined s v) _ ws i refl (rest None false _ tt (record { none = refl; skips = g.skips }) (rest_passes c (before k false h) _ (name_of s ++ 61 ∷ v) ws (joins c k s v h i) e))
 
-  a_flag : has_stutter c ≡ true → fault_from c (before k false h) (codes "--stutter" ∷ ws) ≡ [] → Spells c (codes "--stutter" ∷ ws)
-  a_flag i e = part_more c stutter _ ws i refl (rest None false _ tt (record { none = refl; skips = g.skips }) (rest_passes c (before k false h) _ (codes "--stutter") ws (flags c k h i) e))
+  a_flag : (f : Flag) → has_flag c f ≡ true → fault_from c (before k false h) (flag_name f ∷ ws) ≡ [] → Spells c (flag_name f ∷ ws)
+  a_flag f i e = part_more c (flag f) _ ws i refl (rest None false _ tt (record { none = refl; skips = g.skips }) (rest_passes c (before k false h) _ (flag_name f) ws (flags c k f h i) e))
 
   a_word : (w : Text) → NoFlag w → fault_from c (before k false h) (w ∷ ws) ≡ [] → Spells c (w ∷ ws)
   a_word w n e = part_more c (positional w) _ ws n refl (rest None true _ tt (record { none = word_ends c w h; skips = g.skips }) (rest_passes c (before k false h) _ w ws (takes_word c k w h n) e))
@@ -182,18 +193,18 @@ module _ (c : Command) (ws : List Text) (k : Bool) (h : Held) (g : Good c h) (re
       let is : w ≡ name_of s ++ 61 ∷ x = r ∙ ap (λ (t : Text). 45 ∷ 45 ∷ t) (q ∙ ap (λ (n : Text). n ++ 61 ∷ x) p) ∙ dashed_joined s x in
       subst (λ (w : Text). fault_from c (before k false h) (w ∷ ws) ≡ [] → Spells c (w ∷ ws)) (sym is) (a_joined s x i) e
 
-  the_flag : (t w : Text) → has_stutter c ≡ true → (n : Text) → n ≡ codes "stutter" → Named t n → w ≡ 45 ∷ 45 ∷ t → fault_from c (before k false h) (w ∷ ws) ≡ [] → Spells c (w ∷ ws)
-  the_flag t w i n p (alone q v) r e =
-      let is : w ≡ codes "--stutter" = r ∙ ap (λ (t : Text). 45 ∷ 45 ∷ t) (q ∙ p) in
-      subst (λ (w : Text). fault_from c (before k false h) (w ∷ ws) ≡ [] → Spells c (w ∷ ws)) (sym is) (a_flag i) e
-  the_flag t w i n p (valued x q v) r e =
-      let is : w ≡ codes "--stutter" ++ 61 ∷ x = r ∙ ap (λ (t : Text). 45 ∷ 45 ∷ t) (q ∙ ap (λ (n : Text). n ++ 61 ∷ x) p) in
-      absurd (no_kinds TooManyValues [] (sym (flag_valued c k x h i) ∙ ap (turn c (before k false h)) (sym is) ∙ turn_passes c (before k false h) w ws e))
+  a_switch : (f : Flag) (t w : Text) → has_flag c f ≡ true → (n : Text) → n ≡ flag_id f → Named t n → w ≡ 45 ∷ 45 ∷ t → fault_from c (before k false h) (w ∷ ws) ≡ [] → Spells c (w ∷ ws)
+  a_switch f t w i n p (alone q v) r e =
+      let is : w ≡ flag_name f = r ∙ ap (λ (t : Text). 45 ∷ 45 ∷ t) (q ∙ p) ∙ flag_dashed f in
+      subst (λ (w : Text). fault_from c (before k false h) (w ∷ ws) ≡ [] → Spells c (w ∷ ws)) (sym is) (a_flag f i) e
+  a_switch f t w i n p (valued x q v) r e =
+      let is : w ≡ flag_name f ++ 61 ∷ x = r ∙ ap (λ (t : Text). 45 ∷ 45 ∷ t) (q ∙ ap (λ (n : Text). n ++ 61 ∷ x) p) ∙ ap (λ (n : Text). n ++ 61 ∷ x) (flag_dashed f) in
+      absurd (no_kinds TooManyValues [] (sym (flag_valued c k f x h i) ∙ ap (turn c (before k false h)) (sym is) ∙ turn_passes c (before k false h) w ws e))
 
   a_long : (t w : Text) → bytes_eq w (codes "--") ≡ false → w ≡ 45 ∷ 45 ∷ t → long_of w ≡ Some (name_and_value t) → Means c (before_first (λ y. y == 61) t)
       → fault_from c (before k false h) (w ∷ ws) ≡ [] → Spells c (w ∷ ws)
   a_long t w n q l (setting s i p) e = a_setting s t w i _ p (named t) q e
-  a_long t w n q l (flag i p) e = the_flag t w i _ p (named t) q e
+  a_long t w n q l (switch f i p) e = a_switch f t w i _ p (named t) q e
   a_long t w n q l (unknown u) e =
       let fails = ap (λ o. long_fault (shape_for c).rules (shape_for c).args_override_self o (name_and_value t).1 h) u in
       absurd (no_kinds UnknownArgument [] (any_turn c k h w (UnknownArgument ∷ []) (long_word c idle w h (name_and_value t) n l ∙ fails) (long_word c waits_word w h (name_and_value t) n l ∙ fails)

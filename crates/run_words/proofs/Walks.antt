@@ -12,10 +12,12 @@ use Rattle.clap.specs.Faults.{is_simple_and_free, positional_fault, step_fault, 
 use Rattle.run_words.proofs.Faults.{ends_fault, turn}
 use Rattle.run_words.specs.declared.command.Command.{Command}
 use Rattle.run_words.specs.declared.command.Command.TheVariants.{Validate, Check, SelfRun}
+use Rattle.run_words.specs.declared.command.Flag.{Flag}
+use Rattle.run_words.specs.declared.command.Flag.TheVariants.{Stutter, Wide}
 use Rattle.run_words.specs.declared.command.Setting.{Setting}
-use Rattle.run_words.specs.declared.command.Setting.TheVariants.{Config, Within, Silent, Limit, Witness, Why}
-use Rattle.run_words.specs.Line.{Text, name_of, has_setting, has_stutter, begins_with_dash}
-use Rattle.run_words.specs.Parsers.{app_for, id_of, rules_for, shape_for, setting_rule, stutter_rule, words_rule}
+use Rattle.run_words.specs.declared.command.Setting.TheVariants.{Config, Within, Silent, Limit, Witness, Why, Near}
+use Rattle.run_words.specs.Line.{Text, flag_name, name_of, has_flag, has_setting, begins_with_dash}
+use Rattle.run_words.specs.Parsers.{app_for, flag_rule, id_of, rules_for, shape_for, setting_rule, words_rule}
 
 pub simple : (c : Command) → is_simple (app_for c) ≡ true
 simple Validate = refl
@@ -44,34 +46,42 @@ joins Validate false Silent v h e = refl
 joins Validate false Limit v h e = refl
 joins Validate false Witness v h e = cc
 joins Validate false Why v h e = refl
+joins Validate false Near v h e = refl
 joins Validate true Config v h e = refl
 joins Validate true Within v h e = refl
 joins Validate true Silent v h e = refl
 joins Validate true Limit v h e = refl
 joins Validate true Witness v h e = cc
 joins Validate true Why v h e = refl
+joins Validate true Near v h e = refl
 joins Check false Config v h e = refl
 joins Check false Within v h e = refl
 joins Check false Silent v h e = refl
 joins Check false Witness v h e = refl
 joins Check false Limit v h e = cc
 joins Check false Why v h e = cc
+joins Check false Near v h e = cc
 joins Check true Config v h e = refl
 joins Check true Within v h e = refl
 joins Check true Silent v h e = refl
 joins Check true Witness v h e = refl
 joins Check true Limit v h e = cc
 joins Check true Why v h e = cc
+joins Check true Near v h e = cc
 joins SelfRun b s v h e = cc
 
-pub flags : (c : Command) (b : Bool) (h : Held) → has_stutter c ≡ true
-    → walked (rules_for c) [] (before b false h) (codes "--stutter") ≡ before false false (reacted (rules_for c) (filled stutter_rule) [] h)
+pub flags : (c : Command) (b : Bool) (f : Flag) (h : Held) → has_flag c f ≡ true
+    → walked (rules_for c) [] (before b false h) (flag_name f) ≡ before false false (reacted (rules_for c) (filled (flag_rule f)) [] h)
 unfolding walked
-flags Validate false h e = refl
-flags Validate true h e = refl
-flags Check false h e = refl
-flags Check true h e = refl
-flags SelfRun b h e = cc
+flags Validate false Stutter h e = refl
+flags Validate false Wide h e = refl
+flags Validate true Stutter h e = refl
+flags Validate true Wide h e = refl
+flags Check false Stutter h e = refl
+flags Check false Wide h e = refl
+flags Check true Stutter h e = refl
+flags Check true Wide h e = refl
+flags SelfRun b f h e = cc
 
 -- what is held while a value is awaited, and behind it
 abbrev pub awaited : Command → Text → List Text → Held → Held
@@ -89,24 +99,28 @@ names Validate false Silent h e = refl
 names Validate false Limit h e = refl
 names Validate false Witness h e = cc
 names Validate false Why h e = refl
+names Validate false Near h e = refl
 names Validate true Config h e = refl
 names Validate true Within h e = refl
 names Validate true Silent h e = refl
 names Validate true Limit h e = refl
 names Validate true Witness h e = cc
 names Validate true Why h e = refl
+names Validate true Near h e = refl
 names Check false Config h e = refl
 names Check false Within h e = refl
 names Check false Silent h e = refl
 names Check false Witness h e = refl
 names Check false Limit h e = cc
 names Check false Why h e = cc
+names Check false Near h e = cc
 names Check true Config h e = refl
 names Check true Within h e = refl
 names Check true Silent h e = refl
 names Check true Witness h e = refl
 names Check true Limit h e = cc
 names Check true Why h e = cc
+names Check true Near h e = cc
 names SelfRun b s h e = cc
 
 -- a word that begins with no dash, as clap sees it
@@ -159,12 +173,14 @@ takes_value Validate Silent w h e n = value_met Validate Silent w h n
 takes_value Validate Limit w h e n = value_met Validate Limit w h n
 takes_value Validate Witness w h e n = cc
 takes_value Validate Why w h e n = value_met Validate Why w h n
+takes_value Validate Near w h e n = value_met Validate Near w h n
 takes_value Check Config w h e n = value_met Check Config w h n
 takes_value Check Within w h e n = value_met Check Within w h n
 takes_value Check Silent w h e n = value_met Check Silent w h n
 takes_value Check Witness w h e n = value_met Check Witness w h n
 takes_value Check Limit w h e n = cc
 takes_value Check Why w h e n = cc
+takes_value Check Near w h e n = cc
 takes_value SelfRun s w h e n = cc
 
 -- a word of its own is not added to what waits
@@ -214,24 +230,28 @@ joins_fault Validate false Silent v h e g = ap (λ x. or_else (or_else x []) [])
 joins_fault Validate false Limit v h e g = ap (λ x. or_else (or_else x []) []) g
 joins_fault Validate false Witness v h e g = cc
 joins_fault Validate false Why v h e g = ap (λ x. or_else (or_else x []) []) g
+joins_fault Validate false Near v h e g = ap (λ x. or_else (or_else x []) []) g
 joins_fault Validate true Config v h e g = ap (λ x. or_else (or_else x []) []) g
 joins_fault Validate true Within v h e g = ap (λ x. or_else (or_else x []) []) g
 joins_fault Validate true Silent v h e g = ap (λ x. or_else (or_else x []) []) g
 joins_fault Validate true Limit v h e g = ap (λ x. or_else (or_else x []) []) g
 joins_fault Validate true Witness v h e g = cc
 joins_fault Validate true Why v h e g = ap (λ x. or_else (or_else x []) []) g
+joins_fault Validate true Near v h e g = ap (λ x. or_else (or_else x []) []) g
 joins_fault Check false Config v h e g = ap (λ x. or_else (or_else x []) []) g
 joins_fault Check false Within v h e g = ap (λ x. or_else (or_else x []) []) g
 joins_fault Check false Silent v h e g = ap (λ x. or_else (or_else x []) []) g
 joins_fault Check false Witness v h e g = ap (λ x. or_else (or_else x []) []) g
 joins_fault Check false Limit v h e g = cc
 joins_fault Check false Why v h e g = cc
+joins_fault Check false Near v h e g = cc
 joins_fault Check true Config v h e g = ap (λ x. or_else (or_else x []) []) g
 joins_fault Check true Within v h e g = ap (λ x. or_else (or_else x []) []) g
 joins_fault Check true Silent v h e g = ap (λ x. or_else (or_else x []) []) g
 joins_fault Check true Witness v h e g = ap (λ x. or_else (or_else x []) []) g
 joins_fault Check true Limit v h e g = cc
 joins_fault Check true Why v h e g = cc
+joins_fault Check true Near v h e g = cc
 joins_fault SelfRun b s v h e g = cc
 
 pub names_fault : (c : Command) (b : Bool) (s : Setting) (h : Held) → has_setting c s ≡ true → ends_fault c h ≡ []
@@ -242,32 +262,40 @@ names_fault Validate false Silent h e g = ap (λ x. or_else x []) g
 names_fault Validate false Limit h e g = ap (λ x. or_else x []) g
 names_fault Validate false Witness h e g = cc
 names_fault Validate false Why h e g = ap (λ x. or_else x []) g
+names_fault Validate false Near h e g = ap (λ x. or_else x []) g
 names_fault Validate true Config h e g = ap (λ x. or_else x []) g
 names_fault Validate true Within h e g = ap (λ x. or_else x []) g
 names_fault Validate true Silent h e g = ap (λ x. or_else x []) g
 names_fault Validate true Limit h e g = ap (λ x. or_else x []) g
 names_fault Validate true Witness h e g = cc
 names_fault Validate true Why h e g = ap (λ x. or_else x []) g
+names_fault Validate true Near h e g = ap (λ x. or_else x []) g
 names_fault Check false Config h e g = ap (λ x. or_else x []) g
 names_fault Check false Within h e g = ap (λ x. or_else x []) g
 names_fault Check false Silent h e g = ap (λ x. or_else x []) g
 names_fault Check false Witness h e g = ap (λ x. or_else x []) g
 names_fault Check false Limit h e g = cc
 names_fault Check false Why h e g = cc
+names_fault Check false Near h e g = cc
 names_fault Check true Config h e g = ap (λ x. or_else x []) g
 names_fault Check true Within h e g = ap (λ x. or_else x []) g
 names_fault Check true Silent h e g = ap (λ x. or_else x []) g
 names_fault Check true Witness h e g = ap (λ x. or_else x []) g
 names_fault Check true Limit h e g = cc
 names_fault Check true Why h e g = cc
+names_fault Check true Near h e g = cc
 names_fault SelfRun b s h e g = cc
 
-pub flags_fault : (c : Command) (b : Bool) (h : Held) → has_stutter c ≡ true → ends_fault c h ≡ [] → turn c (before b false h) (codes "--stutter") ≡ []
-flags_fault Validate false h e g = ap (λ x. or_else (or_else x []) []) g
-flags_fault Validate true h e g = ap (λ x. or_else (or_else x []) []) g
-flags_fault Check false h e g = ap (λ x. or_else (or_else x []) []) g
-flags_fault Check true h e g = ap (λ x. or_else (or_else x []) []) g
-flags_fault SelfRun b h e g = cc
+pub flags_fault : (c : Command) (b : Bool) (f : Flag) (h : Held) → has_flag c f ≡ true → ends_fault c h ≡ [] → turn c (before b false h) (flag_name f) ≡ []
+flags_fault Validate false Stutter h e g = ap (λ x. or_else (or_else x []) []) g
+flags_fault Validate false Wide h e g = ap (λ x. or_else (or_else x []) []) g
+flags_fault Validate true Stutter h e g = ap (λ x. or_else (or_else x []) []) g
+flags_fault Validate true Wide h e g = ap (λ x. or_else (or_else x []) []) g
+flags_fault Check false Stutter h e g = ap (λ x. or_else (or_else x []) []) g
+flags_fault Check false Wide h e g = ap (λ x. or_else (or_else x []) []) g
+flags_fault Check true Stutter h e g = ap (λ x. or_else (or_else x []) []) g
+flags_fault Check true Wide h e g = ap (λ x. or_else (or_else x []) []) g
+flags_fault SelfRun b f h e g = cc
 
 pub marks_fault : (c : Command) (b : Bool) (h : Held) → turn c (before b false h) (codes "--") ≡ []
 marks_fault Validate false h = refl
@@ -322,12 +350,14 @@ value_ends Validate Silent v h e = refl
 value_ends Validate Limit v h e = refl
 value_ends Validate Witness v h e = cc
 value_ends Validate Why v h e = refl
+value_ends Validate Near v h e = refl
 value_ends Check Config v h e = refl
 value_ends Check Within v h e = refl
 value_ends Check Silent v h e = refl
 value_ends Check Witness v h e = refl
 value_ends Check Limit v h e = cc
 value_ends Check Why v h e = cc
+value_ends Check Near v h e = cc
 value_ends SelfRun s v h e = cc
 
 pub word_ends : (c : Command) (w : Text) (h : Held) → ends_fault c (awaited c (codes "words") (w ∷ []) h) ≡ []
@@ -342,10 +372,12 @@ no_value Validate Silent h e = refl
 no_value Validate Limit h e = refl
 no_value Validate Witness h e = cc
 no_value Validate Why h e = refl
+no_value Validate Near h e = refl
 no_value Check Config h e = refl
 no_value Check Within h e = refl
 no_value Check Silent h e = refl
 no_value Check Witness h e = refl
 no_value Check Limit h e = cc
 no_value Check Why h e = cc
+no_value Check Near h e = cc
 no_value SelfRun s h e = cc

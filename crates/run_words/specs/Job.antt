@@ -1,12 +1,14 @@
 -- What the words give a command to do.
-use Rattle.std.specs.Prelude.{◌≡◌, ℕ, ◌≤◌, Bool, true, false, List, [], ◌∷◌, length, Option, Some, None, IfSome, if◌then◌else◌, option_to_list}
+use Rattle.std.specs.Prelude.{◌≡◌, ℕ, ◌+◌, ◌≤◌, Bool, true, false, List, [], ◌∷◌, length, Option, Some, None, IfSome, if◌then◌else◌, option_to_list}
 use Rattle.std.specs.List.{list_all}
 use Rattle.std.specs.Str.Parse.{digits_value}
 use Rattle.tla_tokens.specs.Shapes.{is_digit}
 use Rattle.run_words.specs.Line.{Text, Given}
 use Rattle.run_words.specs.Names.{IsName, IsModule}
+use Rattle.run_words.specs.declared.command.Flag.{Flag}
+use Rattle.run_words.specs.declared.command.Flag.TheVariants.{Stutter, Wide}
 use Rattle.run_words.specs.declared.command.Setting.{Setting}
-use Rattle.run_words.specs.declared.command.Setting.TheVariants.{Config, Within, Silent, Limit, Witness, Why}
+use Rattle.run_words.specs.declared.command.Setting.TheVariants.{Config, Within, Silent, Limit, Witness, Why, Near}
 use Rattle.run_words.specs.declared.job.Job.{Job}
 use Rattle.run_words.specs.declared.job.Options.{Options}
 
@@ -17,12 +19,27 @@ is_same Silent Silent = true
 is_same Limit Limit = true
 is_same Witness Witness = true
 is_same Why Why = true
+is_same Near Near = true
 is_same a b = false
 
 -- the values of an option, in their order
 abbrev pub values_of : Setting → List (Setting × Text) → List Text
 values_of setting [] = []
 values_of setting (o ∷ os) = if is_same setting o.0 then o.1 ∷ values_of setting os else values_of setting os
+
+abbrev pub is_flag : Flag → Flag → Bool
+is_flag Stutter Stutter = true
+is_flag Wide Wide = true
+is_flag a b = false
+
+-- how often a flag stands
+abbrev pub times : Flag → List Flag → ℕ
+times flag [] = 0
+times flag (f ∷ fs) = if is_flag flag f then 1 + times flag fs else times flag fs
+
+-- a flag that stands so often is set or not: it may stand once
+abbrev pub IsSet : ℕ → Bool → Type 0
+IsSet count set = count ≡ (if set then 1 else 0)
 
 -- 1 to 10 decimal digits, which spell a number of the range
 pub record IsNumber (text : Text) (least most n : ℕ) : Type 0 where
@@ -50,7 +67,7 @@ IsNumberIn (text ∷ more ∷ texts) least most found = ⊥
 pub record SetsOptions (given : Given) (options : Options) : Type 0 where
   pub within : IsNumberOr 1 (values_of Within given.options) 1 8 options.within
   pub limit : IsNumberOr 10000 (values_of Limit given.options) 1 100000 options.limit
-  pub stutter : given.stutters ≡ (if options.stutter then 1 else 0)
+  pub stutter : IsSet (times Stutter given.flags) options.stutter
 
 -- positional words that are a module's path and 1 to 64 logs
 pub record AreFiles (words : List Text) (path : Text) (logs : List Text) : Type 0 where
@@ -67,3 +84,5 @@ pub record IsJob (given : Given) (job : Job) : Type 0 where
   pub operator : IfSome job.silent IsName
   pub options : SetsOptions given job.options
   pub why : IsNumberIn (values_of Why given.options) 1 1000 job.why
+  pub near : IsNumberIn (values_of Near given.options) 1 1000 job.near
+  pub wide : IsSet (times Wide given.flags) job.wide

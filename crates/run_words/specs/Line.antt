@@ -1,13 +1,15 @@
 -- The words behind the command word: options with their values, flags and positional words in any order, and behind a word `--`
 -- positional words alone.
-use Rattle.std.specs.Prelude.{◌≡◌, ℕ, ◌+◌, Bool, true, false, ◌&&◌, not, nat_eq, List, [], ◌∷◌, ◌++◌, Option, Some, None, codes, if◌then◌else◌, map, String, string_bytes}
+use Rattle.std.specs.Prelude.{◌≡◌, ℕ, Bool, true, false, ◌&&◌, not, nat_eq, List, [], ◌∷◌, ◌++◌, Option, Some, None, codes, map, String, string_bytes}
 use Rattle.std.specs.List.{list_all}
 use Rattle.std.specs.Str.{bytes_eq}
 use Rattle.std.specs.declared.alloc.Global.{Global}
 use Rattle.run_words.specs.declared.command.Command.{Command}
 use Rattle.run_words.specs.declared.command.Command.TheVariants.{Validate, Check, SelfRun}
+use Rattle.run_words.specs.declared.command.Flag.{Flag}
+use Rattle.run_words.specs.declared.command.Flag.TheVariants.{Stutter, Wide}
 use Rattle.run_words.specs.declared.command.Setting.{Setting}
-use Rattle.run_words.specs.declared.command.Setting.TheVariants.{Config, Within, Silent, Limit, Witness, Why}
+use Rattle.run_words.specs.declared.command.Setting.TheVariants.{Config, Within, Silent, Limit, Witness, Why, Near}
 
 abbrev pub Text : Type 0
 Text = List ℕ
@@ -23,6 +25,12 @@ name_of Silent = codes "--silent"
 name_of Limit = codes "--limit"
 name_of Witness = codes "--witness"
 name_of Why = codes "--why"
+name_of Near = codes "--near"
+
+-- how the flags are spelled
+abbrev pub flag_name : Flag → Text
+flag_name Stutter = codes "--stutter"
+flag_name Wide = codes "--wide"
 
 -- the command has this option
 abbrev pub has_setting : Command → Setting → Bool
@@ -32,19 +40,21 @@ has_setting Validate Silent = true
 has_setting Validate Limit = true
 has_setting Validate Witness = false
 has_setting Validate Why = true
+has_setting Validate Near = true
 has_setting Check Config = true
 has_setting Check Within = true
 has_setting Check Silent = true
 has_setting Check Limit = false
 has_setting Check Witness = true
 has_setting Check Why = false
+has_setting Check Near = false
 has_setting SelfRun setting = false
 
--- the command has the flag `--stutter`
-abbrev pub has_stutter : Command → Bool
-has_stutter Validate = true
-has_stutter Check = true
-has_stutter SelfRun = false
+-- the command has this flag
+abbrev pub has_flag : Command → Flag → Bool
+has_flag Validate f = true
+has_flag Check f = true
+has_flag SelfRun f = false
 
 -- neither empty nor `-`
 abbrev pub is_given : Text → Bool
@@ -55,24 +65,24 @@ abbrev pub begins_with_dash : Text → Bool
 begins_with_dash [] = false
 begins_with_dash (b ∷ bs) = nat_eq b 45
 
--- a part of the line: an option whose value is the next word, an option whose value stands behind `=`, the flag `--stutter`, or
--- a positional word
+-- a part of the line: an option whose value is the next word, an option whose value stands behind `=`, a flag, or a positional
+-- word
 pub data Part : Type 0 where
   apart : Setting → Text → Part
   joined : Setting → Text → Part
-  stutter : Part
+  flag : Flag → Part
   positional : Text → Part
 
 abbrev pub is_part : Command → Part → Bool
 is_part command (apart setting value) = has_setting command setting && (is_given value && not (begins_with_dash value))
 is_part command (joined setting value) = has_setting command setting && is_given value
-is_part command stutter = has_stutter command
+is_part command (flag f) = has_flag command f
 is_part command (positional word) = is_given word && not (begins_with_dash word)
 
 abbrev pub written_part : Part → List Text
 written_part (apart setting value) = name_of setting ∷ value ∷ []
 written_part (joined setting value) = (name_of setting ++ 61 ∷ value) ∷ []
-written_part stutter = codes "--stutter" ∷ []
+written_part (flag f) = flag_name f ∷ []
 written_part (positional word) = word ∷ []
 
 pub record Line : Type 0 where
@@ -99,21 +109,21 @@ written_behind (Some words) = codes "--" ∷ words
 abbrev pub written : Line → List Text
 written line = written_parts line.parts ++ written_behind line.behind
 
--- what a line gives: the options with their values, how often the flag stands, and the positional words, in their order
+-- what a line gives: the options with their values, the flags, and the positional words, each in their order
 pub record Given : Type 0 where
   pub options : List (Setting × Text)
-  pub stutters : ℕ
+  pub flags : List Flag
   pub positional : List Text
 
 abbrev pub with_part : Part → Given → Given
-with_part (apart setting value) g = record { options = (setting, value) ∷ g.options; stutters = g.stutters; positional = g.positional }
-with_part (joined setting value) g = record { options = (setting, value) ∷ g.options; stutters = g.stutters; positional = g.positional }
-with_part stutter g = record { options = g.options; stutters = 1 + g.stutters; positional = g.positional }
-with_part (positional word) g = record { options = g.options; stutters = g.stutters; positional = word ∷ g.positional }
+with_part (apart setting value) g = record { options = (setting, value) ∷ g.options; flags = g.flags; positional = g.positional }
+with_part (joined setting value) g = record { options = (setting, value) ∷ g.options; flags = g.flags; positional = g.positional }
+with_part (flag f) g = record { options = g.options; flags = f ∷ g.flags; positional = g.positional }
+with_part (positional word) g = record { options = g.options; flags = g.flags; positional = word ∷ g.positional }
 
 abbrev pub given_behind : Option (List Text) → Given
-given_behind None = record { options = []; stutters = 0; positional = [] }
-given_behind (Some words) = record { options = []; stutters = 0; positional = words }
+given_behind None = record { options = []; flags = []; positional = [] }
+given_behind (Some words) = record { options = []; flags = []; positional = words }
 
 abbrev pub given_parts : List Part → Given → Given
 given_parts [] g = g

@@ -1,5 +1,5 @@
 -- For the prover: the values of single options. `IsJob` in Job.antt says what they mean.
-use Rattle.std.specs.Prelude.{◌≡◌, ℕ, Bool, List, Option, Some, None, IfSome, option_map, option_to_list, if◌then◌else◌}
+use Rattle.std.specs.Prelude.{◌≡◌, ℕ, List, Option, Some, None, IfSome, option_map, option_to_list}
 use Rattle.std.specs.Borrow.{Bor}
 use Rattle.run_words.specs.declared.command.Setting.{Setting}
 use Rattle.run_words.specs.declared.command.Setting.TheVariants.{Silent}
@@ -21,6 +21,3 @@ NumberFrom default (Some text) least most n = IsNumber text least most n
 abbrev pub NumberIn : Option Text → ℕ → ℕ → Option ℕ → Type 0
 NumberIn None least most found = found ≡ None
 NumberIn (Some text) least most found = (n : ℕ) × (found ≡ Some n) × IsNumber text least most n
-
-abbrev pub IsStutter : ℕ → Bool → Type 0
-IsStutter count stutter = count ≡ (if stutter then 1 else 0)

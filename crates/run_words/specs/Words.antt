@@ -65,7 +65,7 @@ pub record OptionsMeet (options : Options) : Type 0 where
   pub limit_least : 1 ≤ options.limit
   pub limit_most : options.limit ≤ 100000
 
--- how many branches may be told of at most
+-- how many lines may be told at most
 abbrev pub IsFew : ℕ → Type 0
 IsFew most = (1 ≤ most) × (most ≤ 1000)
 
@@ -79,6 +79,7 @@ pub record JobMeets (job : Job) : Type 0 where
   pub silent : IfSome job.silent IsName
   pub options : OptionsMeet job.options
   pub why : IfSome job.why IsFew
+  pub near : IfSome job.near IsFew
 
 abbrev pub MeetsRules : Words → Type 0
 MeetsRules (Validate job) = JobMeets job

@@ -1,7 +1,7 @@
 //! The commands of the program, and their options.
 
 ghost use Rattle.std.specs.Prelude.{◌≡◌};
-ghost use Rattle.run_words.specs.Parsers.{id_of};
+ghost use Rattle.run_words.specs.Parsers.{flag_id, id_of};
 
 /// A command of the program.
 #[derive(Clone, Copy, Debug, Drop)]
@@ -20,6 +20,26 @@ pub enum Setting {
     Limit,
     Witness,
     Why,
+    Near,
+}
+
+/// An option that takes no value.
+#[derive(Clone, Copy, Debug, Drop)]
+pub enum Flag {
+    Stutter,
+    Wide,
+}
+
+impl Flag {
+    /// The name of the flag, without its dashes.
+    pub(crate) fn id<'a>(self) -> &'a str
+        ensures { result.now ≡ flag_id self }
+    {
+        match self {
+            Flag::Stutter => "stutter",
+            Flag::Wide => "wide",
+        }
+    }
 }
 
 impl Setting {
@@ -34,6 +54,7 @@ impl Setting {
             Setting::Limit => "limit",
             Setting::Witness => "witness",
             Setting::Why => "why",
+            Setting::Near => "near",
         }
     }
 }

@@ -25,6 +25,10 @@ pub struct Job {
     pub options: Options,
     /// How many branches are told of at most where the log is not explained; none are where nothing was asked for.
     pub why: Option<u32>,
+    /// How many near lines are told of at most where the log is not explained; none are where nothing was asked for.
+    pub near: Option<u32>,
+    /// Whether what no step of the log needs may be passed over in the files that are read.
+    pub wide: bool,
 }
 
 /// A command with what it needs.

@@ -11,7 +11,7 @@ mod options;
 mod read;
 mod rules;
 
-pub use command::{Command, Setting};
+pub use command::{Command, Flag, Setting};
 pub use job::{Job, Options, Words};
 pub use laws::one_command;
 pub use read::read_words;

@@ -7,9 +7,9 @@ ghost use Rattle.clap.specs.Values.{kind_of};
 ghost use Rattle.clap.specs.Walk.{rows_of};
 ghost use Rattle.clap.specs.Matches.{found_of};
 ghost use Rattle.run_words.specs.Line.{Given, Gives, is_given, words_of};
-ghost use Rattle.run_words.specs.Parsers.{Holds, app_for, are_given, bare_app, files_app, given_by, has_given_alone, setting_rule, stutter_rule, texts_of, vals, words_rule};
+ghost use Rattle.run_words.specs.Parsers.{Holds, app_for, are_given, bare_app, files_app, flag_rule, given_by, has_given_alone, setting_rule, texts_of, vals, words_rule};
 
-use crate::command::{Command, Setting};
+use crate::command::{Command, Flag, Setting};
 use clap::error::ErrorKind;
 use clap::{Arg, ArgAction, ArgMatches, Error};
 use std::alloc::{AllocError, Global};
@@ -55,7 +55,8 @@ fn parser_of<'a>(alloc: Global, command: Command) -> Result<clap::Command<'a>, N
     match command {
         Command::Validate => {
             let parser = with_files(alloc, "validate", Setting::Limit)?;
-            with_words(alloc, with_setting(alloc, parser, Setting::Why)?)
+            let parser = with_setting(alloc, parser, Setting::Why)?;
+            with_words(alloc, with_setting(alloc, parser, Setting::Near)?)
         }
         Command::Check => with_words(alloc, with_files(alloc, "check", Setting::Witness)?),
         Command::SelfRun => with_words(alloc, bare(alloc, "selfrun")),
@@ -73,7 +74,8 @@ fn with_files<'a>(
     let parser = with_setting(alloc, bare(alloc, name), Setting::Config)?;
     let parser = with_setting(alloc, parser, Setting::Within)?;
     let parser = with_setting(alloc, parser, Setting::Silent)?;
-    let parser = with_stutter(alloc, parser)?;
+    let parser = with_flag(alloc, parser, Flag::Stutter)?;
+    let parser = with_flag(alloc, parser, Flag::Wide)?;
     with_setting(alloc, parser, last)
 }
 
@@ -99,11 +101,15 @@ fn with_setting<'a>(
     parser.arg(arg)
 }
 
-fn with_stutter<'a>(alloc: Global, parser: clap::Command<'a>) -> Result<clap::Command<'a>, NoMemory>
-    ensures { IfOk result (λ more. app_of more ≡ with_rule (app_of parser.entry) stutter_rule) }
+fn with_flag<'a>(
+    alloc: Global,
+    parser: clap::Command<'a>,
+    flag: Flag,
+) -> Result<clap::Command<'a>, NoMemory>
+    ensures { IfOk result (λ more. app_of more ≡ with_rule (app_of parser.entry) (flag_rule flag)) }
 {
-    let arg = Arg::new(alloc, "stutter")
-        .long("stutter")
+    let arg = Arg::new(alloc, flag.id())
+        .long(flag.id())
         .action(ArgAction::Append)
         .num_args(0)
         .default_missing_value("");
@@ -133,6 +139,7 @@ fn are_given(matches: &ArgMatches<'_>) -> bool
         && has_given_alone(matches, "limit")
         && has_given_alone(matches, "witness")
         && has_given_alone(matches, "why")
+        && has_given_alone(matches, "near")
         && has_given_alone(matches, "words")
 }
 

@@ -1,11 +1,11 @@
 //! The values of the options of a line.
 
 ghost use Rattle.std.specs.Prelude.{◌≡◌, ◌≢◌, ◌≤◌, [], ◌∷◌, ℕ, Bool, List, Option, MatchOption, MatchResult, length, option_map};
-ghost use Rattle.run_words.specs.Job.{IsNumberIn, IsNumberOr, SetsOptions, values_of};
+ghost use Rattle.run_words.specs.Job.{IsNumberIn, IsNumberOr, IsSet, SetsOptions, times, values_of};
 ghost use Rattle.run_words.specs.Parsers.{given_by, texts_of};
-ghost use Rattle.run_words.specs.Values.{IsOperator, IsValue, NumberFrom, NumberIn, IsStutter};
+ghost use Rattle.run_words.specs.Values.{IsOperator, IsValue, NumberFrom, NumberIn};
 
-use crate::command::Setting;
+use crate::command::{Flag, Setting};
 use crate::job::Options;
 use crate::line::values;
 use crate::number::number;
@@ -66,12 +66,12 @@ pub(crate) fn witness<'a>(matches: &ArgMatches<'a>) -> Option<&'a str>
     }
 }
 
-/// The number of `--why`, where it stands.
-pub(crate) fn why(matches: &ArgMatches<'_>) -> Option<Option<u32>>
-    ensures { MatchOption result ((o : Option ℕ) → ¬ IsNumberIn (values_of Setting.Why (given_by matches.now).options) 1 1000 o)
-        (IsNumberIn (values_of Setting.Why (given_by matches.now).options) 1 1000) }
+/// How many lines an option asks for at most, where it stands: `--why` and `--near` do.
+pub(crate) fn most_of(matches: &ArgMatches<'_>, setting: Setting) -> Option<Option<u32>>
+    ensures { MatchOption result ((o : Option ℕ) → ¬ IsNumberIn (values_of setting (given_by matches.now).options) 1 1000 o)
+        (IsNumberIn (values_of setting (given_by matches.now).options) 1 1000) }
 {
-    match value_of(matches, Setting::Why) {
+    match value_of(matches, setting) {
         Ok(value) => number_in(value, 1, 1000),
         Err(_) => None,
     }
@@ -96,7 +96,7 @@ pub(crate) fn read_options(matches: &ArgMatches<'_>) -> Option<Options>
 {
     let within = number_of(matches, Setting::Within, 1, 1, 8)?;
     let limit = number_of(matches, Setting::Limit, 10000, 1, 100_000)?;
-    let stutter = stutter_of(matches)?;
+    let stutter = is_set(matches, Flag::Stutter)?;
     Some(Options {
         within,
         stutter,
@@ -104,18 +104,18 @@ pub(crate) fn read_options(matches: &ArgMatches<'_>) -> Option<Options>
     })
 }
 
-/// Whether the flag stands, which it may once.
-fn stutter_of(matches: &ArgMatches<'_>) -> Option<bool>
-    ensures { MatchOption result ((b : Bool) → ¬ IsStutter (given_by matches.now).stutters b) (IsStutter (given_by matches.now).stutters) }
+/// Whether a flag stands, which it may once.
+pub(crate) fn is_set(matches: &ArgMatches<'_>, flag: Flag) -> Option<bool>
+    ensures { MatchOption result ((b : Bool) → ¬ IsSet (times flag (given_by matches.now).flags) b) (IsSet (times flag (given_by matches.now).flags)) }
 {
-    match values(matches, "stutter") {
+    match values(matches, flag.id()) {
         Some(flags) => is_once(flags),
         None => Some(false),
     }
 }
 
 fn is_once(flags: &[&str]) -> Option<bool>
-    ensures { MatchOption result ((b : Bool) → ¬ IsStutter (length (texts_of flags.now)) b) (IsStutter (length (texts_of flags.now))) }
+    ensures { MatchOption result ((b : Bool) → ¬ IsSet (length (texts_of flags.now)) b) (IsSet (length (texts_of flags.now))) }
 {
     match flags {
         [] => Some(false),

@@ -7,12 +7,12 @@ ghost use Rattle.run_words.specs.Job.{AreFiles, IsJob};
 ghost use Rattle.run_words.specs.Parsers.{given_by, texts_of};
 ghost use Rattle.run_words.specs.Words.{Asks, AsksCheck, AsksNumber, IsOnlyNumber, IsWitnessed, MeetsRules, Reads};
 
-use crate::command::{Command, Setting};
+use crate::command::{Command, Flag, Setting};
 use crate::job::{Job, Words};
 use crate::line::{read_line, values};
 use crate::name::is_module;
 use crate::number::number;
-use crate::options::{operator, read_options, value_of, why, witness};
+use crate::options::{is_set, most_of, operator, read_options, value_of, witness};
 use clap::ArgMatches;
 use std::alloc::Global;
 use trace_base::{Names, NoMemory, Text};
@@ -142,20 +142,24 @@ fn read_job(alloc: Global, matches: &ArgMatches<'_>) -> Result<Option<Job>, NoMe
     let Some(options) = read_options(matches) else {
         return Ok(None);
     };
-    let Some(why) = why(matches) else {
+    let Some(why) = most_of(matches, Setting::Why) else {
         return Ok(None);
     };
-    let module = Text::from_text(alloc, path)?;
-    let logs = names(alloc, logs)?;
-    let config = owned(alloc, config)?;
-    let silent = owned(alloc, silent)?;
+    let Some(near) = most_of(matches, Setting::Near) else {
+        return Ok(None);
+    };
+    let Some(wide) = is_set(matches, Flag::Wide) else {
+        return Ok(None);
+    };
     Ok(Some(Job {
-        module,
-        logs,
-        config,
-        silent,
+        module: Text::from_text(alloc, path)?,
+        logs: names(alloc, logs)?,
+        config: owned(alloc, config)?,
+        silent: owned(alloc, silent)?,
         options,
         why,
+        near,
+        wide,
     }))
 }
 

@@ -56,13 +56,16 @@ fn job_meets(job: &Job) -> bool
     if !is_few_or_none(job.why) {
         return false;
     }
+    if !is_few_or_none(job.near) {
+        return false;
+    }
     options_meet(&job.options)
 }
 
-fn is_few_or_none(why: Option<u32>) -> bool
-    ensures { IsTrue result ↔ IfSome why IsFew }
+fn is_few_or_none(most: Option<u32>) -> bool
+    ensures { IsTrue result ↔ IfSome most IsFew }
 {
-    match why {
+    match most {
         Some(most) => 1 <= most && most <= 1000,
         None => true,
     }

@@ -248,7 +248,7 @@ within_at (f ∷ gs) h zero g e = let q : Some f ≡ Some g = e in subst (λ (o 
     SomeWithin (Some g) = IsWithinLimits g.given
 within_at (f ∷ gs) h (suc k) g e = within_at gs h.1 k g e
 
-gives_within : (name : List ℕ) (tokens : List Token) (c : Config) → AllHold tokens → length tokens ≤ 200001 → Gives name tokens c → (k : ℕ) (g : GivenAt) → slice_get c.givens k ≡ Some g → IsWithinLimits g.given
+pub gives_within : (name : List ℕ) (tokens : List Token) (c : Config) → AllHold tokens → length tokens ≤ 200001 → Gives name tokens c → (k : ℕ) (g : GivenAt) → slice_get c.givens k ≡ Some g → IsWithinLimits g.given
 gives_within name tokens c h l g =
     let few : length (marks_of g.before) ≤ 200000 = omega (arith, l, ap length g.whole, length-append g.before (g.last ∷ []), length-marks_of g.before) in
     let f : Fit (marks_of g.before) = record { hold = marks_hold g.before (g.last ∷ []) (subst AllHold g.whole h); few = few } in

@@ -186,6 +186,15 @@ answers_by P Q (Ok config) f h = f _ h
 answers_by P Q (Err (Refused kind at)) f h = f _ h
 answers_by P Q (Err NoMemory) f h = tt
 
+-- tokens that end once have an outcome
+pub some_of_tokens : (name : List ℕ) (ts : List Token) → EndsOnce ts → (o : Outcome) × OfTokens name ts o
+some_of_tokens name ts e = (_, of_reads name ts e)
+
+-- what was answered of tokens is their outcome
+pub answered_tokens : (name : List ℕ) (ts : List Token) (r : Result Config ConfigFault) → EndsOnce ts → ReadsTo name ts r → Answers (OfTokens name ts) r
+answered_tokens name ts r ends_once h =
+    answers_by (λ o. o ≡ reads first (nothing_given name) ts) (OfTokens name ts) r (λ o e. subst (OfTokens name ts) (sym e) (of_reads name ts ends_once)) h
+
 -- what was answered of a text's tokens is the text's outcome
 pub answered : (file : ℕ) (name text : List ℕ) (ts us : List Token) (r : Result Config ConfigFault) → us ≡ ts → Tokens false file text (Ok ts) → EndsOnce ts
     → ReadsTo name us r → Answers (Reads file name text) r

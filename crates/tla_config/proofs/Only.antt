@@ -163,8 +163,11 @@ module _ (name : List ℕ) where
   of_tokens ts (Ok d) h = gives_read ts d h
   of_tokens ts (Err f) h = stops_read ts f.0 f.1 h
 
+  pub one_of_tokens : (ts : List Token) (a b : Outcome) → OfTokens name ts a → OfTokens name ts b → a ≡ b
+  one_of_tokens ts a b h g = of_tokens ts a h ∙ sym (of_tokens ts b g)
+
   of_lexed : (l : lexer.Outcome) (a b : Outcome) → OfLexed name l a → OfLexed name l b → a ≡ b
-  of_lexed (Ok ts) a b h g = of_tokens ts a h ∙ sym (of_tokens ts b g)
+  of_lexed (Ok ts) a b h g = one_of_tokens ts a b h g
   of_lexed (Err f) a b h g = h ∙ sym g
 
   some_lexed : (file : ℕ) (text : List ℕ) (l : lexer.Outcome) → lexer.Tokens false file text l → TokensEndOnce → (o : Outcome) × OfLexed name l o

@@ -1,6 +1,6 @@
 -- The words that begin statements. CONSTANT and CONSTANTS, which begin one too, are reserved words of the
 -- language and no names, so they stand apart.
-use Rattle.std.specs.Prelude.{ℕ, List, Option, Some, None, if◌then◌else◌, codes}
+use Rattle.std.specs.Prelude.{ℕ, List, Bool, Option, Some, None, if◌then◌else◌, codes, is_some}
 use Rattle.std.specs.Str.{bytes_eq}
 use Rattle.tla_config.specs.declared.keyword.Keyword.{Keyword}
 use Rattle.tla_config.specs.declared.keyword.Keyword.TheVariants.{Chooses, Lists, Deadlock, Unsupported}
@@ -26,3 +26,6 @@ keyword_of word =
     else if bytes_eq word (codes "VIEW") then Some Unsupported
     else if bytes_eq word (codes "ALIAS") then Some Unsupported
     else None
+
+abbrev pub begins_statement : List ℕ → Bool
+begins_statement word = is_some (keyword_of word)

@@ -1,7 +1,7 @@
 //! The words that begin statements.
 
 ghost use Rattle.std.specs.Prelude.{◌≡◌};
-ghost use Rattle.tla_config.specs.Keywords.{keyword_of};
+ghost use Rattle.tla_config.specs.Keywords.{begins_statement, keyword_of};
 
 /// What a configuration chooses once, by a name.
 #[derive(Clone, Copy, Debug, Drop, PartialEq, Eq)]
@@ -51,4 +51,11 @@ pub(crate) fn keyword_of(word: &str) -> Option<Keyword>
         "ALIAS" => Some(Keyword::Unsupported),
         _ => None,
     }
+}
+
+/// Whether the word begins a statement. So do `CONSTANT` and `CONSTANTS`, which are no names.
+pub fn begins_statement(word: &str) -> bool
+    ensures { result ≡ begins_statement word.now }
+{
+    keyword_of(word).is_some()
 }

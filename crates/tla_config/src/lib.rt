@@ -12,5 +12,6 @@ mod step;
 mod values;
 
 pub use fault::{ConfigFault, ConfigKind};
+pub use keyword::begins_statement;
 pub use laws::{givens_are_within_limits, one_configuration};
-pub use reading::config;
+pub use reading::{config, of_tokens};

@@ -2,7 +2,8 @@
 
 ghost use Rattle.std.specs.Prelude.{◌≡◌, ◌≤◌, ◌^◌, length, IfOk};
 ghost use Rattle.tla_config.specs.Given.{nothing_given};
-ghost use Rattle.tla_config.specs.Reads.{Answers, Reads};
+ghost use Rattle.tla_ast.specs.Laid.{EndsOnce};
+ghost use Rattle.tla_config.specs.Reads.{Answers, OfTokens, Reads};
 ghost use Rattle.tla_config.specs.Steps.{IsAt, Takes, ReadsTo};
 
 use crate::expects::{Expects, Further};
@@ -65,6 +66,14 @@ fn read(alloc: Global, name: &str, tokens: &[Token]) -> Result<Config, ConfigFau
         expects = take(alloc, expects, token, &mut config)?;
     }
     Ok(config)
+}
+
+/// The configuration of tokens, of which the last and no other is the End, as those of a text are. `name` is the name of their file.
+pub fn of_tokens(alloc: Global, name: &str, tokens: &[Token]) -> Result<Config, ConfigFault>
+    requires { EndsOnce tokens.now }
+    ensures { Answers (OfTokens name.now tokens.now) result }
+{
+    read(alloc, name, tokens)
 }
 
 /// The configuration of a text, in the form of TLC's configuration file as this project's profile has it.

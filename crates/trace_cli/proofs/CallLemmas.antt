@@ -192,47 +192,48 @@ pub given_answered : (holds : Option (List File)) (b n : ℕ) (job : Job) (witne
 given_answered holds b n job witness p c s log w (Ok j) read answers = is_answered_given p c s log w j.status (string_bytes j.report) read answers
 given_answered holds b n job witness p c s log w (Err x) read answers = tt
 
--- an answer with its status and its report, where it is not asked why
-pub answer_alone : (job : Job) (p : Program) (c : Config) (s : Spec) (log : Log) (a : Answer) (x : Status) (report : List ℕ) → job.why ≡ None
+-- an answer with its status and its report, where nothing is asked for behind it
+pub answer_alone : (job : Job) (p : Program) (c : Config) (s : Spec) (log : Log) (a : Answer) (x : Status) (report : List ℕ) → job.why ≡ None → job.near ≡ None
     → IsAnswer (system s log (asked_by job.options)) a → x ≡ status_of a → report ≡ answer_text (named_in job p c s log) a → Answers job p c s log x report
-answer_alone job p c s log a x report unasked is at told =
+answer_alone job p c s log a x report unasked no_near is at told =
     let asked = asked_by job.options in
     let named = named_in job p c s log in
     record {
       answer = a;
       is_true = is;
       status_is = at;
-      report_is = subst (λ (why : Option ℕ). IsReport s log asked named why a report) (sym unasked) (unasked_report s log asked named a report told);
+      report_is = subst (λ (why : Option ℕ). IsReport s log asked named why job.near a report) (sym unasked)
+          (subst (λ (near : Option ℕ). IsReport s log asked named None near a report) (sym no_near) (unasked_report s log asked named a report told));
     }
 
 -- an answer with its status, and with the whole report, by what the labels are
-pub answered_whole : (job : Job) (p : Program) (c : Config) (s : Spec) (log : Log) (most lines : ℕ) (files : List (List ℕ)) (a : Answer) (x : Status) (report : List ℕ)
-    → job.why ≡ Some most → files ≡ all_files p c → lines ≡ length log.lines → IsAnswer (system s log (asked_by job.options)) a → x ≡ status_of a
-    → IsReport s log (asked_by job.options) (labelled job s files lines) (Some most) a report → Answers job p c s log x report
-answered_whole job p c s log most lines files a x report asked are count is at told =
+pub answered_whole : (job : Job) (p : Program) (c : Config) (s : Spec) (log : Log) (lines : ℕ) (files : List (List ℕ)) (a : Answer) (x : Status) (report : List ℕ)
+    → files ≡ all_files p c → lines ≡ length log.lines → IsAnswer (system s log (asked_by job.options)) a → x ≡ status_of a
+    → IsReport s log (asked_by job.options) (labelled job s files lines) job.why job.near a report → Answers job p c s log x report
+answered_whole job p c s log lines files a x report are count is at told =
     let options = asked_by job.options in
-    let of_files = subst (λ (fs : List (List ℕ)). IsReport s log options (labelled job s fs lines) (Some most) a report) are told in
-    let of_lines = subst (λ (n : ℕ). IsReport s log options (named_beside job p c s n) (Some most) a report) count of_files in
+    let of_files = subst (λ (fs : List (List ℕ)). IsReport s log options (labelled job s fs lines) job.why job.near a report) are told in
+    let of_lines = subst (λ (n : ℕ). IsReport s log options (named_beside job p c s n) job.why job.near a report) count of_files in
     record {
       answer = a;
       is_true = is;
       status_is = at;
-      report_is = subst (λ (why : Option ℕ). IsReport s log options (named_in job p c s log) why a report) (sym asked) of_lines;
+      report_is = of_lines;
     }
 
 -- an answer with its status and its report
-pub answered : (job : Job) (p : Program) (c : Config) (s : Spec) (log : Log) (a : Answer) (r : Result Judged Stop) → job.why ≡ None
+pub answered : (job : Job) (p : Program) (c : Config) (s : Spec) (log : Log) (a : Answer) (r : Result Judged Stop) → job.why ≡ None → job.near ≡ None
     → IsAnswer (system s log (asked_by job.options)) a → IfOk r (λ j. j.status ≡ status_of a)
     → IfOk r (λ j. string_bytes j.report ≡ answer_text (named_in job p c s log) a) → IfOk r (λ j. Answers job p c s log j.status (string_bytes j.report))
-answered job p c s log a (Ok j) unasked is at told = answer_alone job p c s log a j.status (string_bytes j.report) unasked is at told
-answered job p c s log a (Err x) unasked is at told = tt
+answered job p c s log a (Ok j) unasked no_near is at told = answer_alone job p c s log a j.status (string_bytes j.report) unasked no_near is at told
+answered job p c s log a (Err x) unasked no_near is at told = tt
 
 -- the same where the lines of the log are counted apart
 pub answered_beside : (job : Job) (p : Program) (c : Config) (s : Spec) (log : Log) (lines : ℕ) (a : Answer) (r : Result Judged Stop) → lines ≡ length log.lines
-    → job.why ≡ None → IsAnswer (system s log (asked_by job.options)) a → IfOk r (λ j. j.status ≡ status_of a)
+    → job.why ≡ None → job.near ≡ None → IsAnswer (system s log (asked_by job.options)) a → IfOk r (λ j. j.status ≡ status_of a)
     → IfOk r (λ j. string_bytes j.report ≡ answer_text (named_beside job p c s lines) a) → IfOk r (λ j. Answers job p c s log j.status (string_bytes j.report))
-answered_beside job p c s log lines a r count unasked is at told =
-    answered job p c s log a r unasked is at (subst (λ (n : ℕ). IfOk r (λ j. string_bytes j.report ≡ answer_text (named_beside job p c s n) a)) count told)
+answered_beside job p c s log lines a r count unasked no_near is at told =
+    answered job p c s log a r unasked no_near is at (subst (λ (n : ℕ). IfOk r (λ j. string_bytes j.report ≡ answer_text (named_beside job p c s n) a)) count told)
 
 -- the report of an answer, where the lines of the log are counted apart
 pub counted_told : (job : Job) (p : Program) (c : Config) (s : Spec) (log : Log) (lines : ℕ) (a : Answer) (r : Result Judged Stop) → lines ≡ length log.lines

@@ -48,13 +48,13 @@ tested_surely n job p c s log w widest (Ok j) is valid at told =
 tested_surely n job p c s log w widest (Err x) is valid at told = tt
 
 -- another answer with its status and its report
-pub tested_otherwise : (n : ℕ) (job : Job) (p : Program) (c : Config) (s : Spec) (log : Log) (a : Answer) (r : Result Judged Stop) → job.why ≡ None
+pub tested_otherwise : (n : ℕ) (job : Job) (p : Program) (c : Config) (s : Spec) (log : Log) (a : Answer) (r : Result Judged Stop) → job.why ≡ None → job.near ≡ None
     → IsAnswer (system s log (asked_by job.options)) a → status_of a ≢ status.Done → IfOk r (λ j. j.status ≡ status_of a)
     → IfOk r (λ j. string_bytes j.report ≡ answer_text (named_in job p c s log) a)
     → IfOk r (λ j. IsTested n job p c s log j.status (string_bytes j.report))
-tested_otherwise n job p c s log a (Ok j) unasked is other at told =
-    tested_other j.status (string_bytes j.report) (answer_alone job p c s log a j.status (string_bytes j.report) unasked is at told) (λ e. other (sym at ∙ e))
-tested_otherwise n job p c s log a (Err x) unasked is other at told = tt
+tested_otherwise n job p c s log a (Ok j) unasked no_near is other at told =
+    tested_other j.status (string_bytes j.report) (answer_alone job p c s log a j.status (string_bytes j.report) unasked no_near is at told) (λ e. other (sym at ∙ e))
+tested_otherwise n job p c s log a (Err x) unasked no_near is other at told = tt
 
 -- the answer is that the log is explained
 pub is_explained : (s : Spec) (log : Log) (job : Job) (a : Answer) (w : List Shown) (widest : ℕ) → a ≡ Explained w widest

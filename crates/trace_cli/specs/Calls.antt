@@ -57,12 +57,12 @@ named_beside job p c s lines = record {
 abbrev pub named_in : Job → Program → Config → Spec → Log → Named
 named_in job p c s log = named_beside job p c s (length log.lines)
 
--- The answer is true of the specification beside the log; these are its status and its report, with what is told behind it where it is asked why.
+-- The answer is true of the specification beside the log; these are its status and its report, with what is told behind it where it is asked for.
 pub record Answers (job : Job) (p : Program) (c : Config) (s : Spec) (log : Log) (status : Status) (report : List ℕ) : Type 0 where
   pub answer : Answer
   pub is_true : IsAnswer (system s log (asked_by job.options)) answer
   pub status_is : status ≡ status_of answer
-  pub report_is : IsReport s log (asked_by job.options) (named_in job p c s log) job.why answer report
+  pub report_is : IsReport s log (asked_by job.options) (named_in job p c s log) job.why job.near answer report
 
 -- what the job calls for; the files' count of faults was before and is now
 pub data Calls (holds : Option (List File)) (before now : ℕ) (job : Job) : Status → List ℕ → Type 0 where

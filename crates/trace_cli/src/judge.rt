@@ -95,13 +95,13 @@ fn answer(alloc: Global, job: &Job, accepted: Accepted) -> Result<Judged, Stop>
     ensures stopped { IfErr result (λ stop. stop ≡ NoMemory) }
 {
     let searched = search_log(alloc, job, &accepted)?;
-    match job.why {
-        Some(most) => told_whole(alloc, job, &accepted, searched, most),
-        None => told_alone(alloc, job, accepted, searched),
+    match (job.why, job.near) {
+        (None, None) => told_alone(alloc, job, accepted, searched),
+        _ => told_whole(alloc, job, &accepted, searched),
     }
 }
 
-/// The status and the report of an answer alone. The log is let go before the report is made, which may be as large.
+/// The status and the report of an answer alone, where nothing is asked for behind it. The log is let go before the report is made, which may be as large.
 fn told_alone(
     alloc: Global,
     job: &Job,
@@ -109,6 +109,7 @@ fn told_alone(
     searched: Searched<State>,
 ) -> Result<Judged, Stop>
     requires unasked { job.now.why ≡ None }
+    requires no_near { job.now.near ≡ None }
     requires searched { IsSearched accepted.spec accepted.log (asked_by job.now.options) searched.answer searched.last.items }
     ensures answers { IfOk result (λ j. Answers job.now accepted.program accepted.config accepted.spec accepted.log j.status (string_bytes j.report)) }
     ensures stopped { IfErr result (λ stop. stop ≡ NoMemory) }

@@ -44,6 +44,7 @@ fn answer_smoke(alloc: Global, lines: u32, job: &Job, accepted: &Accepted) -> Re
     requires ready { IsReady accepted.now.spec accepted.now.log }
     requires few_lines { length accepted.now.log.lines ≤ 200000 }
     requires unasked { job.now.why ≡ None }
+    requires no_near { job.now.near ≡ None }
     ensures tested { IfOk result (λ j. IsTested lines job.now accepted.now.program accepted.now.config accepted.now.spec accepted.now.log j.status
         (string_bytes j.report)) }
     ensures stopped { IfErr result (λ stop. stop ≡ NoMemory) }

@@ -1,7 +1,7 @@
 -- In what an accepted configuration leaves unchecked no line feed stands.
-use Rattle.std.proofs.Common.{◌≡◌, ◌≢◌, ℕ, false, true, List, [], ◌∷◌, ◌++◌, Ok, Err, refl, sym, subst, arith}
-use Rattle.std.proofs.lemmas.List.Elements.{All-nil, All-append, All-push}
-use Rattle.std.specs.Prelude.{All, codes}
+use Rattle.std.proofs.Common.{◌≡◌, ◌≢◌, ℕ, false, true, List, [], ◌∷◌, ◌++◌, Option, Some, None, Bool, Ok, Err, refl, sym, subst, arith}
+use Rattle.std.proofs.lemmas.List.Elements.{All-nil, All-cons, All-append, All-push}
+use Rattle.std.specs.Prelude.{All, codes, if◌then◌else◌}
 use Rattle.trace_base.specs.declared.place.Place.{Place}
 use Rattle.tla_ast.specs.declared.config.Config.{Config}
 use Rattle.tla_tokens.specs.declared.token.Kind.{Kind}
@@ -15,8 +15,14 @@ use Rattle.tla_tokens.specs.Shapes.{each, in_line}
 use Rattle.tla_tokens.specs.Tokens as lexer
 use Rattle.tla_config.specs.Given.{nothing_given, with_given, with_choice, with_unchecked, line_of, given_at, after_assignments, after_names, after, after_all}
 use Rattle.tla_config.specs.Marks.{word_mark, symbol_mark, kind_mark, marks_of}
-use Rattle.tla_config.specs.Reads.{Gives, OfLexed}
+use Rattle.tla_config.specs.Reads.{Gives, OfLexed, OfTokens, Outcome}
 use Rattle.tla_config.specs.Statements.{Named, name_mark, Value, plain, negative, string, truth_value, model_value, empty, braces, Members, last, more, value_marks, members_marks, Meaning, is, means, meaning_marks, Assignment, assignments_marks, names_marks, Statement, constants, choice, unchecked, deadlock, statement_marks, statements_marks}
+use Rattle.wide_config.specs.Bounds as bounds
+use Rattle.wide_config.specs.Bounds.{begins_any}
+use Rattle.wide_config.specs.Passed.{line_at, lines_at, remaining, told, told_in, word_at}
+use Rattle.wide_config.specs.Wide.{OfLexedWide, OfRemaining, OfTokensWide, as_they_remain, as_they_stand, with_told}
+use Rattle.wide_config.proofs.Remaining as left
+use Rattle.wide_config.proofs.Remaining.{remaining_hold}
 use Rattle.unchecked_laws.specs.Laws.{HasNoFeed, UncheckedAreLines}
 use Rattle.unchecked_laws.proofs.TokenLines.{Holds, AllHold, tested, tokens_hold}
 
@@ -147,5 +153,73 @@ lexed_lines : (file : ℕ) (name text : List ℕ) (c : Config) (o : lexer.Outcom
 lexed_lines file name text c (Ok tokens) t g = gives_lines name tokens c (tokens_hold file text tokens t) g
 lexed_lines file name text c (Err e) t g = absurd cc
 
+-- ---- what is passed over
+
+-- the word of a line, with a space
+bound_front : (b : _) → each in_line (bounds.line_of b []) ≡ true
+bound_front b = grind arith
+
+bound_line : (b : _) (n : List ℕ) → bounds.line_of b n ≡ bounds.line_of b [] ++ n
+bound_line b n = grind arith
+
+told_line : (b : _) (n : List ℕ) → HasNoFeed n → HasNoFeed (bounds.line_of b n)
+told_line b n h = subst HasNoFeed (sym (bound_line b n)) (All-append (λ b. b ≢ 10) (bounds.line_of b []) n (tested (bounds.line_of b []) (bound_front b)) h)
+
+either_lines : (x : Bool) (line : List ℕ) → HasNoFeed line → All HasNoFeed (if x then [] else line ∷ [])
+either_lines true line h = All-nil HasNoFeed
+either_lines false line h = All-cons HasNoFeed line [] h (All-nil HasNoFeed)
+
+kind_told : (b : _) (k : Kind) → Holds k → All HasNoFeed (line_at b k)
+kind_told b (kinds.Name n) h = either_lines (begins_any n) (bounds.line_of b n) (told_line b n h)
+kind_told b (kinds.Number z) h = All-nil HasNoFeed
+kind_told b (kinds.Str s) h = All-nil HasNoFeed
+kind_told b kinds.Dashes h = All-nil HasNoFeed
+kind_told b kinds.Equals h = All-nil HasNoFeed
+kind_told b kinds.Fair h = All-nil HasNoFeed
+kind_told b (kinds.Word w) h = All-nil HasNoFeed
+kind_told b (kinds.Symbol s) h = All-nil HasNoFeed
+kind_told b (kinds.Foreign f) h = All-nil HasNoFeed
+kind_told b kinds.End h = All-nil HasNoFeed
+
+token_told : (inside : Option _) (t : Token) → Holds t.kind → All HasNoFeed (lines_at inside t)
+token_told (Some b) t h = kind_told b t.kind h
+token_told None t h = All-nil HasNoFeed
+
+all_told : (inside : Option _) (ts : List Token) → AllHold ts → All HasNoFeed (told_in inside ts)
+all_told inside [] h = All-nil HasNoFeed
+all_told inside (t ∷ ts) h =
+    All-append HasNoFeed (lines_at inside t) (told_in (word_at inside t ts) ts) (token_told inside t h.0) (all_told (word_at inside t ts) ts h.1)
+
+-- what tokens hold, as it is asked there and here
+held_here : (ts : List Token) → AllHold ts → left.AllHold Holds ts
+held_here [] h = tt
+held_here (t ∷ ts) h = (h.0, held_here ts h.1)
+
+held_there : (ts : List Token) → left.AllHold Holds ts → AllHold ts
+held_there [] h = tt
+held_there (t ∷ ts) h = (h.0, held_there ts h.1)
+
+abbrev HasLines : Outcome → Type 0
+HasLines (Ok c) = AreLines c
+HasLines (Err f) = Unit {0}
+
+tokens_lines : (name : List ℕ) (ts : List Token) (o : Outcome) (lines : List (List ℕ)) → AllHold ts → All HasNoFeed lines → OfTokens name ts o → HasLines (with_told lines o)
+tokens_lines name ts (Ok c) lines h are g = All-append HasNoFeed c.unchecked lines (gives_lines name ts c h g) are
+tokens_lines name ts (Err f) lines h are g = tt
+
+remaining_lines : (name : List ℕ) (ts : List Token) (o : Outcome) → AllHold ts → OfRemaining name ts o → HasLines o
+remaining_lines name ts o h r =
+    let held = held_there (remaining ts) (remaining_hold Holds None ts (held_here ts h)) in
+    subst HasLines (sym r.with_others) (tokens_lines name (remaining ts) r.rest (told ts) held (all_told None ts h) r.reads)
+
+wide_lines : (name : List ℕ) (ts : List Token) (o : Outcome) → AllHold ts → OfTokensWide name ts o → HasLines o
+wide_lines name ts _ h (as_they_stand c g) = gives_lines name ts c h g
+wide_lines name ts o h (as_they_remain f _ g r) = remaining_lines name ts o h r
+
+lexed_wide_lines : (file : ℕ) (name text : List ℕ) (c : Config) (o : lexer.Outcome) → lexer.Tokens false file text o → OfLexedWide name o (Ok c) → AreLines c
+lexed_wide_lines file name text c (Ok ts) t g = wide_lines name ts (Ok c) (tokens_hold file text ts t) g
+lexed_wide_lines file name text c (Err e) t g = absurd cc
+
 pub are_lines : UncheckedAreLines
-are_lines file name text c r = lexed_lines file name text c r.lexed r.tokens r.of_lexed
+are_lines true file name text c r = lexed_wide_lines file name text c r.lexed r.tokens r.of_lexed
+are_lines false file name text c r = lexed_lines file name text c r.lexed r.tokens r.of_lexed

@@ -19,7 +19,7 @@ use Rattle.valid_reports.specs.Laws.{IsCheckedValid, PrintsValid}
 
 configured_lines : (holds : Option (List File)) (job : Job) (p : Program) (c : Config) → UncheckedAreLines → Reaches holds job (configured p c) → All HasNoFeed c.unchecked
 configured_lines holds job p c law (needs_no_configuration _ reaches none) = All-nil HasNoFeed
-configured_lines holds job p c law (reads_configuration _ name text _ reaches some has reads) = law (length p.files) name text c reads
+configured_lines holds job p c law (reads_configuration _ name text _ reaches some has reads) = law job.wide (length p.files) name text c reads
 
 -- a specification leaves unchecked what its configuration does
 same_unchecked : (p : Program) (c : Config) (silent : Option (List ℕ)) (s : Spec) → Resolved p c silent (Ok s) → s.unchecked ≡ c.unchecked

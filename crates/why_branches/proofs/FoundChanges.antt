@@ -12,6 +12,7 @@ use Rattle.found_states.proofs.Lists.{place_by_all}
 use Rattle.tla_actions.specs.Holds.{Opened, OpenedHolds, Opens, FormHolds, Holds}
 use Rattle.action_reads.specs.Filled.{at_next}
 use Rattle.found_states.specs.Walks.{HoldsOf}
+use Rattle.why_branches.specs.declared.sparing.Sparing.{Sparing}
 use Rattle.why_branches.specs.Traces.{Trace, added, here, passed}
 use Rattle.why_branches.specs.Branches.{Alters, Branches, Goes, stood}
 use Rattle.why_branches.specs.Firsts.{Firsts, HasSoMany}
@@ -22,13 +23,13 @@ use Rattle.why_branches.proofs.Turns.{covering_map, goes_on, then_more, turn_cov
 use Rattle.found_states.proofs.Opened.{held_form}
 use Rattle.why_branches.proofs.Found.{of_form}
 
-module _ (g : Setting) (k : ℕ) (room : 1 ≤ k) (d : ℕ) (c : Context) (a : Term) (p : Places) (known : KnowsAll g p c a) (now : ReadsValues g.table (at_next g.which c p) a) (e v : Term) (i : form g (length c.slots) a ≡ changing e v) where
+module _ (g : Setting) (sp : Sparing) (k : ℕ) (room : 1 ≤ k) (d : ℕ) (c : Context) (a : Term) (p : Places) (known : KnowsAll g p c a) (now : ReadsValues g.table (at_next g.which c p) a) (e v : Term) (i : form g (length c.slots) a ≡ changing e v) where
   abbrev pub Test : Context × Term
   Test = (c, changed_of (place_of a) v)
 
   -- the branches of A are those of which the whole goes on
-  pub first_found : (zs : List Trace) → FoundOf g k d c e p zs → Firsts k (Goes (Branches g d) d (c, e) (here p) (passed p)) (map (added (stood d (c, e)) (here p)) zs)
-  first_found zs b = goes_on (Branches g d) d k (c, e) (here p) p zs b.firsts
+  pub first_found : (zs : List Trace) → FoundOf g sp k d c e p zs → Firsts k (Goes (Branches g sp d) d (c, e) (here p) (passed p)) (map (added (stood d (c, e)) (here p)) zs)
+  first_found zs b = goes_on (Branches g sp d) d k (c, e) (here p) p zs b.firsts
 
   both_hold : (t : Values) → HoldsOf g (suc d) c a t → HoldsOf g d c e t × HoldsOf g d c (changed_of (place_of a) v) t
   both_hold t h =
@@ -44,12 +45,12 @@ module _ (g : Setting) (k : ℕ) (room : 1 ≤ k) (d : ℕ) (c : Context) (a : T
           same_opened : (x y : Opened) → ◌≡◌ {A = Result Opened Fault} (Ok x) (Ok y) → x ≡ y
           same_opened x y e = cc
 
-  pub changing_found : (zs ys : List Trace) → FoundOf g k d c e p zs → TestsFound g d k Test (map (added (stood d (c, e)) (here p)) zs) ys → FoundOf g k (suc d) c a p ys
+  pub changing_found : (zs ys : List Trace) → FoundOf g sp k d c e p zs → TestsFound g d k Test (map (added (stood d (c, e)) (here p)) zs) ys → FoundOf g sp k (suc d) c a p ys
   changing_found zs ys b s =
       let same : length (map (added (stood d (c, e)) (here p)) zs) ≡ length zs = map_length (added (stood d (c, e)) (here p)) zs in
       let one : 1 ≤ length zs = b.some in
-      of_form g k room d c a p known now (changing e v) i ys (record {
-        firsts = then_more (Alters g d) d k (Goes (Branches g d) d (c, e) (here p) (passed p)) Test (map (added (stood d (c, e)) (here p)) zs) ys (first_found zs b) s.each;
+      of_form g sp k room d c a p known now (changing e v) i ys (record {
+        firsts = then_more (Alters g d) d k (Goes (Branches g sp d) d (c, e) (here p) (passed p)) Test (map (added (stood d (c, e)) (here p)) zs) ys (first_found zs b) s.each;
         some = grown s.each.grows (omega (arith, same, one));
         covers = turn_covers k p (HoldsOf g d c e) (HoldsOf g d c (changed_of (place_of a) v)) (HoldsOf g (suc d) c a) (map (added (stood d (c, e)) (here p)) zs) ys both_hold s.each.grows
             (covering_map (added (stood d (c, e)) (here p)) (λ x. refl) k p (HoldsOf g d c e) zs b.covers) s.covers;

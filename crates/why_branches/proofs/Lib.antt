@@ -2,6 +2,7 @@ pub mod Elements
 pub mod Order
 pub mod Copies
 pub mod FirstBranches
+pub mod Repairs
 pub mod Turns
 pub mod Choosing
 pub mod LeafSays
@@ -13,3 +14,4 @@ pub mod FoundParts
 pub mod FoundTests
 pub mod FoundChanges
 pub mod Cutting
+pub mod NearOnes

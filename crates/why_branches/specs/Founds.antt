@@ -11,6 +11,7 @@ use Rattle.found_states.specs.Parts.{Parts}
 use Rattle.found_states.specs.Walks.{HoldsOf}
 use Rattle.why_branches.specs.Traces.{Trace, here}
 use Rattle.why_branches.specs.Branches.{Alters, Branches, ByNumber, Goes, Onward}
+use Rattle.why_branches.specs.declared.sparing.Sparing.{Sparing}
 use Rattle.why_branches.specs.Firsts.{CoverOn, CoveredBy, Covering, Covers, Each, Firsts}
 
 -- from the places p: the first k branches, in their order, at least one, and they cover what holds
@@ -19,8 +20,8 @@ pub record Found (k : ℕ) (p : Places) (P : Trace → Type 0) (H : Values → T
   pub some : 1 ≤ length xs
   pub covers : Covering k p H xs
 
-abbrev pub FoundOf : Setting → ℕ → ℕ → Context → Term → Places → List Trace → Type 0
-FoundOf g k d c a p xs = Found k p (Branches g d c a p) (HoldsOf g d c a) xs
+abbrev pub FoundOf : Setting → Sparing → ℕ → ℕ → Context → Term → Places → List Trace → Type 0
+FoundOf g sp k d c a p xs = Found k p (Branches g sp d c a p) (HoldsOf g d c a) xs
 
 abbrev pub Sets : Places → ℕ → Val → Trace → Type 0
 Sets p n v y = y ≡ here (slice_set p n (Some v))
@@ -36,26 +37,26 @@ AnyHolds g d es t = Any (λ e. HoldsOf g d e.0 e.1 t) es
 abbrev pub AllHold : Setting → ℕ → Parts → Values → Type 0
 AllHold g d es t = AllByRecursion (λ e. HoldsOf g d e.0 e.1 t) es
 
-abbrev pub Of : Setting → ℕ → Places → Context × Term → Trace → Type 0
-Of g d p e y = Branches g d e.0 e.1 p y
+abbrev pub Of : Setting → Sparing → ℕ → Places → Context × Term → Trace → Type 0
+Of g sp d p e y = Branches g sp d e.0 e.1 p y
 
-pub record ArmsFound (g : Setting) (d k : ℕ) (p : Places) (es : Parts) (xs : List Trace) : Type 0 where
-  pub firsts : Firsts k (ByNumber (Of g d p) es) xs
+pub record ArmsFound (g : Setting) (sp : Sparing) (d k : ℕ) (p : Places) (es : Parts) (xs : List Trace) : Type 0 where
+  pub firsts : Firsts k (ByNumber (Of g sp d p) es) xs
   pub covers : Covering k p (AnyHolds g d es) xs
   pub some : 1 ≤ length es → 1 ≤ length xs
 
-pub record EachFound (g : Setting) (d k : ℕ) (e : Context × Term) (ps ys : List Trace) : Type 0 where
-  pub each : Each k (Branches g d) d e ps ys
+pub record EachFound (g : Setting) (sp : Sparing) (d k : ℕ) (e : Context × Term) (ps ys : List Trace) : Type 0 where
+  pub each : Each k (Branches g sp d) d e ps ys
   pub covers : CoverOn k (HoldsOf g d e.0 e.1) ps ys
 
 -- what comes of one branch with one part more
-pub record After (g : Setting) (d k : ℕ) (e : Context × Term) (y : Trace) (zs : List Trace) : Type 0 where
-  pub firsts : Firsts k (Goes (Branches g d) d e y y.end) zs
+pub record After (g : Setting) (sp : Sparing) (d k : ℕ) (e : Context × Term) (y : Trace) (zs : List Trace) : Type 0 where
+  pub firsts : Firsts k (Goes (Branches g sp d) d e y y.end) zs
   pub some : 1 ≤ length zs
   pub covers : (t : Values) → Covers y.end t → HoldsOf g d e.0 e.1 t → CoveredBy zs t ⊎ (k ≤ length zs)
 
-pub record TurnsFound (g : Setting) (d k : ℕ) (p : Places) (es : Parts) (xs : List Trace) : Type 0 where
-  pub firsts : Firsts k (Onward (Branches g d) d es (here p)) xs
+pub record TurnsFound (g : Setting) (sp : Sparing) (d k : ℕ) (p : Places) (es : Parts) (xs : List Trace) : Type 0 where
+  pub firsts : Firsts k (Onward (Branches g sp d) d es (here p)) xs
   pub some : 1 ≤ length xs
   pub covers : Covering k p (AllHold g d es) xs
 

@@ -1,4 +1,6 @@
 pub mod Choices
+pub mod PassedOver
+pub mod Repaired
 pub mod Traces
 pub mod Branches
 pub mod Firsts

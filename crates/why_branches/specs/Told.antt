@@ -1,13 +1,19 @@
--- What is told of a branch: which parts hold, and which does not, at each state that extends what is filled where it ends.
-use Rattle.std.specs.Prelude.{◌≡◌, ℕ, length, map, Contains, Some}
+-- What is told of a branch: which parts hold, and which do not, at each state that extends what is filled where it ends.
+use Rattle.std.specs.Prelude.{◌≡◌, ℕ, true, List, [], length, map, Contains, Option, None, Some}
+use Rattle.trace_base.specs.declared.place.Place.{Place}
 use Rattle.tla_core.specs.States.{Values}
-use Rattle.tla_terms.specs.Terms.{Term}
+use Rattle.tla_terms.specs.Terms.{Term, place_of}
 use Rattle.tla_eval.specs.Contexts.{Context, Places}
 use Rattle.tla_eval.specs.Laws.{IsWithin, ReadsValues}
 use Rattle.tla_actions.specs.Forms.{Setting}
 use Rattle.action_reads.specs.Filled.{Completes, at_next}
 use Rattle.found_states.specs.Walks.{HoldsOf}
-use Rattle.why_branches.specs.Traces.{End, Stood, Trace, ended, passed, here}
+use Rattle.why_branches.specs.PassedOver.{may_spare, nothing}
+use Rattle.why_branches.specs.Repaired.{HoldsButOf}
+use Rattle.why_branches.specs.Traces.{End, SparedPart, Stood, Trace, ended, passed, here}
+use Rattle.why_branches.specs.declared.sparing.Sparing.{Sparing}
+use Rattle.why_branches.specs.declared.why.WhyKind.{WhyKind}
+use Rattle.why_branches.specs.declared.why.WhyKind.TheVariants as why
 use Rattle.why_branches.specs.Firsts.{IsFault}
 use Rattle.why_branches.specs.Branches.{Branches, Onward}
 use Rattle.std.specs.List.{AllByRecursion}
@@ -18,36 +24,80 @@ abbrev pub filled_at : End → Places
 filled_at (passed q) = q
 filled_at (ended q s w) = q
 
--- Of a state that extends what is filled then: the action holds of it, or the named part does not, unless it faults.
-abbrev pub EndSays : Setting → Context → Term → ℕ → End → Values → Type 0
-EndSays g c a d (passed q) t = Completes q t → HoldsOf g d c a t
-EndSays g c a d (ended q s w) t = Completes q t → (IsFault w.reason → ⊥) → HoldsOf g s.depth s.at s.term t → ⊥
+-- Of a state that extends what is filled then: the action holds of it, where nothing was passed over; or the named part does not, unless it faults.
+abbrev pub EndSays : Setting → Context → Term → ℕ → List SparedPart → End → Values → Type 0
+EndSays g c a d ws (passed q) t = ws ≡ [] → Completes q t → HoldsOf g d c a t
+EndSays g c a d ws (ended q s w) t = Completes q t → (IsFault w.reason → ⊥) → HoldsOf g s.depth s.at s.term t → ⊥
 
--- What a branch has filled extends the places, and the parts before its end hold at each state that extends that.
-pub record Says (g : Setting) (c : Context) (a : Term) (d : ℕ) (p : Places) (x : Trace) : Type 0 where
+-- And where it was gone through: if what was passed over held, so would the action.
+abbrev pub EndRepairs : Setting → Option Place → Context → Term → ℕ → End → Values → Type 0
+EndRepairs g at c a d (passed q) t = Completes q t → HoldsButOf g at d c a t
+EndRepairs g at c a d (ended q s w) t = Unit {0}
+
+-- a part that is passed over is a test that is false, or says of a variable that it has another value
+abbrev pub IsPassable : WhyKind → Type 0
+IsPassable why.TestFalse = Unit {0}
+IsPassable (why.Differs x) = Unit {0}
+IsPassable (why.NotIn x) = Unit {0}
+IsPassable k = ⊥
+
+-- It stands where parts may be passed over, and holds at no state that extends what is filled then.
+pub record IsSpared (g : Setting) (at : Option Place) (q : Places) (w : SparedPart) : Type 0 where
+  pub may : may_spare at w.part.term ≡ true
+  pub stands : w.told.why.at ≡ Some (place_of w.part.term)
+  pub passable : IsPassable w.told.why.reason
+  pub slots : w.told.slots ≡ w.part.at.slots
+  pub lacks : (t : Values) → Completes q t → HoldsOf g w.part.depth w.part.at w.part.term t → ⊥
+
+-- What a branch has filled extends the places, the parts before its end hold at each state that extends that, and those that were passed over at none;
+-- if these held, and it was gone through, the action would hold.
+pub record Says (g : Setting) (at : Option Place) (c : Context) (a : Term) (d : ℕ) (p : Places) (x : Trace) : Type 0 where
   pub long : length (filled_at x.end) ≡ length p
   pub more : IsWithin p (filled_at x.end)
   pub before : (s : Stood) → Contains x.before s → (t : Values) → Completes (filled_at x.end) t → HoldsOf g s.depth s.at s.term t
-  pub ends : (t : Values) → EndSays g c a d x.end t
+  pub spared : (w : SparedPart) → Contains x.spared w → IsSpared g at (filled_at x.end) w
+  pub ends : (t : Values) → EndSays g c a d x.spared x.end t
+  pub repaired : (t : Values) → EndRepairs g at c a d x.end t
 
 -- all that the action may read is a value
 abbrev pub KnowsAll : Setting → Places → Context → Term → Type 0
 KnowsAll g p c a = (t : Values) → Completes p t → ReadsValues g.table (at_next g.which c (map Some t)) a
 
--- so of each branch of each action
+-- so of each branch of each action, whatever may be passed over
 abbrev pub BranchesSay : Type 0
-BranchesSay = (g : Setting) (d : ℕ) (c : Context) (a : Term) (p : Places) (x : Trace) → KnowsAll g p c a → Branches g d c a p x → Says g c a d p x
+BranchesSay = (g : Setting) (sp : Sparing) (d : ℕ) (c : Context) (a : Term) (p : Places) (x : Trace) → KnowsAll g p c a → Branches g sp d c a p x → Says g sp.at c a d p x
 
--- Of parts that must all hold: where all were gone through each of them holds, and else the named part does not, unless it faults.
-abbrev pub EndSaysAll : Setting → ℕ → Parts → End → Values → Type 0
-EndSaysAll g d es (passed q) t = Completes q t → AllByRecursion (λ e. HoldsOf g d e.0 e.1 t) es
-EndSaysAll g d es (ended q s w) t = Completes q t → (IsFault w.reason → ⊥) → HoldsOf g s.depth s.at s.term t → ⊥
+-- Of parts that must all hold: where all were gone through and nothing was passed over each of them holds, and else the named part does not, unless it
+-- faults.
+abbrev pub EndSaysAll : Setting → ℕ → Parts → List SparedPart → End → Values → Type 0
+EndSaysAll g d es ws (passed q) t = ws ≡ [] → Completes q t → AllByRecursion (λ e. HoldsOf g d e.0 e.1 t) es
+EndSaysAll g d es ws (ended q s w) t = Completes q t → (IsFault w.reason → ⊥) → HoldsOf g s.depth s.at s.term t → ⊥
 
-pub record SaysAll (g : Setting) (d : ℕ) (es : Parts) (p : Places) (x : Trace) : Type 0 where
+abbrev pub EndRepairsAll : Setting → Option Place → ℕ → Parts → End → Values → Type 0
+EndRepairsAll g at d es (passed q) t = Completes q t → AllByRecursion (λ e. HoldsButOf g at d e.0 e.1 t) es
+EndRepairsAll g at d es (ended q s w) t = Unit {0}
+
+pub record SaysAll (g : Setting) (at : Option Place) (d : ℕ) (es : Parts) (p : Places) (x : Trace) : Type 0 where
   pub long : length (filled_at x.end) ≡ length p
   pub more : IsWithin p (filled_at x.end)
   pub before : (s : Stood) → Contains x.before s → (t : Values) → Completes (filled_at x.end) t → HoldsOf g s.depth s.at s.term t
-  pub ends : (t : Values) → EndSaysAll g d es x.end t
+  pub spared : (w : SparedPart) → Contains x.spared w → IsSpared g at (filled_at x.end) w
+  pub ends : (t : Values) → EndSaysAll g d es x.spared x.end t
+  pub repaired : (t : Values) → EndRepairsAll g at d es x.end t
 
 abbrev pub PartsSay : Type 0
-PartsSay = (g : Setting) (d : ℕ) (es : Parts) (p : Places) (x : Trace) → AllByRecursion (λ e. KnowsAll g p e.0 e.1) es → Onward (Branches g d) d es (here p) x → SaysAll g d es p x
+PartsSay = (g : Setting) (sp : Sparing) (d : ℕ) (es : Parts) (p : Places) (x : Trace) → AllByRecursion (λ e. KnowsAll g p e.0 e.1) es → Onward (Branches g sp d) d es (here p) x → SaysAll g sp.at d es p x
+
+-- Where nothing may be passed over, nothing is.
+abbrev pub NothingIsSpared : Type 0
+NothingIsSpared = (g : Setting) (d : ℕ) (es : Parts) (p : Places) (x : Trace) → AllByRecursion (λ e. KnowsAll g p e.0 e.1) es → Onward (Branches g nothing d) d es (here p) x → x.spared ≡ []
+
+-- it ends in a part at the place, which might be passed over
+abbrev pub EndsAt : Place → End → Type 0
+EndsAt at (passed q) = ⊥
+EndsAt at (ended q s w) = (w.at ≡ Some at) × IsPassable w.reason
+
+-- Where a branch goes through all parts and passes over some at a place, one that passes over nothing ends at that place: so no other place need be tried.
+abbrev pub NearOnesEnd : Type 0
+NearOnesEnd = (g : Setting) (at : Place) (d : ℕ) (es : Parts) (p : Places) (x : Trace) → Onward (Branches g (record { at = Some at; call = None }) d) d es (here p) x → (x.spared ≡ [] → ⊥)
+    → (y : Trace) × Onward (Branches g nothing d) d es (here p) y × EndsAt at y.end

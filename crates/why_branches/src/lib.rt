@@ -3,8 +3,10 @@
 
 mod listing;
 mod reasons;
+mod sparing;
 mod why;
 
 pub use listing::{cut_law, leaf_lists, opening_lists, part_lists};
-pub use reasons::reason_law;
+pub use reasons::{near_law, reason_law};
+pub use sparing::{Slots, Spared, Sparing};
 pub use why::{Ended, Why, WhyKind};

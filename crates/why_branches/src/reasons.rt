@@ -1,8 +1,17 @@
-ghost use Rattle.why_branches.specs.Told.{BranchesSay, PartsSay};
+ghost use Rattle.why_branches.specs.Repaired.{ButNothing};
+ghost use Rattle.why_branches.specs.Told.{BranchesSay, NearOnesEnd, NothingIsSpared, PartsSay};
 
 /// What is told of each branch of an action, and of parts that must all hold: each part before the named one holds at every state that extends what is
-/// filled then, and the named part at none, unless it ended by a fault; where all was gone through, the action, or each part, holds at every such state.
+/// filled then, one that was passed over at none, and the named part at none, unless it ended by a fault; where all was gone through and nothing passed
+/// over, the action, or each part, holds at every such state, and where some was, it would hold if that did. Where nothing may be passed over, nothing is.
 pub fn reason_law()
     ensures actions { BranchesSay }
     ensures parts { PartsSay }
+    ensures nothing { NothingIsSpared }
+    ensures holds { ButNothing }
+{}
+
+/// Where a branch goes through all parts and passes over some at a place, one that passes over nothing ends at that place.
+pub fn near_law()
+    ensures { NearOnesEnd }
 {}

@@ -1,3 +1,4 @@
+use crate::sparing::Spared;
 use tla_core::{EvalKind, Partial, VarId};
 use trace_base::Place;
 
@@ -28,11 +29,11 @@ pub struct Why {
     pub reason: WhyKind,
 }
 
-/// How a branch ends: it is gone through, with what is filled then, or it ends for a reason.
+/// How a branch ends: it is gone through, with what is filled then and the first part that was passed over, if any was; or it ends for a reason.
 #[derive(Drop)]
 pub enum Ended {
     /// All was gone through.
-    Passed(Partial),
+    Passed(Partial, Option<Spared>),
     /// It ends in a part.
     Ends(Why),
 }

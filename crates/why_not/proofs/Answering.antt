@@ -23,7 +23,7 @@ use Rattle.found_states.proofs.Filling.{completes_get}
 use Rattle.found_states.proofs.Lists.{all_by_place, all_from, in_left, of_map}
 use Rattle.ready_specs.specs.Ready.{IsReadyLine, IsReadySpec}
 use Rattle.why_branches.specs.Choices.{Choices}
-use Rattle.why_branches.specs.Traces.{End, Trace, ended, here, passed}
+use Rattle.why_branches.specs.Traces.{End, SparedPart, Trace, ended, here, passed}
 use Rattle.why_branches.specs.Branches.{Branches, Onward}
 use Rattle.why_branches.specs.Firsts.{Covers, Firsts, IsFault}
 use Rattle.why_branches.specs.Founds.{TurnsFound}
@@ -33,7 +33,9 @@ use Rattle.why_branches.proofs.Elements.{append_length}
 use Rattle.why_branches.specs.declared.why.Ended.{Ended}
 use Rattle.why_branches.specs.declared.why.Ended.TheVariants.{Ends, Passed}
 use Rattle.why_branches.specs.declared.why.Why.{Why}
-use Rattle.why_walk.specs.Ends.{end_of, kept}
+use Rattle.why_branches.specs.PassedOver.{nothing}
+use Rattle.why_branches.specs.declared.sparing.Spared.{Spared}
+use Rattle.why_walk.specs.Ends.{end_of, end_with, first_spared, kept}
 use Rattle.why_walk.proofs.Keeping.{kept_length}
 use Rattle.why_walk.proofs.Passing.{not_passed, passed_same}
 use Rattle.why_not.specs.Results.{AreUpdated, IsStuck}
@@ -53,23 +55,23 @@ none_of o P e h = subst (λ q. IfNone q P) e h
 
 -- what is kept of branches
 
-kept_of : (xs : List Trace) (q : Places) → Contains (kept xs) (Passed q) → (x : Trace) × Contains xs x × (x.end ≡ passed q)
-kept_of xs q m = let r = of_map (λ (x : Trace). end_of x.end) xs (Passed q) m in (r.0, r.1, by_end r.0.end r.2)
+kept_of : (xs : List Trace) (q : Places) (o : Option Spared) → Contains (kept xs) (Passed q o) → (x : Trace) × Contains xs x × (x.end ≡ passed q)
+kept_of xs q o m = let r = of_map end_of xs (Passed q o) m in (r.0, r.1, by_end r.0.spared r.0.end r.2)
   where
-    by_end : (n : End) → end_of n ≡ Passed q → n ≡ passed q
-    by_end (passed p) e = ap passed (passed_same p q e)
-    by_end (ended p a w) e = absurd (not_passed w q e)
+    by_end : (ws : List SparedPart) (n : End) → end_with ws n ≡ Passed q o → n ≡ passed q
+    by_end ws (passed p) e = ap passed (passed_same p q (first_spared ws) o e)
+    by_end ws (ended p a w) e = absurd (not_passed w q o e)
 
 kept_split : (xs : List Trace) (ns : List Ended) (n : Ended) → kept xs ≡ ns ++ n ∷ [] → (ys : List Trace) × ((x : Trace) × (xs ≡ ys ++ x ∷ []) × (kept ys ≡ ns))
 kept_split [] [] n e = absurd (cc)
 kept_split [] (m ∷ ns) n e = absurd (cc)
 kept_split (x ∷ []) [] n e = ([], (x, refl, refl))
-kept_split (x ∷ y ∷ xs) [] n e = absurd (longer (end_of x.end) (end_of y.end) (kept xs) n e)
+kept_split (x ∷ y ∷ xs) [] n e = absurd (longer (end_of x) (end_of y) (kept xs) n e)
   where
     longer : (a b : Ended) (us : List Ended) (n : Ended) → a ∷ b ∷ us ≡ n ∷ [] → ⊥
     longer a b us n e = cc
 kept_split (x ∷ xs) (m ∷ ns) n e =
-    let f = apart (end_of x.end) m (kept xs) (ns ++ n ∷ []) e in
+    let f = apart (end_of x) m (kept xs) (ns ++ n ∷ []) e in
     let r = kept_split xs ns n f.1 in
     (x ∷ r.0, (r.1.0, ap (λ (us : List Trace). x ∷ us) r.1.1, same f.0 r.1.2))
   where
@@ -86,11 +88,11 @@ zip_length sees (n ∷ ns) [] h = absurd h
 zip_length sees (n ∷ ns) (w ∷ ws) h = ap suc (zip_length sees ns ws h.1)
 
 -- the reason that stands for a branch
-reason_of : (sees : List See) (xs : List Trace) (ws : List Why) → AreReasons sees (kept xs) ws → (x : Trace) → Contains xs x → (w : Why) × Contains ws w × EndsFor sees (end_of x.end) w
+reason_of : (sees : List See) (xs : List Trace) (ws : List Why) → AreReasons sees (kept xs) ws → (x : Trace) → Contains xs x → (w : Why) × Contains ws w × EndsFor sees (end_of x) w
 reason_of sees [] ws a x m = absurd (none_in x m)
 reason_of sees (y ∷ xs) [] a x m = absurd a
 reason_of sees (y ∷ xs) (w ∷ ws) a x m = elim (cons_cases y xs x m) [
-  | inl e ↦ (w, head_in w ws, subst (λ (z : Trace). EndsFor sees (end_of z.end) w) e a.0)
+  | inl e ↦ (w, head_in w ws, subst (λ (z : Trace). EndsFor sees (end_of z) w) e a.0)
   | inr n ↦ (let r = reason_of sees xs ws a.1 x n in (r.0, tail_in w ws r.0 r.1, r.2))
 ]
 
@@ -140,26 +142,26 @@ stuck_show g line s ws more state none uncut clean t is moves holds = absurd (no
 module _ (law : OrderlyActionsAreGrounded) (grows : WholeStays) (g : Spec) (ready : IsReadySpec g) (line : Line) (fits : IsReadyLine g line) (s : Values) (state : IsState (length g.variables) s)
     (p : Places) (a : AreUpdated line.updates s p) where
   -- where a branch was gone through, something that is seen does not stand there
-  each_lacks : ((t : Values) → ¬ Step (asks g false line) s t) → (k : ℕ) (ends : List Ended) → AreEnds g line s k p ends → (n : Ended) → Contains ends n → Lacks line.sees n
+  each_lacks : ((t : Values) → ¬ Step (asks g false line) s t) → (k : ℕ) (ends : List Ended) → AreEnds nothing g line s k p ends → (n : Ended) → Contains ends n → Lacks line.sees n
   each_lacks none k ends e (Ends w) m = tt
-  each_lacks none k ends e (Passed q) m = λ all.
+  each_lacks none k ends e (Passed q o) m = λ all.
       let gr = line_grounded law grows g ready line fits s state p a e.0 e.1 in
       let passes = e.2.passes gr.0.0 gr.0.2.0 gr.0.1 gr.0.2.1 in
-      let t = (passes.further q m).2 gr.1.0 gr.1.1 in
+      let t = (passes.further q o m).2 gr.1.0 gr.1.1 in
       let f = e.2.found in
-      let x = kept_of f.0 q (subst (λ (us : List Ended). Contains us (Passed q)) (sym f.2) m) in
+      let x = kept_of f.0 q o (subst (λ (us : List Ended). Contains us (Passed q o)) (sym f.2) m) in
       let told = each_told law grows g ready line fits s state x.0 (p, a, (e.0, e.1, f.1.firsts.are x.0 x.1)) in
       let there : Completes (filled_at x.0.end) t.0 = subst (λ (n : End). Completes (filled_at n) t.0) (sym x.2) t.1 in
       let moves = told.moves t.0 there in
       let holds : BothHold g (act_of line.event) s t.0 = subst (λ (n : End). EndTold g line s n t.0) x.2 (told.end t.0 there) in
       none t.0 (moves.0, inl (moves.1, holds, seen_there line.sees q t.0 t.1 all))
 
-  pub lacking : ((t : Values) → ¬ Step (asks g false line) s t) → (k most : ℕ) (old new : List Ended) → AreEnds g line s k p old → new ≡ take most old → All (Lacks line.sees) new
+  pub lacking : ((t : Values) → ¬ Step (asks g false line) s t) → (k most : ℕ) (old new : List Ended) → AreEnds nothing g line s k p old → new ≡ take most old → All (Lacks line.sees) new
   lacking none k most old new e c = all_by_place (Lacks line.sees) new (all_from (Lacks line.sees) new (λ n m. each_lacks none k old e n (cut_in most old new c n m)))
 
 module _ (g : Spec) (line : Line) (s : Values) (state : IsState (length g.variables) s) (p : Places) (a : AreUpdated line.updates s p) (exact : LeadsThere line.updates s p) (es : Parts) (i : AreBoth g (act_of line.event) s es) where
   abbrev Way : Trace → Type 0
-  Way x = Onward (Branches (setting which.Action g) max_evaluations) max_evaluations es (here p) x
+  Way x = Onward (Branches (setting which.Action g) nothing max_evaluations) max_evaluations es (here p) x
 
   -- a branch that lacks what is seen, and what is filled then has the state
   abbrev Reached : Values → Type 0
@@ -172,13 +174,13 @@ module _ (g : Spec) (line : Line) (s : Values) (state : IsState (length g.variab
   on_way x h =
       let q : h.0 ≡ p = one_updated line.updates s p a exact h.0 h.1 in
       let f : h.2.0 ≡ es = same_parts g (act_of line.event) s es h.2.0 i h.2.1 in
-      subst (λ (z : Places). Onward (Branches (setting which.Action g) max_evaluations) max_evaluations es (here z) x) q
-      (subst (λ (us : Parts). Onward (Branches (setting which.Action g) max_evaluations) max_evaluations us (here h.0) x) f h.2.2)
+      subst (λ (z : Places). Onward (Branches (setting which.Action g) nothing max_evaluations) max_evaluations es (here z) x) q
+      (subst (λ (us : Parts). Onward (Branches (setting which.Action g) nothing max_evaluations) max_evaluations us (here h.0) x) f h.2.2)
 
   line_firsts : (k : ℕ) (xs : List Trace) → Firsts k Way xs → Firsts k (GoesThrough g line s) xs
   line_firsts k xs f = record { ordered = f.ordered; few = f.few; are = λ x m. through x (f.are x m); rest = λ x h. f.rest x (on_way x h) }
 
-  module _ (most : ℕ) (xs : List Trace) (found : TurnsFound (setting which.Action g) max_evaluations (most + 1) p es xs) (old new : List Ended) (e : kept xs ≡ old) (more : Bool) (first : new ≡ take most old) (says : IsTrue more ↔ (most < length old))
+  module _ (most : ℕ) (xs : List Trace) (found : TurnsFound (setting which.Action g) nothing max_evaluations (most + 1) p es xs) (old new : List Ended) (e : kept xs ≡ old) (more : Bool) (first : new ≡ take most old) (says : IsTrue more ↔ (most < length old))
       (ws : List Why) (reasons : AreReasons line.sees new ws) where
     firsts : Firsts (suc most) Way xs
     firsts = let one : most + 1 ≡ suc most = omega arith in subst (λ (k : ℕ). Firsts k Way xs) one found.firsts
@@ -228,14 +230,14 @@ module _ (g : Spec) (line : Line) (s : Values) (state : IsState (length g.variab
       | inr d ↦ absurd (true_false more d.2 uncut)
     ]
       where
-        by_end : (x : Trace) → Contains xs x → (w : Why) → Contains ws w → EndsFor line.sees (end_of x.end) w → (n : End) → x.end ≡ n → Covers n t → Reached t
+        by_end : (x : Trace) → Contains xs x → (w : Why) → Contains ws w → EndsFor line.sees (end_of x) w → (n : End) → x.end ≡ n → Covers n t → Reached t
         by_end x m w o f (passed q) j k =
-            let h : EndsFor line.sees (Passed q) w = subst (λ (n : End). EndsFor line.sees (end_of n) w) j f in
+            let h : EndsFor line.sees (Passed q (first_spared x.spared)) w = subst (λ (n : End). EndsFor line.sees (end_with x.spared n) w) j f in
             let b : IsBranch g line s x.choices (filled_at x.end) w = is_ended x w (through x (found.firsts.are x m)) f in
             (x.choices, (q, k, (h.0, subst (λ (v : Why). IsBranch g line s x.choices q v) h.2 (subst (λ (n : End). IsBranch g line s x.choices (filled_at n) w) j b))))
         by_end x m w o f (ended q part v) j k =
-            let h : w ≡ v = subst (λ (n : End). EndsFor line.sees (end_of n) w) j f in
+            let h : w ≡ v = subst (λ (n : End). EndsFor line.sees (end_with x.spared n) w) j f in
             absurd (All-contains NoFault ws w clean o (subst (λ (z : Why). IsFault z.reason) (sym h) k.0))
 
-        by_reason : (x : Trace) → Contains xs x → (w : Why) × Contains ws w × EndsFor line.sees (end_of x.end) w → Covers x.end t → Reached t
+        by_reason : (x : Trace) → Contains xs x → (w : Why) × Contains ws w × EndsFor line.sees (end_of x) w → Covers x.end t → Reached t
         by_reason x m r k = by_end x m r.0 r.1 r.2 x.end refl k

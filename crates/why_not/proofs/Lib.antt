@@ -1,8 +1,8 @@
-mod Completing
-mod Updated
+pub mod Completing
+pub mod Updated
 mod Stopping
 mod Grounding
-mod Telling
+pub mod Telling
 mod Passing
 mod Seeing
 mod Answering

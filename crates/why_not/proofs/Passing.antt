@@ -23,6 +23,7 @@ use Rattle.found_states.specs.Parts.{Parts}
 use Rattle.ready_specs.specs.Ready.{IsReadyLine, IsReadySpec}
 use Rattle.why_branches.specs.declared.why.Ended.{Ended}
 use Rattle.why_branches.specs.declared.why.Ended.TheVariants.{Passed}
+use Rattle.why_branches.specs.declared.sparing.Sparing.{Sparing}
 use Rattle.why_walk.specs.Walking.{EndsGrounded, IsOnward}
 use Rattle.why_walk.proofs.Loops.{AllSoFar, all_done, all_ground, all_start, all_step}
 use Rattle.why_not.specs.Results.{AreUpdated}
@@ -42,11 +43,11 @@ module _ (t : Stage) (g : Spec) (s : Values) (e : stage_setting t ≡ setting wh
   pub stage_ground : (ns : List Ended) → EndsGrounded (setting which.Action g) d (standing vs s, a) ns → EndsGrounded (stage_setting t) d (before t us, a) ns
   stage_ground ns x = subst (λ (G : Setting). EndsGrounded G d (before t us, a) ns) (sym e) (subst (λ (c : Context). EndsGrounded (setting which.Action g) d (c, a) ns) (sym same_context) x)
 
-  pub stage_onward : (n : ℕ) (old new : List Ended) → IsOnward (stage_setting t) n d (before t us, a) old new → IsOnward (setting which.Action g) n d (standing vs s, a) old new
-  stage_onward n old new x = subst (λ (c : Context). IsOnward (setting which.Action g) n d (c, a) old new) same_context (subst (λ (G : Setting). IsOnward G n d (before t us, a) old new) e x)
+  pub stage_onward : (sp : Sparing) (n : ℕ) (old new : List Ended) → IsOnward (stage_setting t) sp n d (before t us, a) old new → IsOnward (setting which.Action g) sp n d (standing vs s, a) old new
+  stage_onward sp n old new x = subst (λ (c : Context). IsOnward (setting which.Action g) sp n d (c, a) old new) same_context (subst (λ (G : Setting). IsOnward G sp n d (before t us, a) old new) e x)
 
 module _ (law : OrderlyActionsAreGrounded) (grows : WholeStays) (g : Spec) (ready : IsReadySpec g) (line : Line) (fits : IsReadyLine g line) (s : Values) (state : IsState (length g.variables) s)
-    (p : Places) (a : AreUpdated line.updates s p) (k : ℕ) (room : 1 ≤ k) (start : List Ended) (z : start ≡ Passed p ∷ []) where
+    (p : Places) (a : AreUpdated line.updates s p) (sp : Sparing) (k : ℕ) (room : 1 ≤ k) (start : List Ended) (z : start ≡ Passed p None ∷ []) where
   abbrev G : Setting
   G = setting which.Action g
 
@@ -68,14 +69,14 @@ module _ (law : OrderlyActionsAreGrounded) (grows : WholeStays) (g : Spec) (read
     next_apart : Apart alone 0 then
     next_apart = apart alone 0 then refl
 
-    next_begins : AllSoFar G k d p alone 0 start
-    next_begins = all_start G k d p alone start room z
+    next_begins : AllSoFar G sp k d p alone 0 start
+    next_begins = all_start G sp k d p alone start room z
 
     pub next_ground : EndsGrounded G d then start
-    next_ground = all_ground G k d p alone 0 then start next_apart (line_grounded law grows g ready line fits s state p a alone are_alone) next_begins
+    next_ground = all_ground G sp k d p alone 0 then start next_apart (line_grounded law grows g ready line fits s state p a alone are_alone) next_begins
 
-    pub next_ends : (ends : List Ended) → IsOnward G k d then start ends → AreEnds g line s k p ends
-    next_ends ends w = (alone, are_alone, all_done G k d p alone 1 ends (omega arith) (all_step G k d p alone 0 then start ends room next_apart w next_begins))
+    pub next_ends : (ends : List Ended) → IsOnward G sp k d then start ends → AreEnds sp g line s k p ends
+    next_ends ends w = (alone, are_alone, all_done G sp k d p alone 1 ends (omega arith) (all_step G sp k d p alone 0 then start ends room next_apart w next_begins))
 
   -- an operator, and Next behind it
 
@@ -95,18 +96,18 @@ module _ (law : OrderlyActionsAreGrounded) (grows : WholeStays) (g : Spec) (read
     then_apart : Apart both 1 then
     then_apart = apart both 1 then refl
 
-    act_begins : AllSoFar G k d p both 0 start
-    act_begins = all_start G k d p both start room z
+    act_begins : AllSoFar G sp k d p both 0 start
+    act_begins = all_start G sp k d p both start room z
 
     pub act_ground : EndsGrounded G d first start
-    act_ground = all_ground G k d p both 0 first start act_apart (line_grounded law grows g ready line fits s state p a both are_both) act_begins
+    act_ground = all_ground G sp k d p both 0 first start act_apart (line_grounded law grows g ready line fits s state p a both are_both) act_begins
 
-    module _ (found : List Ended) (w : IsOnward G k d first start found) where
-      act_goes : AllSoFar G k d p both 1 found
-      act_goes = all_step G k d p both 0 first start found room act_apart w act_begins
+    module _ (found : List Ended) (w : IsOnward G sp k d first start found) where
+      act_goes : AllSoFar G sp k d p both 1 found
+      act_goes = all_step G sp k d p both 0 first start found room act_apart w act_begins
 
       pub then_ground : EndsGrounded G d then found
-      then_ground = all_ground G k d p both 1 then found then_apart (line_grounded law grows g ready line fits s state p a both are_both) act_goes
+      then_ground = all_ground G sp k d p both 1 then found then_apart (line_grounded law grows g ready line fits s state p a both are_both) act_goes
 
-      pub both_ends : (ends : List Ended) → IsOnward G k d then found ends → AreEnds g line s k p ends
-      both_ends ends v = (both, are_both, all_done G k d p both 2 ends (omega arith) (all_step G k d p both 1 then found ends room then_apart v act_goes))
+      pub both_ends : (ends : List Ended) → IsOnward G sp k d then found ends → AreEnds sp g line s k p ends
+      both_ends ends v = (both, are_both, all_done G sp k d p both 2 ends (omega arith) (all_step G sp k d p both 1 then found ends room then_apart v act_goes))

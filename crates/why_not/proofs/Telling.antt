@@ -23,7 +23,8 @@ use Rattle.ready_specs.specs.Ready.{IsReadyLine, IsReadySpec}
 use Rattle.why_branches.specs.Traces.{End, ended, passed}
 use Rattle.why_branches.specs.Founds.{AllHold}
 use Rattle.why_branches.specs.Told.{EndSaysAll, KnowsAll, filled_at}
-use Rattle.why_branches.proofs.EachSays.{parts_say}
+use Rattle.why_branches.specs.PassedOver.{nothing}
+use Rattle.why_branches.proofs.EachSays.{none_spared, parts_say}
 use Rattle.why_walk.specs.Walking.{AllGrounded}
 use Rattle.why_not.specs.Results.{AreUpdated}
 use Rattle.why_not.specs.Lines.{AreBoth, standing}
@@ -41,7 +42,7 @@ parts_hold g (Some a) s t es i h =
     subst (λ (us : Parts). AllHold (setting which.Action g) max_evaluations us t) (sym i.2)
     (subst (λ (o : Operator). HoldsOf (setting which.Action g) max_evaluations (standing a.arguments s) o.body t) same h.0.2, (h.1, tt))
 
-both_hold : (g : Spec) (act : Option Act) (s t : Values) (es : Parts) → AreBoth g act s es → AllHold (setting which.Action g) max_evaluations es t → BothHold g act s t
+pub both_hold : (g : Spec) (act : Option Act) (s t : Values) (es : Parts) → AreBoth g act s es → AllHold (setting which.Action g) max_evaluations es t → BothHold g act s t
 both_hold g None s t es i h = (subst (λ (us : Parts). AllHold (setting which.Action g) max_evaluations us t) i h).0
 both_hold g (Some a) s t es i h =
     let k = subst (λ (us : Parts). AllHold (setting which.Action g) max_evaluations us t) i.2 h in
@@ -55,7 +56,7 @@ same_parts g (Some a) s es fs i j =
     subst (λ (o : Operator). fs ≡ (standing a.arguments s, o.body) ∷ (standing [] s, g.next) ∷ []) same j.2 ∙ sym i.2
 
 -- what may be read is known for each of them
-each_knows : (g : Setting) (p : Places) (es : Parts) → ((t : Values) → Completes p t → AllByRecursion (λ e. ReadsValues g.table (at_next g.which e.0 (map Some t)) e.1) es) → AllByRecursion (λ e. KnowsAll g p e.0 e.1) es
+pub each_knows : (g : Setting) (p : Places) (es : Parts) → ((t : Values) → Completes p t → AllByRecursion (λ e. ReadsValues g.table (at_next g.which e.0 (map Some t)) e.1) es) → AllByRecursion (λ e. KnowsAll g p e.0 e.1) es
 each_knows g p [] h = tt
 each_knows g p (e ∷ es) h = (λ t k. (h t k).0, each_knows g p es (λ t k. (h t k).1))
 
@@ -73,15 +74,15 @@ module _ (law : OrderlyActionsAreGrounded) (grows : WholeStays) (g : Spec) (read
       let es = h.2.0 in
       let i = h.2.1 in
       let gr = line_grounded p a es i in
-      let says = parts_say (setting which.Action g) max_evaluations es p x (each_knows (setting which.Action g) p es gr.0.1.reads) h.2.2 in
+      let says = parts_say (setting which.Action g) nothing max_evaluations es p x (each_knows (setting which.Action g) p es gr.0.1.reads) h.2.2 in
       record {
         moves = λ t k.
             let m = updated_moves line.updates s p a t (completes_less p (filled_at x.end) t says.long says.more k) in
             (record { long = m.0.long ∙ state.long; values = m.0.values }, m.1);
         before = says.before;
-        end = λ t k. by_end es i t x.end k (says.ends t);
+        end = λ t k. by_end es i t x.end k (none_spared (setting which.Action g) max_evaluations es p x (each_knows (setting which.Action g) p es gr.0.1.reads) h.2.2) (says.ends t);
       }
     where
-      by_end : (es : Parts) → AreBoth g (act_of line.event) s es → (t : Values) (n : End) → Completes (filled_at n) t → EndSaysAll (setting which.Action g) max_evaluations es n t → EndTold g line s n t
-      by_end es i t (passed q) k f = both_hold g (act_of line.event) s t es i (f k)
-      by_end es i t (ended q part w) k f = f k
+      by_end : (es : Parts) → AreBoth g (act_of line.event) s es → (t : Values) (n : End) → Completes (filled_at n) t → x.spared ≡ [] → EndSaysAll (setting which.Action g) max_evaluations es x.spared n t → EndTold g line s n t
+      by_end es i t (passed q) k none f = both_hold g (act_of line.event) s t es i (f none k)
+      by_end es i t (ended q part w) k none f = f k

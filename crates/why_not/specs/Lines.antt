@@ -15,8 +15,10 @@ use Rattle.line_steps.specs.Asks.{act_of}
 use Rattle.found_states.specs.Parts.{Parts}
 use Rattle.why_branches.specs.Choices.{Choices}
 use Rattle.why_branches.specs.Traces.{Trace, here}
+use Rattle.why_branches.specs.PassedOver.{nothing}
 use Rattle.why_branches.specs.Branches.{Branches, Onward}
 use Rattle.why_branches.specs.Told.{filled_at}
+use Rattle.why_branches.specs.declared.sparing.Sparing.{Sparing}
 use Rattle.why_branches.specs.declared.why.Ended.{Ended}
 use Rattle.why_branches.specs.declared.why.Ended.TheVariants.{Ends, Passed}
 use Rattle.why_branches.specs.declared.why.Why.{Why}
@@ -33,10 +35,14 @@ abbrev pub AreBoth : Spec → Option Act → Values → Parts → Type 0
 AreBoth g None s es = es ≡ (standing [] s, g.next) ∷ []
 AreBoth g (Some a) s es = (o : Operator) × (slice_get g.operators a.operator ≡ Some o) × (es ≡ (standing a.arguments s, o.body) ∷ (standing [] s, g.next) ∷ [])
 
--- a branch through both, from what the updates have filled
+-- a branch through both, from what the updates have filled, where some parts may be passed over
+abbrev pub GoesThroughBut : Sparing → Spec → Line → Values → Trace → Type 0
+GoesThroughBut sp g line s x =
+    (p : Places) × AreUpdated line.updates s p × ((es : Parts) × AreBoth g (act_of line.event) s es × Onward (Branches (setting which.Action g) sp max_evaluations) max_evaluations es (here p) x)
+
+-- and where none may
 abbrev pub GoesThrough : Spec → Line → Values → Trace → Type 0
-GoesThrough g line s x =
-    (p : Places) × AreUpdated line.updates s p × ((es : Parts) × AreBoth g (act_of line.event) s es × Onward (Branches (setting which.Action g) max_evaluations) max_evaluations es (here p) x)
+GoesThrough g line s x = GoesThroughBut nothing g line s x
 
 -- what is seen stands in the places
 abbrev pub StandsIn : Places → See → Type 0
@@ -61,10 +67,10 @@ not_seen x = record { at = None; reason = why.NotSeen (record { 0 = x }) }
 
 -- why a branch of the line ends: as it ended on the way, or by what is not seen where it was gone through
 abbrev pub EndsFor : List See → Ended → Why → Type 0
-EndsFor sees (Passed q) v = (x : ℕ) × IsUnseen sees q x × (v ≡ not_seen x)
+EndsFor sees (Passed q o) v = (x : ℕ) × IsUnseen sees q x × (v ≡ not_seen x)
 EndsFor sees (Ends w) v = v ≡ w
 
 -- THE BRANCHES OF A LINE: the choices of one, what is filled where it ends, and why it ends.
 pub data IsBranch (g : Spec) (line : Line) (s : Values) : Choices → Places → Why → Type 0 where
   is_stuck : (x : ℕ) → IsStuck line.updates s x → IsBranch g line s [] (map Some s) (no_update x)
-  is_ended : (x : Trace) (w : Why) → GoesThrough g line s x → EndsFor line.sees (end_of x.end) w → IsBranch g line s x.choices (filled_at x.end) w
+  is_ended : (x : Trace) (w : Why) → GoesThrough g line s x → EndsFor line.sees (end_of x) w → IsBranch g line s x.choices (filled_at x.end) w

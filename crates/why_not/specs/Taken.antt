@@ -16,6 +16,7 @@ use Rattle.action_reads.specs.Filled.{Completes}
 use Rattle.found_states.specs.Parts.{Parts}
 use Rattle.why_branches.specs.declared.why.Ended.{Ended}
 use Rattle.why_branches.specs.declared.why.Ended.TheVariants.{Ends, Passed}
+use Rattle.why_branches.specs.declared.sparing.Sparing.{Sparing}
 use Rattle.why_walk.specs.Walking.{AllListed}
 use Rattle.why_not.specs.Lines.{AreBoth, StandsIn}
 
@@ -27,11 +28,11 @@ LeadsThere us s p = (t : Values) → Completes p t ↔ (IsState (length s) t × 
 abbrev pub IsBodyOf : Spec → ℕ → Term → Type 0
 IsBodyOf g k e = (o : Operator) × (slice_get g.operators k ≡ Some o) × (e ≡ o.body)
 
--- the ends of the first k branches of a line, from these places
-abbrev pub AreEnds : Spec → Line → Values → ℕ → Places → List Ended → Type 0
-AreEnds g line s k p ends = (es : Parts) × AreBoth g (act_of line.event) s es × AllListed (setting which.Action g) k max_evaluations p es ends
+-- the ends of the first k branches of a line, from these places, where some parts may be passed over
+abbrev pub AreEnds : Sparing → Spec → Line → Values → ℕ → Places → List Ended → Type 0
+AreEnds sp g line s k p ends = (es : Parts) × AreBoth g (act_of line.event) s es × AllListed (setting which.Action g) sp k max_evaluations p es ends
 
 -- where it was gone through, something that is seen does not stand there
 abbrev pub Lacks : List See → Ended → Type 0
-Lacks sees (Passed q) = ¬ All (StandsIn q) sees
+Lacks sees (Passed q o) = ¬ All (StandsIn q) sees
 Lacks sees (Ends w) = Unit {0}

@@ -20,7 +20,7 @@ use tla_core::{Partial, State};
 use tla_terms::Spec;
 use trace_base::NoMemory;
 use walk_grounds::orderly_law;
-use why_branches::Ended;
+use why_branches::{Ended, Sparing};
 
 /// Why the branches of the line from the state end, in their order and at most `most` of them, and whether there are more. No step of the line goes
 /// from the state.
@@ -71,7 +71,12 @@ fn first_whys(
 {
     orderly_law();
     whole_law();
-    let mut ends = line_ends(alloc, spec, line, state, most as usize + 1, places)?;
+    let nothing = Sparing {
+        at: None,
+        call: None,
+    };
+    let room = most as usize + 1;
+    let mut ends = line_ends(alloc, spec, line, state, nothing, room, places)?;
     let more = cut(&mut ends, most as usize);
     let list = reasons(alloc, line.sees.items(), &ends)?;
     Ok(Whys { list, more })

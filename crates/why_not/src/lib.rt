@@ -9,3 +9,5 @@ mod through;
 
 pub use answer::Whys;
 pub use asking::why;
+pub use reasons::stands_in;
+pub use through::line_ends;

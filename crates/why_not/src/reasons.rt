@@ -29,7 +29,7 @@ fn reason(sees: &[See], end: &Ended) -> Why
 {
     match end {
         Ended::Ends(why) => *why,
-        Ended::Passed(places) => Why {
+        Ended::Passed(places, _) => Why {
             at: None,
             reason: WhyKind::NotSeen(unseen(sees, places)),
         },
@@ -49,7 +49,8 @@ fn unseen(sees: &[See], places: &Partial) -> VarId
     unreachable!()
 }
 
-fn stands_in(see: &See, places: &Partial) -> bool
+/// Whether what is seen stands in the places.
+pub fn stands_in(see: &See, places: &Partial) -> bool
     ensures { IsTrue result ↔ StandsIn places.now see.now }
 {
     match places.get(see.path.variable()) {

@@ -18,18 +18,19 @@ use tla_terms::{Spec, Term};
 use tla_values::Value;
 use trace_base::NoMemory;
 use walk_grounds::orderly_law;
-use why_branches::Ended;
+use why_branches::{Ended, Sparing};
 use why_walk::walk_further;
 
 /// How many evaluations may stand inside one another.
 const MAX_EVALUATIONS: u32 = 400;
 
-/// The ends of the first branches of the line from the places that its updates fill, at most `room` of them.
+/// The ends of the first branches of the line from the places that its updates fill, at most `room` of them, where some parts may be passed over.
 pub fn line_ends(
     alloc: Global,
     spec: &Spec,
     line: &Line,
     from: &State,
+    sparing: Sparing,
     room: usize,
     places: Partial,
 ) -> Result<Vec<Ended>, NoMemory>
@@ -38,21 +39,48 @@ pub fn line_ends(
     requires state { IsState (length spec.now.variables) from.now }
     requires room { 1 ≤ room }
     requires updated { AreUpdated line.now.updates from.now places }
-    ensures { IfOk result (λ ends. AreEnds spec.now line.now from.now room places ends.items) }
+    ensures { IfOk result (λ ends. AreEnds sparing spec.now line.now from.now room places ends.items) }
 {
     orderly_law();
     whole_law();
     let whole = Partial::of(alloc, from)?;
     let stage = stage_of(spec, &whole);
-    let start = one_end(alloc, Ended::Passed(places))?;
+    let start = one_end(alloc, Ended::Passed(places, None))?;
     match &line.event {
-        None => walk_further(alloc, stage, &[], MAX_EVALUATIONS, room, start, &spec.next),
+        None => walk_further(
+            alloc,
+            stage,
+            &[],
+            sparing,
+            MAX_EVALUATIONS,
+            room,
+            start,
+            &spec.next,
+        ),
         Some(event) => {
             let values = event.args.items();
             let slots = slots_of(alloc, values)?;
             let body = body_of(spec, event.operator);
-            let found = walk_further(alloc, stage, &slots, MAX_EVALUATIONS, room, start, body)?;
-            walk_further(alloc, stage, &[], MAX_EVALUATIONS, room, found, &spec.next)
+            let found = walk_further(
+                alloc,
+                stage,
+                &slots,
+                sparing,
+                MAX_EVALUATIONS,
+                room,
+                start,
+                body,
+            )?;
+            walk_further(
+                alloc,
+                stage,
+                &[],
+                sparing,
+                MAX_EVALUATIONS,
+                room,
+                found,
+                &spec.next,
+            )
         }
     }
 }

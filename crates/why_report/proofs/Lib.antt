@@ -1,4 +1,6 @@
 mod Counting
 mod Going
+mod Reaching
 pub mod Reporting
 mod SoFar
+mod ToldBehind

@@ -1,5 +1,5 @@
 -- From an answer to its report.
-use Rattle.std.proofs.Common.{◌≡◌, sym, subst, refl, ℕ, List, ◌++◌, Option, Some, None, Result, Ok, Err, IfOk, string_bytes}
+use Rattle.std.proofs.Common.{◌≡◌, ◌∙◌, sym, subst, refl, ℕ, List, [], append-nil, Option, None, Result, Ok, Err, IfOk, string_bytes}
 use Rattle.std.specs.Prelude.{String}
 use Rattle.std.specs.declared.alloc.AllocError.{AllocError}
 use Rattle.std.specs.declared.alloc.Global.{Global}
@@ -13,25 +13,27 @@ use Rattle.state_layers.specs.declared.answer.Answer.{Answer}
 use Rattle.state_layers.specs.declared.answer.Answer.TheVariants.{Explained, NotExplained, NoInitial, InitFault, Fault, AssumeFault, AssumeFalse, LayerLimit, TotalLimit}
 use Rattle.run_texts.specs.Answers.{Named, answer_text}
 use Rattle.why_report.specs.Ends.{EndsAt, IsPlain, IsPrefix}
-use Rattle.why_report.specs.Reports.{IsReport}
-use Rattle.why_report.specs.Tells.{TellsWhy}
+use Rattle.why_report.specs.Reports.{IsReport, IsToldBehind}
 
-plain_report : (g : Spec) (log : Log) (a : Asked) (l : Named) (why : Option ℕ) (answer : Answer) (report : List ℕ) → IsPlain answer → report ≡ answer_text l answer
-    → IsReport g log a l why answer report
-plain_report g log a l why (Explained w widest) report plain is = is
-plain_report g log a l why (NotExplained n of after w) report plain is = absurd plain
-plain_report g log a l why NoInitial report plain is = is
-plain_report g log a l why (InitFault kind at) report plain is = is
-plain_report g log a l why (Fault after silent s kind at) report plain is = is
-plain_report g log a l why (AssumeFault kind at) report plain is = is
-plain_report g log a l why (AssumeFalse at) report plain is = is
-plain_report g log a l why (LayerLimit after silent) report plain is = is
-plain_report g log a l why (TotalLimit after silent) report plain is = is
+plain_report : (g : Spec) (log : Log) (a : Asked) (l : Named) (why near : Option ℕ) (answer : Answer) (report : List ℕ) → IsPlain answer → report ≡ answer_text l answer
+    → IsReport g log a l why near answer report
+plain_report g log a l why near (Explained w widest) report plain is = is
+plain_report g log a l why near (NotExplained m of after w) report plain is = absurd plain
+plain_report g log a l why near NoInitial report plain is = is
+plain_report g log a l why near (InitFault kind at) report plain is = is
+plain_report g log a l why near (Fault after silent s kind at) report plain is = is
+plain_report g log a l why near (AssumeFault kind at) report plain is = is
+plain_report g log a l why near (AssumeFalse at) report plain is = is
+plain_report g log a l why near (LayerLimit after silent) report plain is = is
+plain_report g log a l why near (TotalLimit after silent) report plain is = is
 
--- where it is not asked why, each report is that of its answer alone
-pub unasked_report : (g : Spec) (log : Log) (a : Asked) (l : Named) (answer : Answer) (report : List ℕ) → report ≡ answer_text l answer → IsReport g log a l None answer report
+nothing_behind : (g : Spec) (log : Log) (a : Asked) (l : Named) (n : ℕ) (front report : List ℕ) → report ≡ front → IsToldBehind g log a l n None None front report
+nothing_behind g log a l n front report is = record { whys = []; nears = []; withins = []; why_told = refl; near_told = refl; within_told = refl; is = is ∙ sym (append-nil front) }
+
+-- where nothing is asked for, each report is that of its answer alone
+pub unasked_report : (g : Spec) (log : Log) (a : Asked) (l : Named) (answer : Answer) (report : List ℕ) → report ≡ answer_text l answer → IsReport g log a l None None answer report
 unasked_report g log a l (Explained w widest) report is = is
-unasked_report g log a l (NotExplained n of after w) report is = is
+unasked_report g log a l (NotExplained m of after w) report is = nothing_behind g log a l m (answer_text l (NotExplained m of after w)) report is
 unasked_report g log a l NoInitial report is = is
 unasked_report g log a l (InitFault kind at) report is = is
 unasked_report g log a l (Fault after silent s kind at) report is = is
@@ -40,29 +42,28 @@ unasked_report g log a l (AssumeFalse at) report is = is
 unasked_report g log a l (LayerLimit after silent) report is = is
 unasked_report g log a l (TotalLimit after silent) report is = is
 
-told_report : (g : Spec) (log : Log) (a : Asked) (l : Named) (most n : ℕ) (answer : Answer) (front told report : List ℕ) → IsPrefix answer n → front ≡ answer_text l answer
-    → TellsWhy g log a l n most told → report ≡ front ++ told → IsReport g log a l (Some most) answer report
-told_report g log a l most n (NotExplained m of after w) front told report is front_is tells whole =
-    (told, subst (λ (k : ℕ). TellsWhy g log a l k most told) is tells, subst (λ (t : List ℕ). report ≡ t ++ told) front_is whole)
-told_report g log a l most n (Explained w widest) front told report is front_is tells whole = absurd is
-told_report g log a l most n NoInitial front told report is front_is tells whole = absurd is
-told_report g log a l most n (InitFault kind at) front told report is front_is tells whole = absurd is
-told_report g log a l most n (Fault after silent s kind at) front told report is front_is tells whole = absurd is
-told_report g log a l most n (AssumeFault kind at) front told report is front_is tells whole = absurd is
-told_report g log a l most n (AssumeFalse at) front told report is front_is tells whole = absurd is
-told_report g log a l most n (LayerLimit after silent) front told report is front_is tells whole = absurd is
-told_report g log a l most n (TotalLimit after silent) front told report is front_is tells whole = absurd is
+told_report : (g : Spec) (log : Log) (a : Asked) (l : Named) (why near : Option ℕ) (n : ℕ) (answer : Answer) (report : List ℕ) → IsPrefix answer n
+    → IsToldBehind g log a l n why near (answer_text l answer) report → IsReport g log a l why near answer report
+told_report g log a l why near n (Explained w widest) report is told = absurd is
+told_report g log a l why near n (NotExplained m of after w) report is told = subst (λ (k : ℕ). IsToldBehind g log a l k why near (answer_text l (NotExplained m of after w)) report) is told
+told_report g log a l why near n NoInitial report is told = absurd is
+told_report g log a l why near n (InitFault kind at) report is told = absurd is
+told_report g log a l why near n (Fault after silent s kind at) report is told = absurd is
+told_report g log a l why near n (AssumeFault kind at) report is told = absurd is
+told_report g log a l why near n (AssumeFalse at) report is told = absurd is
+told_report g log a l why near n (LayerLimit after silent) report is told = absurd is
+told_report g log a l why near n (TotalLimit after silent) report is told = absurd is
 
-pub reported : (g : Spec) (log : Log) (a : Asked) (l : Named) (most n : ℕ) (answer : Answer) (r : Result (String Global) AllocError) → IsPrefix answer n
-    → IfOk r (λ whole. (told : List ℕ) × TellsWhy g log a l n most told × (string_bytes whole ≡ answer_text l answer ++ told))
-    → IfOk r (λ whole. IsReport g log a l (Some most) answer (string_bytes whole))
-reported g log a l most n answer (Ok whole) is told = told_report g log a l most n answer (answer_text l answer) told.0 (string_bytes whole) is refl told.1 told.2
-reported g log a l most n answer (Err e) is told = tt
+pub reported : (g : Spec) (log : Log) (a : Asked) (l : Named) (why near : Option ℕ) (n : ℕ) (answer : Answer) (r : Result (String Global) AllocError) → IsPrefix answer n
+    → IfOk r (λ whole. IsToldBehind g log a l n why near (answer_text l answer) (string_bytes whole))
+    → IfOk r (λ whole. IsReport g log a l why near answer (string_bytes whole))
+reported g log a l why near n answer (Ok whole) is told = told_report g log a l why near n answer (string_bytes whole) is told
+reported g log a l why near n answer (Err e) is told = tt
 
-pub reported_alone : (g : Spec) (log : Log) (a : Asked) (l : Named) (most : ℕ) (answer : Answer) (r : Result (String Global) AllocError) → IsPlain answer
-    → IfOk r (λ whole. string_bytes whole ≡ answer_text l answer) → IfOk r (λ whole. IsReport g log a l (Some most) answer (string_bytes whole))
-reported_alone g log a l most answer (Ok whole) plain is = plain_report g log a l (Some most) answer (string_bytes whole) plain is
-reported_alone g log a l most answer (Err e) plain is = tt
+pub reported_alone : (g : Spec) (log : Log) (a : Asked) (l : Named) (why near : Option ℕ) (answer : Answer) (r : Result (String Global) AllocError) → IsPlain answer
+    → IfOk r (λ whole. string_bytes whole ≡ answer_text l answer) → IfOk r (λ whole. IsReport g log a l why near answer (string_bytes whole))
+reported_alone g log a l why near answer (Ok whole) plain is = plain_report g log a l why near answer (string_bytes whole) plain is
+reported_alone g log a l why near answer (Err e) plain is = tt
 
 pub ends_at : (g : Spec) (log : Log) (a : Asked) (n : ℕ) (answer : Answer) (last : List Values) → IsPrefix answer n → IsAnswer (system g log a) answer
     → AreLast (system g log a) answer last → EndsAt g log a n last

@@ -17,6 +17,11 @@ pub record EndsAt (g : Spec) (log : Log) (a : Asked) (n : ℕ) (last : List Valu
   pub none : (v : List Shown) → IsBehaviour (system g log a) (suc n) v → ⊥
   pub all : IsList (IsReached (system g log a) n) last
 
+-- some lines and then some silent steps reach it
+pub record IsReachedBySome (g : Spec) (log : Log) (a : Asked) (s : Values) : Type 0 where
+  pub lines : ℕ
+  pub reached : IsReached (system g log a) lines s
+
 -- the answer is that so many lines are explained and no more; or it is another one
 abbrev pub IsPrefix : Answer → ℕ → Type 0
 IsPrefix (NotExplained n of after w) prefix = prefix ≡ n

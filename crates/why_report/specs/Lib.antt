@@ -4,3 +4,4 @@ pub mod Reports
 pub mod Telling
 pub mod Ends
 pub mod Searched
+pub mod Within

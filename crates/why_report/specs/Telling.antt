@@ -1,4 +1,4 @@
--- For the prover: what is told of one entry, and of some.
+-- For the prover: what is told of one entry, of some, and behind a report.
 use Rattle.std.specs.Prelude.{◌≡◌, ℕ, ◌+◌, true, false, List, ◌++◌, length, Option, Some, None}
 use Rattle.tla_core.specs.States.{Values}
 use Rattle.tla_terms.specs.declared.spec.Spec.{Spec}
@@ -7,6 +7,7 @@ use Rattle.run_texts.specs.Answers.{Named}
 use Rattle.why_branches.specs.declared.why.Why.{Why}
 use Rattle.why_not.specs.Whys.{AreWhys}
 use Rattle.why_report.specs.Lines.{why_more}
+use Rattle.why_report.specs.Reports.{IsAsked}
 use Rattle.why_report.specs.Tells.{Tells, entry_lines}
 
 -- behind a text stands the entry with all its branches, and so many more may be told of; or with the first of them, and that there are more
@@ -19,6 +20,14 @@ pub record SoFar (g : Spec) (line : Line) (l : Named) (most : ℕ) (all : List V
   pub told : List ℕ
   pub stands : now ≡ old ++ told
   pub goes_on : (rest : List ℕ) → Tells g line l left behind rest → Tells g line l most all (told ++ rest)
+
+-- behind a text stands one of which this holds
+abbrev pub StandsBehind : (List ℕ → Type 0) → List ℕ → List ℕ → Type 0
+StandsBehind P old new = (told : List ℕ) × P told × (new ≡ old ++ told)
+
+-- behind a text stands what is told, where it is asked for
+abbrev pub GoesOn : Option ℕ → (ℕ → List ℕ → Type 0) → List ℕ → List ℕ → Type 0
+GoesOn asked Tells old new = StandsBehind (IsAsked asked Tells) old new
 
 -- behind a text it is told of these entries
 abbrev pub TellsBehind : Spec → Line → Named → ℕ → List Values → List ℕ → List ℕ → Type 0

@@ -1,4 +1,4 @@
--- Which entries are told of, which of their branches, and how many.
+-- Which entries are told of, which of their branches, and how many; and which near lines.
 use Rattle.std.specs.Prelude.{◌≡◌, ℕ, suc, ◌+◌, true, false, List, [], ◌∷◌, ◌++◌, length, Some, slice_get}
 use Rattle.std.specs.List.Sorted.{IsPermutation, IsSorted}
 use Rattle.tla_core.specs.States.{Values}
@@ -15,6 +15,7 @@ use Rattle.state_layers.specs.Gives.{IsReached}
 use Rattle.run_texts.specs.Answers.{Named}
 use Rattle.why_branches.specs.declared.why.Why.{Why}
 use Rattle.why_not.specs.Whys.{AreWhys}
+use Rattle.near_lines.specs.Tells.{TellsNear}
 use Rattle.why_report.specs.Lines.{entry_text, why_more, whys_text}
 
 -- the line of an entry, and those of its branches
@@ -45,6 +46,14 @@ pub record TellsWhy (g : Spec) (log : Log) (a : Asked) (l : Named) (n most : ℕ
   pub entries : List Values
   pub are : AreInOrder (IsReached (system g log a) n) entries
   pub told : Tells g line l most entries text
+
+-- The near lines of line n, over all that n lines and then some silent steps reach.
+pub record TellsNears (g : Spec) (log : Log) (a : Asked) (l : Named) (n most : ℕ) (text : List ℕ) : Type 0 where
+  pub line : Line
+  pub is_line : slice_get log.lines n ≡ Some line
+  pub entries : List Values
+  pub are : AreInOrder (IsReached (system g log a) n) entries
+  pub told : TellsNear g line l most entries text
 
 -- the line leads nowhere from the state, which it may not leave as it is
 pub record LeadsNowhere (g : Spec) (line : Line) (s : Values) : Type 0 where

@@ -1,8 +1,10 @@
-//! The report of an answer, with the lines that tell why no step of a line goes on.
+//! The report of an answer, with the lines that tell why no step of a line goes on, and with its near lines.
 #![tactic(auto)]
 
+mod behind;
 mod entries;
 mod lines;
 mod report;
+mod within;
 
-pub use report::whole_report;
+pub use report::{Wanted, whole_report};

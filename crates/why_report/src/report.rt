@@ -1,14 +1,15 @@
 //! The report of an answer.
 
-ghost use Rattle.std.specs.Prelude.{◌≡◌, ◌++◌, ◌<◌, IfOk, List, MatchOption, Some, length, slice_get, string_bytes, ℕ};
+ghost use Rattle.std.specs.Prelude.{◌≡◌, ◌<◌, IfOk, MatchOption, Some, length, slice_get, string_bytes};
 ghost use Rattle.ready_specs.specs.Beside.{IsReady, asked};
 ghost use Rattle.run_texts.specs.Answers.{answer_text, named};
 ghost use Rattle.why_report.specs.Ends.{EndsAt, IsPlain, IsPrefix};
-ghost use Rattle.why_report.specs.Reports.{IsReport};
+ghost use Rattle.why_report.specs.Reports.{IsReport, IsToldBehind};
 ghost use Rattle.why_report.specs.Searched.{IsSearched};
-ghost use Rattle.why_report.specs.Tells.{TellsWhy};
 
-use crate::entries::{Subject, push_entries};
+use crate::behind::{push_near, push_why};
+use crate::entries::Subject;
+use crate::within::push_within;
 use path_updates::{Line, Log};
 use run_texts::{Labels, answer_text};
 use spec_steps::SpecSteps;
@@ -17,22 +18,29 @@ use std::alloc::Global;
 use tla_core::State;
 use trace_base::NoMemory;
 
-/// The report of an answer; and behind it, where some of the lines are explained and not all, why the next one leads on from nothing that is reached,
-/// with at most so many branches.
+/// What is to be told behind the report of a log that is explained in part: why the next line leads on from nothing that is reached, with at most so many
+/// branches, and at most so many near lines, with whether one more silent step would reach more.
+#[derive(Clone, Copy, Drop)]
+pub struct Wanted {
+    pub why: Option<u32>,
+    pub near: Option<u32>,
+}
+
+/// The report of an answer; and behind it, where some of the lines are explained and not all, what is wanted of the next one.
 pub fn whole_report(
     alloc: Global,
     labels: &Labels<'_>,
     steps: &SpecSteps<'_>,
     searched: Searched<State>,
-    most: u32,
+    wanted: Wanted,
 ) -> Result<String, NoMemory>
     requires ready { IsReady steps.now.spec.now steps.now.log.now }
     requires searched { IsSearched steps.now.spec.now steps.now.log.now (asked steps.now.stutter steps.now.within steps.now.limit) searched.answer searched.last.items }
     ensures { IfOk result (λ report. IsReport steps.now.spec.now steps.now.log.now (asked steps.now.stutter steps.now.within steps.now.limit) (named labels.now)
-        (Some most) searched.answer (string_bytes report)) }
+        wanted.why wanted.near searched.answer (string_bytes report)) }
 {
     match prefix_of(&searched.answer) {
-        Some(prefix) => told_behind(alloc, labels, steps, searched, prefix, most),
+        Some(prefix) => told_behind(alloc, labels, steps, searched, prefix, wanted),
         None => told_alone(alloc, labels, searched),
     }
 }
@@ -65,19 +73,19 @@ fn told_alone(
     answer_text(alloc, labels, &searched.answer)
 }
 
-/// The report of the answer, and behind it why the line of that number leads on from none of the entries.
+/// The report of the answer, and behind it what is wanted of the line of that number.
 fn told_behind(
     alloc: Global,
     labels: &Labels<'_>,
     steps: &SpecSteps<'_>,
     searched: Searched<State>,
     number: u32,
-    most: u32,
+    wanted: Wanted,
 ) -> Result<String, NoMemory>
     requires ready { IsReady steps.now.spec.now steps.now.log.now }
     requires ends { EndsAt steps.now.spec.now steps.now.log.now (asked steps.now.stutter steps.now.within steps.now.limit) number searched.last.items }
-    ensures { IfOk result (λ whole. (told : List ℕ) × TellsWhy steps.now.spec.now steps.now.log.now (asked steps.now.stutter steps.now.within steps.now.limit)
-        (named labels.now) number most told × (string_bytes whole ≡ answer_text (named labels.now) searched.answer ++ told)) }
+    ensures { IfOk result (λ whole. IsToldBehind steps.now.spec.now steps.now.log.now (asked steps.now.stutter steps.now.within steps.now.limit)
+        (named labels.now) number wanted.why wanted.near (answer_text (named labels.now) searched.answer) (string_bytes whole)) }
 {
     let Searched { answer, last } = searched;
     let mut whole = answer_text(alloc, labels, &answer)?;
@@ -88,7 +96,9 @@ fn told_behind(
         spec: steps.spec,
         line: line_at(steps.log, number),
     };
-    push_entries(alloc, &mut whole, labels, subject, &entries, most)?;
+    push_why(alloc, &mut whole, labels, subject, &entries, wanted.why)?;
+    push_near(alloc, &mut whole, labels, subject, &entries, wanted.near)?;
+    push_within(alloc, &mut whole, steps, &entries, wanted.near)?;
     Ok(whole)
 }
 

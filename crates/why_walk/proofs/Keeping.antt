@@ -12,12 +12,12 @@ use Rattle.tla_actions.specs.declared.which.Which.TheVariants as which
 use Rattle.action_reads.specs.Filled.{Completes, at_next}
 use Rattle.found_states.proofs.Filling.{get_of_map}
 use Rattle.found_states.proofs.Lists.{all_in, in_right, place_by_all}
-use Rattle.why_branches.specs.Traces.{Earlier, Trace}
+use Rattle.why_branches.specs.Traces.{Earlier, End, SparedPart, Stood, Trace, added, ended, passed}
 use Rattle.why_branches.specs.Firsts.{Ascends}
 use Rattle.why_branches.proofs.Elements.{map_length}
 use Rattle.why_branches.proofs.FoundParts.{AllEarlier}
 use Rattle.why_branches.specs.declared.why.Ended.{Ended}
-use Rattle.why_walk.specs.Ends.{end_of, kept}
+use Rattle.why_walk.specs.Ends.{end_of, end_with, first_spared, kept, with_first}
 
 -- lists
 
@@ -54,17 +54,38 @@ reads_here ops which.Action c a p t k r = record { slots = r.slots; now = r.now;
 
 pub kept_append : (xs ys : List Trace) → kept (xs ++ ys) ≡ kept xs ++ kept ys
 kept_append [] ys = refl
-kept_append (x ∷ xs) ys = ap (λ (us : List Ended). end_of x.end ∷ us) (kept_append xs ys)
+kept_append (x ∷ xs) ys = ap (λ (us : List Ended). end_of x ∷ us) (kept_append xs ys)
 
-pub kept_map : (f : Trace → Trace) → ((x : Trace) → (f x).end ≡ x.end) → (xs : List Trace) → kept (map f xs) ≡ kept xs
+pub kept_map : (f : Trace → Trace) → ((x : Trace) → end_of (f x) ≡ end_of x) → (xs : List Trace) → kept (map f xs) ≡ kept xs
 kept_map f h [] = refl
-kept_map f h (x ∷ xs) = let e = ap end_of (h x) in let k = kept_map f h xs in λ i. e i ∷ k i
+kept_map f h (x ∷ xs) = let e = h x in let k = kept_map f h xs in λ i. e i ∷ k i
+
+-- with what was passed over before
+pub end_behind : (us ws : List SparedPart) (n : End) → end_with (us ++ ws) n ≡ with_first (first_spared us) (end_with ws n)
+end_behind [] ws n = refl
+end_behind (u ∷ us) ws (passed q) = refl
+end_behind (u ∷ us) ws (ended q s w) = refl
+
+pub kept_behind : (s : Stood) (y : Trace) (xs : List Trace) → kept (map (added s y) xs) ≡ map (with_first (first_spared y.spared)) (kept xs)
+kept_behind s y [] = refl
+kept_behind s y (x ∷ xs) = let e = end_behind y.spared x.spared x.end in let k = kept_behind s y xs in λ i. e i ∷ k i
+
+-- behind a branch in which nothing was passed over
+pub same_behind : (ns : List Ended) → map (with_first None) ns ≡ ns
+same_behind [] = refl
+same_behind (n ∷ ns) = ap (λ (us : List Ended). n ∷ us) (same_behind ns)
+
+-- and behind one that is kept where what follows passes over nothing more
+pub end_before : (us : List SparedPart) (n : End) → end_with (us ++ []) n ≡ end_with us n
+end_before [] n = refl
+end_before (u ∷ us) (passed q) = refl
+end_before (u ∷ us) (ended q s w) = refl
 
 pub kept_length : (xs : List Trace) (ends : List Ended) → kept xs ≡ ends → length xs ≡ length ends
-kept_length xs ends e = sym (map_length (λ (x : Trace). end_of x.end) xs) ∙ ap (λ (us : List Ended). length us) e
+kept_length xs ends e = sym (map_length end_of xs) ∙ ap (λ (us : List Ended). length us) e
 
 -- what is kept at an index is kept of what stands there
-pub kept_at : (xs : List Trace) (i : ℕ) (n : Ended) (rest : List Ended) → drop i (kept xs) ≡ n ∷ rest → (y : Trace) × (drop i xs ≡ y ∷ drop (i + 1) xs) × (end_of y.end ≡ n)
+pub kept_at : (xs : List Trace) (i : ℕ) (n : Ended) (rest : List Ended) → drop i (kept xs) ≡ n ∷ rest → (y : Trace) × (drop i xs ≡ y ∷ drop (i + 1) xs) × (end_of y ≡ n)
 kept_at [] zero n rest e = absurd (nothing n rest e)
   where
     nothing : (n : Ended) (rest : List Ended) → ◌≡◌ {A = List Ended} [] (n ∷ rest) → ⊥
@@ -73,7 +94,7 @@ kept_at [] (suc i) n rest e = absurd (nothing n rest e)
   where
     nothing : (n : Ended) (rest : List Ended) → ◌≡◌ {A = List Ended} [] (n ∷ rest) → ⊥
     nothing n rest e = cc
-kept_at (x ∷ xs) zero n rest e = (x, refl, first (end_of x.end) n (kept xs) rest e)
+kept_at (x ∷ xs) zero n rest e = (x, refl, first (end_of x) n (kept xs) rest e)
   where
     first : (a b : Ended) (us ws : List Ended) → a ∷ us ≡ b ∷ ws → a ≡ b
     first a b us ws e = cc

@@ -1,5 +1,6 @@
 pub mod Keeping
 pub mod Passing
+pub mod PassingOver
 pub mod Loops
 pub mod Combining
 pub mod Rows

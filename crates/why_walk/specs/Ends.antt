@@ -1,5 +1,5 @@
 -- The ends of single parts, as the walk keeps them.
-use Rattle.std.specs.Prelude.{◌≡◌, ◌⊎◌, ℕ, List, [], ◌∷◌, map, Bool, true, false, Some, Result, Ok, Err, slice_get, slice_set}
+use Rattle.std.specs.Prelude.{◌≡◌, ◌⊎◌, ℕ, List, [], ◌∷◌, map, Bool, true, false, Option, None, Some, Result, Ok, Err, slice_get, slice_set, if◌then◌else◌}
 use Rattle.trace_base.specs.declared.place.Place.{Place}
 use Rattle.tla_values.specs.Data.{Val}
 use Rattle.tla_values.specs.IsValue.{IsValue}
@@ -12,20 +12,43 @@ use Rattle.tla_eval.specs.declared.fault.EvalFault.TheVariants.{Refused, NoMemor
 use Rattle.tla_eval.specs.Contexts.{Places}
 use Rattle.tla_eval.specs.Sets.{list_at}
 use Rattle.step_filling.specs.Fillings.{IsEmpty}
-use Rattle.why_branches.specs.Traces.{End, Trace, ended, passed, why_at}
+use Rattle.tla_terms.specs.Terms.{Term, place_of}
+use Rattle.why_branches.specs.PassedOver.{may_spare}
+use Rattle.why_branches.specs.Traces.{End, SparedPart, Trace, ended, passed, why_at}
+use Rattle.why_branches.specs.declared.sparing.Spared.{Spared}
+use Rattle.why_branches.specs.declared.sparing.Sparing.{Sparing}
 use Rattle.why_branches.specs.Founds.{MembersFound}
 use Rattle.why_branches.specs.declared.why.Ended.{Ended}
 use Rattle.why_branches.specs.declared.why.Ended.TheVariants.{Ends, Passed}
 use Rattle.why_branches.specs.declared.why.WhyKind.{WhyKind}
 use Rattle.why_branches.specs.declared.why.WhyKind.TheVariants as why
 
+-- what is kept of the parts that were passed over: the first
+abbrev pub first_spared : List SparedPart → Option Spared
+first_spared [] = None
+first_spared (w ∷ ws) = Some w.told
+
 -- what is kept of a branch
-abbrev pub end_of : End → Ended
-end_of (passed q) = Passed q
-end_of (ended q s w) = Ends w
+
+abbrev pub end_with : List SparedPart → End → Ended
+end_with ws (passed q) = Passed q (first_spared ws)
+end_with ws (ended q s w) = Ends w
+
+abbrev pub end_of : Trace → Ended
+end_of x = end_with x.spared x.end
 
 abbrev pub kept : List Trace → List Ended
-kept xs = map (λ x. end_of x.end) xs
+kept xs = map end_of xs
+
+-- behind a branch in which this was passed over first, if anything was
+abbrev pub with_first : Option Spared → Ended → Ended
+with_first None n = n
+with_first (Some w) (Passed q o) = Passed q (Some w)
+with_first (Some w) (Ends v) = Ends v
+
+-- Of a part that does not hold, with these slots and the value that is wanted, if there is one: it is passed over where it may be, and else ends there.
+abbrev pub fail_end : Sparing → Places → List Val → Term → WhyKind → Option Val → Ended
+fail_end sp p vs a kind v = if may_spare sp.at a then Passed p (Some (record { why = why_at (place_of a) kind; call = sp.call; slots = vs; wanted = v })) else Ends (why_at (place_of a) kind)
 
 -- it ends with the fault that an evaluation has answered
 abbrev pub IsFaultEnd : EvalFault → Ended → Type 0
@@ -37,14 +60,14 @@ abbrev pub OrNoMember : Place → List Ended → List Ended → Type 0
 OrNoMember at [] all = all ≡ Ends (why_at at why.NoMember) ∷ []
 OrNoMember at (n ∷ ns) all = all ≡ n ∷ ns
 
--- gone through where the fact holds, and else ended at the place
-abbrev pub EndIf : Type 0 → Places → Place → WhyKind → Ended → Type 0
-EndIf P p at k n = (P × (n ≡ Passed p)) ⊎ (¬ P × (n ≡ Ends (why_at at k)))
+-- gone through where the fact holds, and else this
+abbrev pub EndIf : Type 0 → Places → Ended → Ended → Type 0
+EndIf P p m n = (P × (n ≡ Passed p None)) ⊎ (¬ P × (n ≡ m))
 
--- the variable x has the value v
-abbrev pub IsEquated : ℕ → Val → Place → Places → Ended → Type 0
-IsEquated x v at p n =
-    ((w : Val) × (slice_get p x ≡ Some (Some w)) × EndIf (w ≡ v) p at (why.Differs (record { 0 = x })) n) ⊎ (IsEmpty p x × IsValue v × (n ≡ Passed (slice_set p x (Some v))))
+-- the variable x has the value v, as the part says
+abbrev pub IsEquated : Sparing → List Val → Term → ℕ → Val → Places → Ended → Type 0
+IsEquated sp vs a x v p n =
+    ((w : Val) × (slice_get p x ≡ Some (Some w)) × EndIf (w ≡ v) p (fail_end sp p vs a (why.Differs (record { 0 = x })) (Some v)) n) ⊎ (IsEmpty p x × IsValue v × (n ≡ Passed (slice_set p x (Some v)) None))
 
 -- the variable x has one of the values: the first k ends
 abbrev pub IsMembers : ℕ → Places → ℕ → List Val → List Ended → Type 0
@@ -58,13 +81,14 @@ OfListed k x at p ends (Err f) = ends ≡ Ends (why_at f.at (why.Fault f.kind)) 
 abbrev pub IsListedEnds : ℕ → ℕ → Described → Place → Place → Places → List Ended → Type 0
 IsListedEnds k x S set_at at p ends = (r : Result Val Fault) × list_at set_at S r × OfListed k x at p ends r
 
--- the variable x has a member of the set S
-abbrev pub IsChosen : ℕ → ℕ → Described → Place → Place → Places → List Ended → Type 0
-IsChosen k x S set_at at p ends =
-    ((w : Val) × (slice_get p x ≡ Some (Some w)) × ((n : Ended) × EndIf (Belongs S w) p at (why.NotIn (record { 0 = x })) n × (ends ≡ n ∷ []))) ⊎ (IsEmpty p x × IsListedEnds k x S set_at at p ends)
+-- the variable x has a member of the set S, as the part says
+abbrev pub IsChosen : ℕ → Sparing → List Val → Term → ℕ → Described → Place → Places → List Ended → Type 0
+IsChosen k sp vs a x S set_at p ends =
+    ((w : Val) × (slice_get p x ≡ Some (Some w)) × ((n : Ended) × EndIf (Belongs S w) p (fail_end sp p vs a (why.NotIn (record { 0 = x })) None) n × (ends ≡ n ∷ [])))
+    ⊎ (IsEmpty p x × IsListedEnds k x S set_at (place_of a) p ends)
 
--- a truth value or a fault, of a test in the places, which stands at the place: for this reason where it is false
-abbrev pub OfTruth : Places → Place → WhyKind → Result Bool Fault → Ended → Type 0
-OfTruth p at k (Ok true) n = n ≡ Passed p
-OfTruth p at k (Ok false) n = n ≡ Ends (why_at at k)
-OfTruth p at k (Err f) n = n ≡ Ends (why_at f.at (why.Fault f.kind))
+-- a truth value or a fault of a test: the one end where it is true, the other where it is false
+abbrev pub OfTruth : Ended → Ended → Result Bool Fault → Ended → Type 0
+OfTruth there lacking (Ok true) n = n ≡ there
+OfTruth there lacking (Ok false) n = n ≡ lacking
+OfTruth there lacking (Err f) n = n ≡ Ends (why_at f.at (why.Fault f.kind))

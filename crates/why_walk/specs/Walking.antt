@@ -1,5 +1,5 @@
 -- What the functions of the walk rest on, and what they list.
-use Rattle.std.specs.Prelude.{◌≡◌, ◌≤◌, ℕ, Bool, List, [], ◌∷◌, map, length, Contains, Result, Some, slice_get}
+use Rattle.std.specs.Prelude.{◌≡◌, ◌≤◌, ℕ, Bool, List, Option, [], ◌∷◌, map, length, Contains, Result, Some, slice_get}
 use Rattle.tla_values.specs.Data.{Val}
 use Rattle.tla_core.specs.States.{Values}
 use Rattle.tla_core.specs.declared.fault.Fault.{Fault}
@@ -20,9 +20,11 @@ use Rattle.found_states.specs.Parts.{FixesAll, GroundsAll, Leads, Parts}
 use Rattle.action_rows.specs.Rows.{before, part_term, setting}
 use Rattle.action_rows.specs.declared.part.Part.{Part}
 use Rattle.action_rows.specs.declared.stage.Stage.{Stage}
-use Rattle.why_branches.specs.Traces.{Trace}
+use Rattle.why_branches.specs.Traces.{Trace, why_at}
 use Rattle.why_branches.specs.Firsts.{Ascends}
 use Rattle.why_branches.specs.Founds.{After, ArmsFound, EachFound, FoundOf, TurnsFound}
+use Rattle.why_branches.specs.declared.sparing.Spared.{Spared}
+use Rattle.why_branches.specs.declared.sparing.Sparing.{Sparing}
 use Rattle.why_branches.specs.declared.why.Ended.{Ended}
 use Rattle.why_branches.specs.declared.why.Ended.TheVariants.{Ends, Passed}
 use Rattle.why_branches.specs.declared.why.WhyKind.TheVariants.{NoMember}
@@ -38,12 +40,12 @@ WhyGrounded g d c a p = ((B : VariableSet) × Grounds g d [] B p c a) × IsPossi
 
 -- What is filled at each end that was gone through: further than the places, some state still completes it, and it is what is fixed.
 pub record Passes (p : Places) (fixes : VariableSet → Type 0) (ends : List Ended) : Type 0 where
-  pub further : (q : Places) → Contains ends (Passed q) → (length q ≡ length p) × IsWithin p q × StaysPossible p q
-  pub filled : (q : Places) (C : VariableSet) → Contains ends (Passed q) → fixes C → Fills C q
+  pub further : (q : Places) (o : Option Spared) → Contains ends (Passed q o) → (length q ≡ length p) × IsWithin p q × StaysPossible p q
+  pub filled : (q : Places) (o : Option Spared) (C : VariableSet) → Contains ends (Passed q o) → fixes C → Fills C q
 
 -- The first k branches of the term, in their order, each with its end; and what is filled at those that were gone through.
-pub record IsListed (g : Setting) (k d : ℕ) (c : Context) (a : Term) (p : Places) (ends : List Ended) : Type 0 where
-  pub found : (xs : List Trace) × FoundOf g k d c a p xs × (kept xs ≡ ends)
+pub record IsListed (g : Setting) (sp : Sparing) (k d : ℕ) (c : Context) (a : Term) (p : Places) (ends : List Ended) : Type 0 where
+  pub found : (xs : List Trace) × FoundOf g sp k d c a p xs × (kept xs ≡ ends)
   pub passes : (B : VariableSet) → Grounds g d [] B p c a → Passes p (Fixes g a B) ends
 
 -- of a stage, with these slots
@@ -51,15 +53,15 @@ pub record IsListed (g : Setting) (k d : ℕ) (c : Context) (a : Term) (p : Plac
 abbrev pub PartGrounded : Stage → List Val → ℕ → Places → Part → Type 0
 PartGrounded s vs d p q = WhyGrounded (setting s) d (before s vs) (part_term q) p
 
-abbrev pub PartListed : Stage → List Val → ℕ → ℕ → Places → Part → List Ended → Type 0
-PartListed s vs k d p q ends = IsListed (setting s) k d (before s vs) (part_term q) p ends
+abbrev pub PartListed : Stage → Sparing → List Val → ℕ → ℕ → Places → Part → List Ended → Type 0
+PartListed s sp vs k d p q ends = IsListed (setting s) sp k d (before s vs) (part_term q) p ends
 
 abbrev pub IsForm : Stage → List Val → Part → Form → Type 0
 IsForm s vs q f = f ≡ form (setting s) (length vs) (part_term q)
 
 -- one end, however many there may be
-abbrev pub LeafListed : Stage → List Val → ℕ → Places → Part → List Ended → Type 0
-LeafListed s vs d p q ends = (k : ℕ) → 1 ≤ k → PartListed s vs k d p q ends
+abbrev pub LeafListed : Stage → Sparing → List Val → ℕ → Places → Part → List Ended → Type 0
+LeafListed s sp vs d p q ends = (k : ℕ) → 1 ≤ k → PartListed s sp vs k d p q ends
 
 abbrev pub parts_of : Context → List Part → Parts
 parts_of c qs = map (λ q. (c, part_term q)) qs
@@ -69,14 +71,14 @@ parts_of c qs = map (λ q. (c, part_term q)) qs
 abbrev pub AllGrounded : Setting → ℕ → Places → Parts → Type 0
 AllGrounded g d p es = ((B : VariableSet) × GroundsAll g d [] B p es × ((C : VariableSet) × FixesAll g es B C)) × IsPossible p
 
-pub record AllListed (g : Setting) (k d : ℕ) (p : Places) (es : Parts) (ends : List Ended) : Type 0 where
-  pub found : (xs : List Trace) × TurnsFound g d k p es xs × (kept xs ≡ ends)
+pub record AllListed (g : Setting) (sp : Sparing) (k d : ℕ) (p : Places) (es : Parts) (ends : List Ended) : Type 0 where
+  pub found : (xs : List Trace) × TurnsFound g sp d k p es xs × (kept xs ≡ ends)
   pub passes : (B C : VariableSet) → GroundsAll g d [] B p es → FixesAll g es B C → Passes p (FixesAll g es B) ends
 
 -- one part more, behind each of several branches
 
 abbrev pub EndGrounded : Setting → ℕ → Context × Term → Ended → Type 0
-EndGrounded g d e (Passed q) = WhyGrounded g d e.0 e.1 q
+EndGrounded g d e (Passed q o) = WhyGrounded g d e.0 e.1 q
 EndGrounded g d e (Ends w) = Unit {0}
 
 abbrev pub EndsGrounded : Setting → ℕ → Context × Term → List Ended → Type 0
@@ -84,20 +86,20 @@ EndsGrounded g d e ends = (n : Ended) → Contains ends n → EndGrounded g d e 
 
 -- what is filled then is filled further than at one of the ends before
 pub record PassesOn (old : List Ended) (fixes : VariableSet → Type 0) (new : List Ended) : Type 0 where
-  pub further : (q : Places) → Contains new (Passed q) → (p : Places) × Contains old (Passed p) × (length q ≡ length p) × IsWithin p q × StaysPossible p q
-  pub filled : (q : Places) (C : VariableSet) → Contains new (Passed q) → fixes C → Fills C q
+  pub further : (q : Places) (o : Option Spared) → Contains new (Passed q o) → (p : Places) × (u : Option Spared) × Contains old (Passed p u) × (length q ≡ length p) × IsWithin p q × StaysPossible p q
+  pub filled : (q : Places) (o : Option Spared) (C : VariableSet) → Contains new (Passed q o) → fixes C → Fills C q
 
 abbrev pub EndGrounds : Setting → ℕ → VariableSet → Context × Term → Ended → Type 0
-EndGrounds g d B e (Passed q) = Grounds g d [] B q e.0 e.1
+EndGrounds g d B e (Passed q o) = Grounds g d [] B q e.0 e.1
 EndGrounds g d B e (Ends w) = Unit {0}
 
-pub record IsOnward (g : Setting) (k d : ℕ) (e : Context × Term) (old new : List Ended) : Type 0 where
-  pub found : (xs : List Trace) → Ascends xs → kept xs ≡ old → (ys : List Trace) × EachFound g d k e xs ys × (kept ys ≡ new)
+pub record IsOnward (g : Setting) (sp : Sparing) (k d : ℕ) (e : Context × Term) (old new : List Ended) : Type 0 where
+  pub found : (xs : List Trace) → Ascends xs → kept xs ≡ old → (ys : List Trace) × EachFound g sp d k e xs ys × (kept ys ≡ new)
   pub passes : (B : VariableSet) → ((n : Ended) → Contains old n → EndGrounds g d B e n) → PassesOn old (Fixes g e.1 B) new
 
 -- behind one branch
-pub record IsAfter (g : Setting) (k d : ℕ) (e : Context × Term) (n : Ended) (new : List Ended) : Type 0 where
-  pub found : (y : Trace) → end_of y.end ≡ n → (zs : List Trace) × After g d k e y zs × (kept zs ≡ new)
+pub record IsAfter (g : Setting) (sp : Sparing) (k d : ℕ) (e : Context × Term) (n : Ended) (new : List Ended) : Type 0 where
+  pub found : (y : Trace) → end_of y ≡ n → (zs : List Trace) × After g sp d k e y zs × (kept zs ≡ new)
   pub passes : (B : VariableSet) → EndGrounds g d B e n → PassesOn (n ∷ []) (Fixes g e.1 B) new
 
 -- one of several parts
@@ -105,8 +107,8 @@ pub record IsAfter (g : Setting) (k d : ℕ) (e : Context × Term) (n : Ended) (
 abbrev pub AnyGrounded : Setting → ℕ → Places → Parts → Type 0
 AnyGrounded g d p es = (e : Context × Term) → Contains es e → WhyGrounded g d e.0 e.1 p
 
-pub record AnyListed (g : Setting) (k d : ℕ) (p : Places) (es : Parts) (ends : List Ended) : Type 0 where
-  pub found : (xs : List Trace) × ArmsFound g d k p es xs × (kept xs ≡ ends)
+pub record AnyListed (g : Setting) (sp : Sparing) (k d : ℕ) (p : Places) (es : Parts) (ends : List Ended) : Type 0 where
+  pub found : (xs : List Trace) × ArmsFound g sp d k p es xs × (kept xs ≡ ends)
   pub passes : (B : VariableSet) (a : Term) → ((e : Context × Term) → Contains es e → Grounds g d [] B p e.0 e.1) → ((e : Context × Term) → Contains es e → Leads g B a e.1) → Passes p (Fixes g a B) ends
 
 -- the same term under each of the combinations
@@ -118,17 +120,17 @@ under c e all = map (λ chosen. (bind c chosen, e)) all
 abbrev pub BodyGrounded : Setting → ℕ → Context → ℕ → List Val → Places → Type 0
 BodyGrounded g d c k vs p = (o : Operator) × (slice_get g.table k ≡ Some o) × (o.outer ≤ length c.slots) × WhyGrounded g d (enter o vs c) o.body p
 
-abbrev pub BodyListed : Setting → ℕ → ℕ → Context → ℕ → List Val → Places → List Ended → Type 0
-BodyListed g k d c j vs p ends = (o : Operator) → slice_get g.table j ≡ Some o → IsListed g k d (enter o vs c) o.body p ends
+abbrev pub BodyListed : Setting → Sparing → ℕ → ℕ → Context → ℕ → List Val → Places → List Ended → Type 0
+BodyListed g sp k d c j vs p ends = (o : Operator) → slice_get g.table j ≡ Some o → IsListed g sp k d (enter o vs c) o.body p ends
 
 -- a test, which is no part of the text, behind each of several branches
 
 abbrev pub EndReads : Setting → ℕ → Context → Term → Ended → Type 0
-EndReads g d c a (Passed q) = Reads g.table d (at_next g.which c q) a
+EndReads g d c a (Passed q o) = Reads g.table d (at_next g.which c q) a
 EndReads g d c a (Ends w) = Unit {0}
 
 abbrev pub EndAltered : Setting → ℕ → Context → Term → Ended → Ended → Type 0
-EndAltered g d c a (Passed q) n = (r : Result Bool Fault) × TruthOf (Evaluates g.table d) (at_next g.which c q) a r × OfTruth q (place_of a) NoMember r n
+EndAltered g d c a (Passed q o) n = (r : Result Bool Fault) × TruthOf (Evaluates g.table d) (at_next g.which c q) a r × OfTruth (Passed q o) (Ends (why_at (place_of a) NoMember)) r n
 EndAltered g d c a (Ends w) n = n ≡ Ends w
 
 abbrev pub EndsAltered : Setting → ℕ → Context → Term → List Ended → List Ended → Type 0

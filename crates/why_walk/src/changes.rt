@@ -6,7 +6,7 @@ ghost use Rattle.action_rows.specs.Rows.{before, setting};
 ghost use Rattle.why_branches.specs.declared.why.Ended.TheVariants.{Passed};
 ghost use Rattle.why_walk.specs.Walking.{EndAltered, EndReads, EndsAltered, EndsRead};
 
-use crate::ends::{fault_end, passed_if};
+use crate::ends::{ends_at, fault_end};
 use action_rows::Stage;
 use action_values::{changed_truth, scene_at};
 use std::alloc::Global;
@@ -14,7 +14,7 @@ use tla_core::Partial;
 use tla_terms::Term;
 use tla_values::Value;
 use trace_base::{NoMemory, Place};
-use why_branches::{Ended, WhyKind};
+use why_branches::{Ended, Spared, WhyKind};
 
 /// Of each branch, that the value of a term changes.
 pub fn altered_ends(
@@ -53,12 +53,14 @@ fn altered_end(
     ensures { IfOk result (EndAltered (setting stage.entry) depth (before stage.entry (map (λ v. v.now) slots.now)) (changed_of at term.now) end) }
 {
     match end {
-        Ended::Passed(places) => changed_end(alloc, stage, slots, depth, at, places, term),
+        Ended::Passed(places, spared) => {
+            changed_end(alloc, stage, slots, depth, at, places, spared, term)
+        }
         Ended::Ends(why) => Ok(Ended::Ends(why)),
     }
 }
 
-/// The same in these places.
+/// The same in these places, where this was passed over first, if anything was.
 fn changed_end(
     alloc: Global,
     stage: Stage<'_>,
@@ -66,13 +68,15 @@ fn changed_end(
     depth: u32,
     at: Place,
     places: Partial,
+    spared: Option<Spared>,
     term: &Term,
 ) -> Result<Ended, NoMemory>
-    requires { EndReads (setting stage) depth (before stage (map (λ v. v.now) slots.now)) (changed_of at term.now) (Passed places) }
-    ensures { IfOk result (EndAltered (setting stage.entry) depth (before stage.entry (map (λ v. v.now) slots.now)) (changed_of at term.now) (Passed places)) }
+    requires { EndReads (setting stage) depth (before stage (map (λ v. v.now) slots.now)) (changed_of at term.now) (Passed places spared) }
+    ensures { IfOk result (EndAltered (setting stage.entry) depth (before stage.entry (map (λ v. v.now) slots.now)) (changed_of at term.now) (Passed places spared)) }
 {
     match changed_truth(alloc, scene_at(stage, slots, &places), depth, at, term) {
-        Ok(holds) => Ok(passed_if(holds, places, at, WhyKind::NoMember)),
+        Ok(true) => Ok(Ended::Passed(places, spared)),
+        Ok(false) => Ok(ends_at(at, WhyKind::NoMember)),
         Err(fault) => fault_end(fault),
     }
 }

@@ -1,12 +1,11 @@
 //! Ends of branches, and lists of them.
 
-ghost use Rattle.std.specs.Prelude.{◌≡◌, ◌++◌, ◌∷◌, [], IfOk, OnOk, if◌then◌else◌};
+ghost use Rattle.std.specs.Prelude.{◌≡◌, ◌++◌, ◌∷◌, [], IfOk, OnOk};
 ghost use Rattle.why_branches.specs.Traces.{why_at};
-ghost use Rattle.why_branches.specs.declared.why.Ended.TheVariants.{Ends, Passed};
+ghost use Rattle.why_branches.specs.declared.why.Ended.TheVariants.{Ends};
 ghost use Rattle.why_walk.specs.Ends.{IsFaultEnd, OrNoMember};
 
 use std::alloc::{AllocError, Global};
-use tla_core::Partial;
 use tla_eval::EvalFault;
 use trace_base::{NoMemory, Place};
 use why_branches::{Ended, Why, WhyKind};
@@ -19,16 +18,6 @@ pub fn ends_at(at: Place, reason: WhyKind) -> Ended
         at: Some(at),
         reason,
     })
-}
-
-/// It is gone through where it holds, and else ends at the place, for the reason.
-pub fn passed_if(holds: bool, places: Partial, at: Place, reason: WhyKind) -> Ended
-    ensures { result ≡ (if holds then Passed places else Ends (why_at at reason)) }
-{
-    if holds {
-        return Ended::Passed(places);
-    }
-    ends_at(at, reason)
 }
 
 /// It ends with the fault of an evaluation; want of memory is none.

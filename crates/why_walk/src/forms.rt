@@ -6,36 +6,37 @@ ghost use Rattle.tla_terms.specs.Terms.{place_of};
 ghost use Rattle.tla_eval.specs.Binders.{combinations, ranges};
 ghost use Rattle.tla_eval.specs.Contexts.{bind};
 ghost use Rattle.tla_eval.specs.Unchanged.{unchanged_of};
-ghost use Rattle.tla_actions.specs.Forms.{arms, assign, both, branch, call, changing, choose, either, inside, narrowed, some, test};
+ghost use Rattle.tla_actions.specs.Forms.{arms, both, branch, call, changing, either, inside, narrowed, some};
 ghost use Rattle.eval_parts.specs.BoundSets.{bound_members};
-ghost use Rattle.eval_parts.specs.Following.{variable_at};
 ghost use Rattle.eval_parts.specs.Walks.{AreWithin, at_places};
 ghost use Rattle.action_rows.specs.Rows.{before, form_of, part_term, setting};
-ghost use Rattle.why_walk.specs.Walking.{AllGrounded, AllListed, AnyGrounded, AnyListed, BodyGrounded, BodyListed, EndGrounded, EndsGrounded, IsAfter, IsForm, IsListed, IsOnward, LeafListed, PartGrounded, PartListed, WhyGrounded, parts_of, under};
+ghost use Rattle.why_walk.specs.Walking.{AllGrounded, AllListed, AnyGrounded, AnyListed, BodyGrounded, BodyListed, EndGrounded, EndsGrounded, IsAfter, IsForm, IsListed, IsOnward, PartGrounded, PartListed, WhyGrounded, parts_of, under};
 
 use crate::changes::altered_ends;
-use crate::ends::{append, ends_at, fault_end, one_end, or_no_member, passed_if};
-use crate::leaves::{chosen_ends, equated_end};
+use crate::ends::{append, ends_at, fault_end, one_end, or_no_member};
+use crate::failing::behind;
 use crate::lists::outermost;
+use crate::single::{walk_assign, walk_choose, walk_keep, walk_test};
 use action_rows::{Part, Row, Stage, part_place, plain_parts, row_of, unchanged_parts};
-use action_values::{chosen_arm, kept_value, part_truth, scene_at};
+use action_values::{chosen_arm, scene_at};
 use eval_parts::{
     BoundSet, advance, definition, has_combination, member_lists, slots_and, slots_with, start,
 };
-use evaluator::{describe_set, eval, eval_bounds, eval_each, eval_truth};
+use evaluator::{eval_bounds, eval_each, eval_truth};
 use std::alloc::Global;
-use tla_core::{Partial, VarId};
+use tla_core::Partial;
 use tla_terms::{Arms, Bounds, DefId, Term, Terms};
 use tla_values::{EvalKind, Value};
 use trace_base::NoMemory;
-use why_branches::{Ended, WhyKind};
+use why_branches::{Ended, Sparing, WhyKind};
 
 /// The first branches of the term from the places, at most `room` of them, where at most `depth` evaluations stand inside one another: where each was
-/// gone through, what is filled then, or why it ends. What is seen of the next state counts for nothing.
+/// gone through, what is filled then and what was passed over first, or why it ends. What is seen of the next state counts for nothing.
 pub fn walk(
     alloc: Global,
     stage: Stage<'_>,
     slots: &[&Value],
+    sparing: Sparing,
     depth: u32,
     room: usize,
     places: Partial,
@@ -43,9 +44,18 @@ pub fn walk(
 ) -> Result<Vec<Ended>, NoMemory>
     requires room { 1 ≤ room }
     requires grounds { WhyGrounded (setting stage) depth (before stage (map (λ v. v.now) slots.now)) term.now places }
-    ensures { IfOk result (λ ends. IsListed (setting stage.entry) room depth (before stage.entry (map (λ v. v.now) slots.now)) term.now places ends.items) }
+    ensures { IfOk result (λ ends. IsListed (setting stage.entry) sparing room depth (before stage.entry (map (λ v. v.now) slots.now)) term.now places ends.items) }
 {
-    walk_part(alloc, stage, slots, depth, room, places, Part::Plain(term))
+    walk_part(
+        alloc,
+        stage,
+        slots,
+        sparing,
+        depth,
+        room,
+        places,
+        Part::Plain(term),
+    )
 }
 
 /// One term more, behind each of these branches: where one was gone through stands what comes of it, at most `room` in all.
@@ -53,6 +63,7 @@ pub fn walk_further(
     alloc: Global,
     stage: Stage<'_>,
     slots: &[&Value],
+    sparing: Sparing,
     depth: u32,
     room: usize,
     found: Vec<Ended>,
@@ -60,9 +71,18 @@ pub fn walk_further(
 ) -> Result<Vec<Ended>, NoMemory>
     requires room { 1 ≤ room }
     requires grounds { EndsGrounded (setting stage) depth (before stage (map (λ v. v.now) slots.now), term.now) found.items }
-    ensures { IfOk result (λ ends. IsOnward (setting stage.entry) room depth (before stage.entry (map (λ v. v.now) slots.now), term.now) found.items ends.items) }
+    ensures { IfOk result (λ ends. IsOnward (setting stage.entry) sparing room depth (before stage.entry (map (λ v. v.now) slots.now), term.now) found.items ends.items) }
 {
-    walk_on(alloc, stage, slots, depth, room, found, Part::Plain(term))
+    walk_on(
+        alloc,
+        stage,
+        slots,
+        sparing,
+        depth,
+        room,
+        found,
+        Part::Plain(term),
+    )
 }
 
 /// The same of a part.
@@ -71,6 +91,7 @@ fn walk_part(
     alloc: Global,
     stage: Stage<'_>,
     slots: &[&Value],
+    sparing: Sparing,
     depth: u32,
     room: usize,
     places: Partial,
@@ -78,7 +99,7 @@ fn walk_part(
 ) -> Result<Vec<Ended>, NoMemory>
     requires room { 1 ≤ room }
     requires grounds { PartGrounded stage (map (λ v. v.now) slots.now) depth places part }
-    ensures { IfOk result (λ ends. PartListed stage.entry (map (λ v. v.now) slots.now) room depth places part.entry ends.items) }
+    ensures { IfOk result (λ ends. PartListed stage.entry sparing (map (λ v. v.now) slots.now) room depth places part.entry ends.items) }
 {
     if depth == 0 {
         return one_end(
@@ -87,7 +108,17 @@ fn walk_part(
         );
     }
     let row = row_of(stage, slots.len(), part);
-    walk_row(alloc, stage, slots, depth - 1, room, places, part, row)
+    walk_row(
+        alloc,
+        stage,
+        slots,
+        sparing,
+        depth - 1,
+        room,
+        places,
+        part,
+        row,
+    )
 }
 
 /// The same by the form of the part, whose own parts have `depth` evaluations.
@@ -96,6 +127,7 @@ fn walk_row(
     alloc: Global,
     stage: Stage<'_>,
     slots: &[&Value],
+    sparing: Sparing,
     depth: u32,
     room: usize,
     places: Partial,
@@ -106,158 +138,64 @@ fn walk_row(
     requires room { 1 ≤ room }
     requires row { IsForm stage (map (λ v. v.now) slots.now) part (form_of (place_of (part_term part)) row) }
     requires grounds { PartGrounded stage (map (λ v. v.now) slots.now) (suc depth) places part }
-    ensures { IfOk result (λ ends. PartListed stage.entry (map (λ v. v.now) slots.now) room (suc depth) places part.entry ends.items) }
+    ensures { IfOk result (λ ends. PartListed stage.entry sparing (map (λ v. v.now) slots.now) room (suc depth) places part.entry ends.items) }
 {
     match row {
-        Row::Test => walk_test(alloc, stage, slots, depth, places, part),
+        Row::Test => walk_test(alloc, stage, slots, sparing, depth, places, part),
         Row::Assign(number, term) => {
-            walk_assign(alloc, stage, slots, depth, places, part, number, term)
+            walk_assign(
+                alloc, stage, slots, sparing, depth, places, part, number, term,
+            )
         }
-        Row::Keep(number) => walk_keep(alloc, stage, slots, depth, places, part, number),
+        Row::Keep(number) => walk_keep(alloc, stage, slots, sparing, depth, places, part, number),
         Row::Choose(number, term) => {
-            walk_choose(alloc, stage, slots, depth, room, places, part, number, term)
+            walk_choose(
+                alloc, stage, slots, sparing, depth, room, places, part, number, term,
+            )
         }
-        Row::Both(terms) => walk_both(alloc, stage, slots, depth, room, places, part, terms),
+        Row::Both(terms) => walk_both(
+            alloc, stage, slots, sparing, depth, room, places, part, terms,
+        ),
         Row::Unchanged(kept, terms) => {
-            walk_unchanged(alloc, stage, slots, depth, room, places, part, kept, terms)
+            walk_unchanged(
+                alloc, stage, slots, sparing, depth, room, places, part, kept, terms,
+            )
         }
-        Row::Either(terms) => walk_either(alloc, stage, slots, depth, room, places, part, terms),
+        Row::Either(terms) => walk_either(
+            alloc, stage, slots, sparing, depth, room, places, part, terms,
+        ),
         Row::Boxed(action, subscript) => {
             walk_boxed(
-                alloc, stage, slots, depth, room, places, part, action, subscript,
+                alloc, stage, slots, sparing, depth, room, places, part, action, subscript,
             )
         }
         Row::Angled(action, subscript) => {
             walk_angled(
-                alloc, stage, slots, depth, room, places, part, action, subscript,
+                alloc, stage, slots, sparing, depth, room, places, part, action, subscript,
             )
         }
         Row::Exists(bounds, body) => {
-            walk_exists(alloc, stage, slots, depth, room, places, part, bounds, body)
+            walk_exists(
+                alloc, stage, slots, sparing, depth, room, places, part, bounds, body,
+            )
         }
         Row::Branch(test, holds, other) => {
             walk_branch(
-                alloc, stage, slots, depth, room, places, part, test, holds, other,
+                alloc, stage, slots, sparing, depth, room, places, part, test, holds, other,
             )
         }
         Row::Case(arms, other) => {
-            walk_case(alloc, stage, slots, depth, room, places, part, arms, other)
-        }
-        Row::Inside(inner) => walk_inside(alloc, stage, slots, depth, room, places, part, inner),
-        Row::Call(number, arguments) => {
-            walk_call(
-                alloc, stage, slots, depth, room, places, part, number, arguments,
+            walk_case(
+                alloc, stage, slots, sparing, depth, room, places, part, arms, other,
             )
         }
-    }
-}
-
-/// A part that is a test.
-fn walk_test(
-    alloc: Global,
-    stage: Stage<'_>,
-    slots: &[&Value],
-    depth: u32,
-    places: Partial,
-    part: Part<'_>,
-) -> Result<Vec<Ended>, NoMemory>
-    requires few { depth < 4294967295 }
-    requires form { IsForm stage (map (λ v. v.now) slots.now) part (test) }
-    requires grounds { PartGrounded stage (map (λ v. v.now) slots.now) (suc depth) places part }
-    ensures { IfOk result (λ ends. LeafListed stage.entry (map (λ v. v.now) slots.now) (suc depth) places part.entry ends.items) }
-{
-    match part_truth(alloc, scene_at(stage, slots, &places), depth + 1, part) {
-        Ok(holds) => one_end(
-            alloc,
-            passed_if(holds, places, part_place(part), WhyKind::TestFalse),
+        Row::Inside(inner) => walk_inside(
+            alloc, stage, slots, sparing, depth, room, places, part, inner,
         ),
-        Err(fault) => {
-            let end = fault_end(fault)?;
-            one_end(alloc, end)
-        }
-    }
-}
-
-/// A variable that has the value of a term.
-fn walk_assign(
-    alloc: Global,
-    stage: Stage<'_>,
-    slots: &[&Value],
-    depth: u32,
-    places: Partial,
-    part: Part<'_>,
-    number: VarId,
-    term: &Term,
-) -> Result<Vec<Ended>, NoMemory>
-    requires form { IsForm stage (map (λ v. v.now) slots.now) part (assign number.0 term.now) }
-    requires grounds { PartGrounded stage (map (λ v. v.now) slots.now) (suc depth) places part }
-    ensures { IfOk result (λ ends. LeafListed stage.entry (map (λ v. v.now) slots.now) (suc depth) places part.entry ends.items) }
-{
-    match eval(alloc, scene_at(stage, slots, &places), depth, term) {
-        Ok(value) => {
-            let end = equated_end(places, number, value, part_place(part))?;
-            one_end(alloc, end)
-        }
-        Err(fault) => {
-            let end = fault_end(fault)?;
-            one_end(alloc, end)
-        }
-    }
-}
-
-/// A variable that keeps its value.
-fn walk_keep(
-    alloc: Global,
-    stage: Stage<'_>,
-    slots: &[&Value],
-    depth: u32,
-    places: Partial,
-    part: Part<'_>,
-    number: VarId,
-) -> Result<Vec<Ended>, NoMemory>
-    requires form { IsForm stage (map (λ v. v.now) slots.now) part (assign number.0 (variable_at (place_of (part_term part)) number.0)) }
-    requires grounds { PartGrounded stage (map (λ v. v.now) slots.now) (suc depth) places part }
-    ensures { IfOk result (λ ends. LeafListed stage.entry (map (λ v. v.now) slots.now) (suc depth) places part.entry ends.items) }
-{
-    match kept_value(
-        scene_at(stage, slots, &places),
-        depth,
-        part_place(part),
-        number,
-    ) {
-        Ok(value) => {
-            let end = equated_end(places, number, value, part_place(part))?;
-            one_end(alloc, end)
-        }
-        Err(fault) => {
-            let end = fault_end(fault)?;
-            one_end(alloc, end)
-        }
-    }
-}
-
-/// A variable whose value is a member of the set that a term means.
-fn walk_choose(
-    alloc: Global,
-    stage: Stage<'_>,
-    slots: &[&Value],
-    depth: u32,
-    room: usize,
-    places: Partial,
-    part: Part<'_>,
-    number: VarId,
-    term: &Term,
-) -> Result<Vec<Ended>, NoMemory>
-    requires room { 1 ≤ room }
-    requires form { IsForm stage (map (λ v. v.now) slots.now) part (choose number.0 term.now) }
-    requires grounds { PartGrounded stage (map (λ v. v.now) slots.now) (suc depth) places part }
-    ensures { IfOk result (λ ends. PartListed stage.entry (map (λ v. v.now) slots.now) room (suc depth) places part.entry ends.items) }
-{
-    match describe_set(alloc, scene_at(stage, slots, &places), depth, term) {
-        Ok(set) => chosen_ends(alloc, room, places, number, set, term.at, part_place(part)),
-        Err(fault) => {
-            let end = fault_end(fault)?;
-            one_end(alloc, end)
+        Row::Call(number, arguments) => {
+            walk_call(
+                alloc, stage, slots, sparing, depth, room, places, part, number, arguments,
+            )
         }
     }
 }
@@ -268,6 +206,7 @@ fn walk_both(
     alloc: Global,
     stage: Stage<'_>,
     slots: &[&Value],
+    sparing: Sparing,
     depth: u32,
     room: usize,
     places: Partial,
@@ -277,10 +216,10 @@ fn walk_both(
     requires room { 1 ≤ room }
     requires form { IsForm stage (map (λ v. v.now) slots.now) part (both (terms_list terms.now)) }
     requires grounds { PartGrounded stage (map (λ v. v.now) slots.now) (suc depth) places part }
-    ensures { IfOk result (λ ends. PartListed stage.entry (map (λ v. v.now) slots.now) room (suc depth) places part.entry ends.items) }
+    ensures { IfOk result (λ ends. PartListed stage.entry sparing (map (λ v. v.now) slots.now) room (suc depth) places part.entry ends.items) }
 {
     let parts = plain_parts(alloc, terms)?;
-    walk_all(alloc, stage, slots, depth, room, places, &parts)
+    walk_all(alloc, stage, slots, sparing, depth, room, places, &parts)
 }
 
 /// That each of the terms is unchanged.
@@ -289,6 +228,7 @@ fn walk_unchanged(
     alloc: Global,
     stage: Stage<'_>,
     slots: &[&Value],
+    sparing: Sparing,
     depth: u32,
     room: usize,
     places: Partial,
@@ -299,11 +239,11 @@ fn walk_unchanged(
     requires room { 1 ≤ room }
     requires form { IsForm stage (map (λ v. v.now) slots.now) part (narrowed kept (map (unchanged_of (place_of (part_term part))) (terms_list terms.now))) }
     requires grounds { PartGrounded stage (map (λ v. v.now) slots.now) (suc depth) places part }
-    ensures { IfOk result (λ ends. PartListed stage.entry (map (λ v. v.now) slots.now) room (suc depth) places part.entry ends.items) }
+    ensures { IfOk result (λ ends. PartListed stage.entry sparing (map (λ v. v.now) slots.now) room (suc depth) places part.entry ends.items) }
 {
     let parts = unchanged_parts(alloc, part_place(part), terms)?;
     let slots = outermost(&*slots, kept);
-    walk_all(alloc, stage, slots, depth, room, places, &parts)
+    walk_all(alloc, stage, slots, sparing, depth, room, places, &parts)
 }
 
 /// One of the terms.
@@ -312,6 +252,7 @@ fn walk_either(
     alloc: Global,
     stage: Stage<'_>,
     slots: &[&Value],
+    sparing: Sparing,
     depth: u32,
     room: usize,
     places: Partial,
@@ -321,10 +262,10 @@ fn walk_either(
     requires room { 1 ≤ room }
     requires form { IsForm stage (map (λ v. v.now) slots.now) part (either (terms_list terms.now)) }
     requires grounds { PartGrounded stage (map (λ v. v.now) slots.now) (suc depth) places part }
-    ensures { IfOk result (λ ends. PartListed stage.entry (map (λ v. v.now) slots.now) room (suc depth) places part.entry ends.items) }
+    ensures { IfOk result (λ ends. PartListed stage.entry sparing (map (λ v. v.now) slots.now) room (suc depth) places part.entry ends.items) }
 {
     let parts = plain_parts(alloc, terms)?;
-    let ends = walk_any(alloc, stage, slots, depth, room, &places, &parts)?;
+    let ends = walk_any(alloc, stage, slots, sparing, depth, room, &places, &parts)?;
     or_no_member(alloc, ends, part_place(part))
 }
 
@@ -334,6 +275,7 @@ fn walk_boxed(
     alloc: Global,
     stage: Stage<'_>,
     slots: &[&Value],
+    sparing: Sparing,
     depth: u32,
     room: usize,
     places: Partial,
@@ -344,13 +286,13 @@ fn walk_boxed(
     requires room { 1 ≤ room }
     requires form { IsForm stage (map (λ v. v.now) slots.now) part (either (action.now ∷ unchanged_of (place_of (part_term part)) subscript.now ∷ [])) }
     requires grounds { PartGrounded stage (map (λ v. v.now) slots.now) (suc depth) places part }
-    ensures { IfOk result (λ ends. PartListed stage.entry (map (λ v. v.now) slots.now) room (suc depth) places part.entry ends.items) }
+    ensures { IfOk result (λ ends. PartListed stage.entry sparing (map (λ v. v.now) slots.now) room (suc depth) places part.entry ends.items) }
 {
     let parts = [
         Part::Plain(action),
         Part::Unchanged(part_place(part), subscript),
     ];
-    walk_any(alloc, stage, slots, depth, room, &places, &parts)
+    walk_any(alloc, stage, slots, sparing, depth, room, &places, &parts)
 }
 
 /// `<<A>>_v`: the action, and then that the value of `v` changes.
@@ -359,6 +301,7 @@ fn walk_angled(
     alloc: Global,
     stage: Stage<'_>,
     slots: &[&Value],
+    sparing: Sparing,
     depth: u32,
     room: usize,
     places: Partial,
@@ -369,12 +312,13 @@ fn walk_angled(
     requires room { 1 ≤ room }
     requires form { IsForm stage (map (λ v. v.now) slots.now) part (changing action.now subscript.now) }
     requires grounds { PartGrounded stage (map (λ v. v.now) slots.now) (suc depth) places part }
-    ensures { IfOk result (λ ends. PartListed stage.entry (map (λ v. v.now) slots.now) room (suc depth) places part.entry ends.items) }
+    ensures { IfOk result (λ ends. PartListed stage.entry sparing (map (λ v. v.now) slots.now) room (suc depth) places part.entry ends.items) }
 {
     let found = walk_part(
         alloc,
         stage,
         &*slots,
+        sparing,
         depth,
         room,
         places,
@@ -397,6 +341,7 @@ fn walk_all(
     alloc: Global,
     stage: Stage<'_>,
     slots: &[&Value],
+    sparing: Sparing,
     depth: u32,
     room: usize,
     places: Partial,
@@ -404,11 +349,11 @@ fn walk_all(
 ) -> Result<Vec<Ended>, NoMemory>
     requires room { 1 ≤ room }
     requires grounds { AllGrounded (setting stage) depth places (parts_of (before stage (map (λ v. v.now) slots.now)) parts.now) }
-    ensures { IfOk result (λ ends. AllListed (setting stage.entry) room depth places (parts_of (before stage.entry (map (λ v. v.now) slots.now)) parts.now) ends.items) }
+    ensures { IfOk result (λ ends. AllListed (setting stage.entry) sparing room depth places (parts_of (before stage.entry (map (λ v. v.now) slots.now)) parts.now) ends.items) }
 {
-    let mut found = one_end(alloc, Ended::Passed(places))?;
+    let mut found = one_end(alloc, Ended::Passed(places, None))?;
     for part in parts {
-        match walk_on(alloc, stage, slots, depth, room, found, *part) {
+        match walk_on(alloc, stage, slots, sparing, depth, room, found, *part) {
             Ok(further) => found = further,
             Err(error) => return Err(error),
         }
@@ -422,6 +367,7 @@ fn walk_on(
     alloc: Global,
     stage: Stage<'_>,
     slots: &[&Value],
+    sparing: Sparing,
     depth: u32,
     room: usize,
     found: Vec<Ended>,
@@ -429,12 +375,21 @@ fn walk_on(
 ) -> Result<Vec<Ended>, NoMemory>
     requires room { 1 ≤ room }
     requires grounds { EndsGrounded (setting stage) depth (before stage (map (λ v. v.now) slots.now), part_term part) found.items }
-    ensures { IfOk result (λ ends. IsOnward (setting stage.entry) room depth (before stage.entry (map (λ v. v.now) slots.now), part_term part.entry) found.items ends.items) }
+    ensures { IfOk result (λ ends. IsOnward (setting stage.entry) sparing room depth (before stage.entry (map (λ v. v.now) slots.now), part_term part.entry) found.items ends.items) }
 {
     let mut all = Vec::new(alloc);
     for end in found {
         if all.len() < room {
-            match walk_end(alloc, stage, slots, depth, room - all.len(), end, part) {
+            match walk_end(
+                alloc,
+                stage,
+                slots,
+                sparing,
+                depth,
+                room - all.len(),
+                end,
+                part,
+            ) {
                 Ok(more) => append(&mut all, more)?,
                 Err(error) => return Err(error),
             }
@@ -451,6 +406,7 @@ fn walk_end(
     alloc: Global,
     stage: Stage<'_>,
     slots: &[&Value],
+    sparing: Sparing,
     depth: u32,
     room: usize,
     end: Ended,
@@ -458,10 +414,13 @@ fn walk_end(
 ) -> Result<Vec<Ended>, NoMemory>
     requires room { 1 ≤ room }
     requires grounds { EndGrounded (setting stage) depth (before stage (map (λ v. v.now) slots.now), part_term part) end }
-    ensures { IfOk result (λ ends. IsAfter (setting stage.entry) room depth (before stage.entry (map (λ v. v.now) slots.now), part_term part.entry) end ends.items) }
+    ensures { IfOk result (λ ends. IsAfter (setting stage.entry) sparing room depth (before stage.entry (map (λ v. v.now) slots.now), part_term part.entry) end ends.items) }
 {
     match end {
-        Ended::Passed(places) => walk_part(alloc, stage, slots, depth, room, places, part),
+        Ended::Passed(places, spared) => {
+            let ends = walk_part(alloc, stage, slots, sparing, depth, room, places, part)?;
+            behind(alloc, ends, spared)
+        }
         Ended::Ends(why) => one_end(alloc, Ended::Ends(why)),
     }
 }
@@ -472,6 +431,7 @@ fn walk_any(
     alloc: Global,
     stage: Stage<'_>,
     slots: &[&Value],
+    sparing: Sparing,
     depth: u32,
     room: usize,
     places: &Partial,
@@ -479,14 +439,23 @@ fn walk_any(
 ) -> Result<Vec<Ended>, NoMemory>
     requires room { 1 ≤ room }
     requires grounds { AnyGrounded (setting stage) depth places.now (parts_of (before stage (map (λ v. v.now) slots.now)) parts.now) }
-    ensures { IfOk result (λ ends. AnyListed (setting stage.entry) room depth places.now (parts_of (before stage.entry (map (λ v. v.now) slots.now)) parts.now) ends.items) }
+    ensures { IfOk result (λ ends. AnyListed (setting stage.entry) sparing room depth places.now (parts_of (before stage.entry (map (λ v. v.now) slots.now)) parts.now) ends.items) }
 {
     let mut all = Vec::new(alloc);
     for part in parts {
         if all.len() >= room {
             return Ok(all);
         }
-        match walk_copy(alloc, stage, slots, depth, room - all.len(), places, *part) {
+        match walk_copy(
+            alloc,
+            stage,
+            slots,
+            sparing,
+            depth,
+            room - all.len(),
+            places,
+            *part,
+        ) {
             Ok(more) => append(&mut all, more)?,
             Err(error) => return Err(error),
         }
@@ -500,6 +469,7 @@ fn walk_copy(
     alloc: Global,
     stage: Stage<'_>,
     slots: &[&Value],
+    sparing: Sparing,
     depth: u32,
     room: usize,
     places: &Partial,
@@ -507,10 +477,10 @@ fn walk_copy(
 ) -> Result<Vec<Ended>, NoMemory>
     requires room { 1 ≤ room }
     requires grounds { PartGrounded stage (map (λ v. v.now) slots.now) depth places.now part }
-    ensures { IfOk result (λ ends. PartListed stage.entry (map (λ v. v.now) slots.now) room depth places.now part.entry ends.items) }
+    ensures { IfOk result (λ ends. PartListed stage.entry sparing (map (λ v. v.now) slots.now) room depth places.now part.entry ends.items) }
 {
     let same = places.copy(alloc)?;
-    walk_part(alloc, stage, slots, depth, room, same, part)
+    walk_part(alloc, stage, slots, sparing, depth, room, same, part)
 }
 
 /// IF: the one term or the other.
@@ -519,6 +489,7 @@ fn walk_branch(
     alloc: Global,
     stage: Stage<'_>,
     slots: &[&Value],
+    sparing: Sparing,
     depth: u32,
     room: usize,
     places: Partial,
@@ -530,11 +501,29 @@ fn walk_branch(
     requires room { 1 ≤ room }
     requires form { IsForm stage (map (λ v. v.now) slots.now) part (branch test.now holds.now other.now) }
     requires grounds { PartGrounded stage (map (λ v. v.now) slots.now) (suc depth) places part }
-    ensures { IfOk result (λ ends. PartListed stage.entry (map (λ v. v.now) slots.now) room (suc depth) places part.entry ends.items) }
+    ensures { IfOk result (λ ends. PartListed stage.entry sparing (map (λ v. v.now) slots.now) room (suc depth) places part.entry ends.items) }
 {
     match eval_truth(alloc, scene_at(stage, &*slots, &places), depth, test) {
-        Ok(true) => walk_part(alloc, stage, slots, depth, room, places, Part::Plain(holds)),
-        Ok(false) => walk_part(alloc, stage, slots, depth, room, places, Part::Plain(other)),
+        Ok(true) => walk_part(
+            alloc,
+            stage,
+            slots,
+            sparing,
+            depth,
+            room,
+            places,
+            Part::Plain(holds),
+        ),
+        Ok(false) => walk_part(
+            alloc,
+            stage,
+            slots,
+            sparing,
+            depth,
+            room,
+            places,
+            Part::Plain(other),
+        ),
         Err(fault) => {
             let end = fault_end(fault)?;
             one_end(alloc, end)
@@ -548,6 +537,7 @@ fn walk_case(
     alloc: Global,
     stage: Stage<'_>,
     slots: &[&Value],
+    sparing: Sparing,
     depth: u32,
     room: usize,
     places: Partial,
@@ -558,11 +548,20 @@ fn walk_case(
     requires room { 1 ≤ room }
     requires form { IsForm stage (map (λ v. v.now) slots.now) part (arms (arms_list cases.now) (option_copied other)) }
     requires grounds { PartGrounded stage (map (λ v. v.now) slots.now) (suc depth) places part }
-    ensures { IfOk result (λ ends. PartListed stage.entry (map (λ v. v.now) slots.now) room (suc depth) places part.entry ends.items) }
+    ensures { IfOk result (λ ends. PartListed stage.entry sparing (map (λ v. v.now) slots.now) room (suc depth) places part.entry ends.items) }
 {
     let scene = scene_at(stage, &*slots, &places);
     match chosen_arm(alloc, scene, depth, part_place(part), cases, other) {
-        Ok(term) => walk_part(alloc, stage, slots, depth, room, places, Part::Plain(term)),
+        Ok(term) => walk_part(
+            alloc,
+            stage,
+            slots,
+            sparing,
+            depth,
+            room,
+            places,
+            Part::Plain(term),
+        ),
         Err(fault) => {
             let end = fault_end(fault)?;
             one_end(alloc, end)
@@ -576,6 +575,7 @@ fn walk_inside(
     alloc: Global,
     stage: Stage<'_>,
     slots: &[&Value],
+    sparing: Sparing,
     depth: u32,
     room: usize,
     places: Partial,
@@ -585,9 +585,18 @@ fn walk_inside(
     requires room { 1 ≤ room }
     requires form { IsForm stage (map (λ v. v.now) slots.now) part (inside inner.now) }
     requires grounds { PartGrounded stage (map (λ v. v.now) slots.now) (suc depth) places part }
-    ensures { IfOk result (λ ends. PartListed stage.entry (map (λ v. v.now) slots.now) room (suc depth) places part.entry ends.items) }
+    ensures { IfOk result (λ ends. PartListed stage.entry sparing (map (λ v. v.now) slots.now) room (suc depth) places part.entry ends.items) }
 {
-    walk_part(alloc, stage, slots, depth, room, places, Part::Plain(inner))
+    walk_part(
+        alloc,
+        stage,
+        slots,
+        sparing,
+        depth,
+        room,
+        places,
+        Part::Plain(inner),
+    )
 }
 
 /// A definition on arguments, which are evaluated first.
@@ -596,6 +605,7 @@ fn walk_call(
     alloc: Global,
     stage: Stage<'_>,
     slots: &[&Value],
+    sparing: Sparing,
     depth: u32,
     room: usize,
     places: Partial,
@@ -606,10 +616,18 @@ fn walk_call(
     requires room { 1 ≤ room }
     requires form { IsForm stage (map (λ v. v.now) slots.now) part (call number.0 (terms_list arguments.now)) }
     requires grounds { PartGrounded stage (map (λ v. v.now) slots.now) (suc depth) places part }
-    ensures { IfOk result (λ ends. PartListed stage.entry (map (λ v. v.now) slots.now) room (suc depth) places part.entry ends.items) }
+    ensures { IfOk result (λ ends. PartListed stage.entry sparing (map (λ v. v.now) slots.now) room (suc depth) places part.entry ends.items) }
 {
     match eval_each(alloc, scene_at(stage, &*slots, &places), depth, arguments) {
-        Ok(values) => walk_body(alloc, stage, slots, depth, room, places, number, &values),
+        Ok(values) => {
+            let inner = Sparing {
+                at: sparing.at,
+                call: Some(number),
+            };
+            walk_body(
+                alloc, stage, slots, inner, depth, room, places, number, &values,
+            )
+        }
         Err(fault) => {
             let end = fault_end(fault)?;
             one_end(alloc, end)
@@ -623,6 +641,7 @@ fn walk_body(
     alloc: Global,
     stage: Stage<'_>,
     slots: &[&Value],
+    sparing: Sparing,
     depth: u32,
     room: usize,
     places: Partial,
@@ -631,12 +650,12 @@ fn walk_body(
 ) -> Result<Vec<Ended>, NoMemory>
     requires room { 1 ≤ room }
     requires grounds { BodyGrounded (setting stage) depth (before stage (map (λ v. v.now) slots.now)) number.0 values.now places }
-    ensures { IfOk result (λ ends. BodyListed (setting stage.entry) room depth (before stage.entry (map (λ v. v.now) slots.now)) number.0 values.now places ends.items) }
+    ensures { IfOk result (λ ends. BodyListed (setting stage.entry) sparing room depth (before stage.entry (map (λ v. v.now) slots.now)) number.0 values.now places ends.items) }
 {
     let operator = definition(stage.operators, number);
     let inner = slots_and(alloc, &*slots, operator.outer, values)?;
     let body = Part::Plain(&operator.body);
-    walk_part(alloc, stage, &inner, depth, room, places, body)
+    walk_part(alloc, stage, &inner, sparing, depth, room, places, body)
 }
 
 /// `\E`: the term under the values of the bound names.
@@ -645,6 +664,7 @@ fn walk_exists(
     alloc: Global,
     stage: Stage<'_>,
     slots: &[&Value],
+    sparing: Sparing,
     depth: u32,
     room: usize,
     places: Partial,
@@ -655,11 +675,13 @@ fn walk_exists(
     requires room { 1 ≤ room }
     requires form { IsForm stage (map (λ v. v.now) slots.now) part (some bounds.now body.now) }
     requires grounds { PartGrounded stage (map (λ v. v.now) slots.now) (suc depth) places part }
-    ensures { IfOk result (λ ends. PartListed stage.entry (map (λ v. v.now) slots.now) room (suc depth) places part.entry ends.items) }
+    ensures { IfOk result (λ ends. PartListed stage.entry sparing (map (λ v. v.now) slots.now) room (suc depth) places part.entry ends.items) }
 {
     match eval_bounds(alloc, scene_at(stage, &*slots, &places), depth, bounds) {
         Ok(sets) => {
-            let ends = walk_over(alloc, stage, slots, depth, room, &places, &sets, body)?;
+            let ends = walk_over(
+                alloc, stage, slots, sparing, depth, room, &places, &sets, body,
+            )?;
             or_no_member(alloc, ends, part_place(part))
         }
         Err(fault) => {
@@ -675,6 +697,7 @@ fn walk_over(
     alloc: Global,
     stage: Stage<'_>,
     slots: &[&Value],
+    sparing: Sparing,
     depth: u32,
     room: usize,
     places: &Partial,
@@ -683,10 +706,12 @@ fn walk_over(
 ) -> Result<Vec<Ended>, NoMemory>
     requires room { 1 ≤ room }
     requires grounds { AnyGrounded (setting stage) depth places.now (under (before stage (map (λ v. v.now) slots.now)) body.now (combinations (ranges (map bound_members sets.now)))) }
-    ensures { IfOk result (λ ends. AnyListed (setting stage.entry) room depth places.now (under (before stage.entry (map (λ v. v.now) slots.now)) body.now (combinations (ranges (map bound_members sets.now)))) ends.items) }
+    ensures { IfOk result (λ ends. AnyListed (setting stage.entry) sparing room depth places.now (under (before stage.entry (map (λ v. v.now) slots.now)) body.now (combinations (ranges (map bound_members sets.now)))) ends.items) }
 {
     let lists = member_lists(alloc, sets)?;
-    walk_combinations(alloc, stage, slots, depth, room, places, &lists, body)
+    walk_combinations(
+        alloc, stage, slots, sparing, depth, room, places, &lists, body,
+    )
 }
 
 /// A term under each combination of members.
@@ -695,6 +720,7 @@ fn walk_combinations(
     alloc: Global,
     stage: Stage<'_>,
     slots: &[&Value],
+    sparing: Sparing,
     depth: u32,
     room: usize,
     places: &Partial,
@@ -703,7 +729,7 @@ fn walk_combinations(
 ) -> Result<Vec<Ended>, NoMemory>
     requires room { 1 ≤ room }
     requires grounds { AnyGrounded (setting stage) depth places.now (under (before stage (map (λ v. v.now) slots.now)) body.now (combinations (map (λ l. l.now) lists.now))) }
-    ensures { IfOk result (λ ends. AnyListed (setting stage.entry) room depth places.now (under (before stage.entry (map (λ v. v.now) slots.now)) body.now (combinations (map (λ l. l.now) lists.now))) ends.items) }
+    ensures { IfOk result (λ ends. AnyListed (setting stage.entry) sparing room depth places.now (under (before stage.entry (map (λ v. v.now) slots.now)) body.now (combinations (map (λ l. l.now) lists.now))) ends.items) }
 {
     let mut all = Vec::new(alloc);
     let mut indices = start(alloc, lists)?;
@@ -714,7 +740,7 @@ fn walk_combinations(
         }
         let left = room - all.len();
         match walk_under(
-            alloc, stage, slots, depth, left, places, lists, &indices, body,
+            alloc, stage, slots, sparing, depth, left, places, lists, &indices, body,
         ) {
             Ok(further) => append(&mut all, further)?,
             Err(error) => return Err(error),
@@ -730,6 +756,7 @@ fn walk_under(
     alloc: Global,
     stage: Stage<'_>,
     slots: &[&Value],
+    sparing: Sparing,
     depth: u32,
     room: usize,
     places: &Partial,
@@ -740,8 +767,17 @@ fn walk_under(
     requires room { 1 ≤ room }
     requires grounds { WhyGrounded (setting stage) depth (bind (before stage (map (λ v. v.now) slots.now)) (at_places (map (λ l. l.now) lists.now) indices.now)) body.now places.now }
     requires within { AreWithin (map (λ l. l.now) lists.now) indices.now }
-    ensures { IfOk result (λ ends. IsListed (setting stage.entry) room depth (bind (before stage.entry (map (λ v. v.now) slots.now)) (at_places (map (λ l. l.now) lists.now) indices.now)) body.now places.now ends.items) }
+    ensures { IfOk result (λ ends. IsListed (setting stage.entry) sparing room depth (bind (before stage.entry (map (λ v. v.now) slots.now)) (at_places (map (λ l. l.now) lists.now) indices.now)) body.now places.now ends.items) }
 {
     let inner = slots_with(alloc, &*slots, &*lists, indices)?;
-    walk_copy(alloc, stage, &inner, depth, room, places, Part::Plain(body))
+    walk_copy(
+        alloc,
+        stage,
+        &inner,
+        sparing,
+        depth,
+        room,
+        places,
+        Part::Plain(body),
+    )
 }

@@ -1,32 +1,51 @@
 //! The ends of parts that say the value of a variable.
 
-ghost use Rattle.std.specs.Prelude.{◌≡◌, ◌≤◌, ◌<◌, IfOk, Some, length, slice_set};
+ghost use Rattle.std.specs.Prelude.{◌≡◌, ◌≤◌, ◌<◌, IfOk, None, Some, length, map, slice_set};
+ghost use Rattle.action_rows.specs.Rows.{part_term};
 ghost use Rattle.eval_sets.specs.Soundness.{IsSound};
 ghost use Rattle.why_branches.specs.declared.why.Ended.TheVariants.{Passed};
 ghost use Rattle.why_walk.specs.Ends.{IsChosen, IsEquated, IsListedEnds, IsMembers};
 
-use crate::ends::{fault_end, one_end, or_no_member, passed_if};
+use crate::ends::{fault_end, one_end, or_no_member};
+use crate::failing::held_end;
+use action_rows::{Part, part_place};
 use eval_sets::{Described, member};
 use std::alloc::Global;
 use tla_core::{Partial, VarId};
 use tla_eval::list_at;
 use tla_values::Value;
 use trace_base::{NoMemory, Place};
-use why_branches::{Ended, WhyKind};
+use why_branches::{Ended, Sparing, WhyKind};
 
-/// The variable has the value: it is gone through where it has it, or has none yet and gets it.
+/// The variable has the value, as the part says: it is gone through where it has it, or has none yet and gets it.
 pub fn equated_end(
+    alloc: Global,
+    sparing: Sparing,
+    slots: &[&Value],
+    part: Part<'_>,
     places: Partial,
     number: VarId,
     value: Value,
-    at: Place,
 ) -> Result<Ended, NoMemory>
     requires { number.0 < length places }
-    ensures { IfOk result (IsEquated number.0 value at places) }
+    ensures { IfOk result (IsEquated sparing (map (λ v. v.now) slots.now) (part_term part.entry) number.0 value places) }
 {
     value.is_value();
     match places.get(number) {
-        Some(known) => Ok(passed_if(*known == value, places, at, WhyKind::Differs(number))),
+        Some(known) => {
+            let same = *known == value;
+            let reason = WhyKind::Differs(number);
+            held_end(
+                alloc,
+                same,
+                sparing,
+                slots,
+                part,
+                places,
+                reason,
+                Some(value),
+            )
+        }
         None => filled_end(places, number, value),
     }
 }
@@ -34,34 +53,38 @@ pub fn equated_end(
 /// It is gone through with this value of the variable.
 fn filled_end(places: Partial, number: VarId, value: Value) -> Result<Ended, NoMemory>
     requires { number.0 < length places }
-    ensures { IfOk result (λ end. end ≡ Passed (slice_set places number.0 (Some value))) }
+    ensures { IfOk result (λ end. end ≡ Passed (slice_set places number.0 (Some value)) None) }
 {
     let mut further = places;
     further.put(number, value)?;
-    Ok(Ended::Passed(further))
+    Ok(Ended::Passed(further, None))
 }
 
-/// The variable has a member of the set, which stands at the first place in the part at the second: the first ends, at most `room` of them.
+/// The variable has a member of the set, which stands at the place, as the part says: the first ends, at most `room` of them.
 pub fn chosen_ends(
     alloc: Global,
     room: usize,
+    sparing: Sparing,
+    slots: &[&Value],
+    part: Part<'_>,
     places: Partial,
     number: VarId,
     set: Described,
     set_at: Place,
-    at: Place,
 ) -> Result<Vec<Ended>, NoMemory>
     requires room { 1 ≤ room }
     requires within { number.0 < length places }
     requires sound { IsSound set }
-    ensures { IfOk result (λ ends. IsChosen room number.0 set set_at at places ends.items) }
+    ensures { IfOk result (λ ends. IsChosen room sparing (map (λ v. v.now) slots.now) (part_term part.entry) number.0 set set_at places ends.items) }
 {
     match places.get(number) {
-        Some(known) => one_end(
-            alloc,
-            passed_if(member(&set, known), places, at, WhyKind::NotIn(number)),
-        ),
-        None => listed_ends(alloc, room, &places, number, set, set_at, at),
+        Some(known) => {
+            let belongs = member(&set, known);
+            let reason = WhyKind::NotIn(number);
+            let end = held_end(alloc, belongs, sparing, slots, part, places, reason, None)?;
+            one_end(alloc, end)
+        }
+        None => listed_ends(alloc, room, &places, number, set, set_at, part_place(part)),
     }
 }
 
@@ -124,7 +147,7 @@ fn member_end(
     value: &Value,
 ) -> Result<Ended, NoMemory>
     requires { number.0 < length places.now }
-    ensures { IfOk result (λ end. end ≡ Passed (slice_set places.now number.0 (Some value.now))) }
+    ensures { IfOk result (λ end. end ≡ Passed (slice_set places.now number.0 (Some value.now)) None) }
 {
     let same = places.copy(alloc)?;
     let copied = value.copy()?;

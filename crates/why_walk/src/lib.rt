@@ -3,8 +3,10 @@
 
 mod changes;
 mod ends;
+mod failing;
 mod forms;
 mod leaves;
 mod lists;
+mod single;
 
 pub use forms::{walk, walk_further};

@@ -2,7 +2,7 @@ use Rattle.load_laws.proofs.Given.{are_spelled, have_one_form, plain_spelled, pl
 use Rattle.load_laws.proofs.laws.configuration_laws.Goals as goal
 
 pub returns-clause-spelled : goal.returns-clause-spelled
-returns-clause-spelled c = are_spelled c.givens_are_within_limits.ensures
+returns-clause-spelled c = are_spelled c.givens_are_within_limits_by.ensures
 
 pub returns-clause-form : goal.returns-clause-form
 returns-clause-form c = have_one_form

@@ -14,4 +14,4 @@ returns-clause-loading c =
     (nothing_repeats (one_flattening c.one_outcome.ensures.one c.laws_of_laid.ensures.one c.one_module.ensures))
 
 pub returns-clause-configuration : goal.returns-clause-configuration
-returns-clause-configuration c = no_configuration_refused c.one_configuration.ensures.one
+returns-clause-configuration c = no_configuration_refused c.one_configuration_by.ensures.one

@@ -19,4 +19,4 @@ pub returns-clause-loading : goal.returns-clause-loading
 returns-clause-loading c = one_loading (one_program (one_flattening c.one_outcome.ensures.one c.laws_of_laid.ensures.one c.one_module.ensures))
 
 pub returns-clause-configuration : goal.returns-clause-configuration
-returns-clause-configuration c = one_configuration c.one_configuration.ensures.one
+returns-clause-configuration c = one_configuration c.one_configuration_by.ensures.one

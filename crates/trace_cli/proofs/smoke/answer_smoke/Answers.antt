@@ -9,5 +9,5 @@ told_valid-requires-clause-explained c =
 pub returns-clause-tested : goal.returns-clause-tested
 returns-clause-tested c =
     let a = c.args.accepted.now in
-    tested_otherwise c.args.lines c.args.job.now a.program a.config a.spec a.log c.in_ok-searched.searched.answer c.told.result c.requires.unasked c.in_ok-searched.ensures.searched.is_true c.in-None.ensures
+    tested_otherwise c.args.lines c.args.job.now a.program a.config a.spec a.log c.in_ok-searched.searched.answer c.told.result c.requires.unasked c.requires.no_near c.in_ok-searched.ensures.searched.is_true c.in-None.ensures
     c.told.ensures.status c.told.ensures.report

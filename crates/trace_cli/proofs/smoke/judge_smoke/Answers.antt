@@ -17,6 +17,9 @@ returns-in_err-accepted-clause-stopped c =
 pub answer_smoke-requires-clause-unasked : goal.answer_smoke-requires-clause-unasked
 answer_smoke-requires-clause-unasked c = ap (λ (job : Job). job.why) c.in_ok-job.ensures.job
 
+pub answer_smoke-requires-clause-no_near : goal.answer_smoke-requires-clause-no_near
+answer_smoke-requires-clause-no_near c = ap (λ (job : Job). job.near) c.in_ok-job.ensures.job
+
 pub returns-clause-runs : goal.returns-clause-runs
 returns-clause-runs c =
     smoke_tested _ _ _ _ _ _ _ c.answer_smoke.result c.in_ok-files.ensures c.in_ok-job.ensures.job c.in_ok-accepted.ensures.accepted c.answer_smoke.ensures.tested

@@ -5,5 +5,5 @@ use Rattle.why_branches.proofs.listing.cut_law.Goals as goal
 
 pub returns : goal.returns
 returns c = record {
-  more = λ g d m es p. (λ ys x l a. cut_more m (Onward (Branches g d) d es (here p)) ys x l a, λ xs l a. cut_none m (Onward (Branches g d) d es (here p)) xs l a);
+  more = λ g sp d m es p. (λ ys x l a. cut_more m (Onward (Branches g sp d) d es (here p)) ys x l a, λ xs l a. cut_none m (Onward (Branches g sp d) d es (here p)) xs l a);
 }

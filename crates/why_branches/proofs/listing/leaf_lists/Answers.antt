@@ -1,8 +1,8 @@
 use Rattle.std.proofs.Common.{inl, inr, refl, sym, subst}
-use Rattle.std.specs.Prelude.{true, false, Option, Some, Ok, Err, slice_set}
+use Rattle.std.specs.Prelude.{true, false, Option, None, Some, Ok, Err, slice_set}
 use Rattle.tla_values.specs.Data.{Val}
 use Rattle.tla_terms.specs.Terms.{place_of}
-use Rattle.why_branches.specs.Traces.{faulted, here, stops}
+use Rattle.why_branches.specs.Traces.{fails, faulted, here}
 use Rattle.why_branches.specs.Branches.{Chosen, Equated}
 use Rattle.why_branches.specs.Listings.{itself}
 use Rattle.why_branches.specs.declared.why.WhyKind.TheVariants as why
@@ -11,35 +11,35 @@ use Rattle.why_branches.proofs.FoundParts.{chosen_members, found_no_list, found_
 use Rattle.why_branches.proofs.listing.leaf_lists.Goals as goal
 
 pub returns-clause-tests : goal.returns-clause-tests
-returns-clause-tests c = λ g k d b a p l w n i. (
-  λ h. found_test g k l d b a p w n i (Ok true) h (here p) refl,
-  λ h. found_test g k l d b a p w n i (Ok false) h (stops p (itself d b a) (place_of a) why.TestFalse) refl,
-  λ f h. found_test g k l d b a p w n i (Err f) h (faulted p (itself d b a) f) refl,
+returns-clause-tests c = λ g sp k d b a p l w n i. (
+  λ h. found_test g sp k l d b a p w n i (Ok true) h (here p) refl,
+  λ h. found_test g sp k l d b a p w n i (Ok false) h (fails sp p (itself d b a) why.TestFalse None) refl,
+  λ f h. found_test g sp k l d b a p w n i (Err f) h (faulted p (itself d b a) f) refl,
 )
 
 pub returns-clause-assignments : goal.returns-clause-assignments
-returns-clause-assignments c = λ g k d b a p l w now n e i. (
-  λ v u h q s. found_assign g k l d b a p w now n e i (Ok v) h (here p) (subst (λ (o : Option (Option Val)). Equated p (itself d b a) n v o (here p)) (sym q) (inl (s, refl))),
-  λ v u h q s. found_assign g k l d b a p w now n e i (Ok v) h (stops p (itself d b a) (place_of a) (why.Differs (record { 0 = n })))
-      (subst (λ (o : Option (Option Val)). Equated p (itself d b a) n v o (stops p (itself d b a) (place_of a) (why.Differs (record { 0 = n })))) (sym q) (inr (s, refl))),
-  λ v h q. found_assign g k l d b a p w now n e i (Ok v) h (here (slice_set p n (Some v))) (subst (λ (o : Option (Option Val)). Equated p (itself d b a) n v o (here (slice_set p n (Some v)))) (sym q) refl),
-  λ f h. found_assign g k l d b a p w now n e i (Err f) h (faulted p (itself d b a) f) refl,
+returns-clause-assignments c = λ g sp k d b a p l w now n e i. (
+  λ v u h q s. found_assign g sp k l d b a p w now n e i (Ok v) h (here p) (subst (λ (o : Option (Option Val)). Equated sp p (itself d b a) n v o (here p)) (sym q) (inl (s, refl))),
+  λ v u h q s. found_assign g sp k l d b a p w now n e i (Ok v) h (fails sp p (itself d b a) (why.Differs (record { 0 = n })) (Some v))
+      (subst (λ (o : Option (Option Val)). Equated sp p (itself d b a) n v o (fails sp p (itself d b a) (why.Differs (record { 0 = n })) (Some v))) (sym q) (inr (s, refl))),
+  λ v h q. found_assign g sp k l d b a p w now n e i (Ok v) h (here (slice_set p n (Some v))) (subst (λ (o : Option (Option Val)). Equated sp p (itself d b a) n v o (here (slice_set p n (Some v)))) (sym q) refl),
+  λ f h. found_assign g sp k l d b a p w now n e i (Err f) h (faulted p (itself d b a) f) refl,
 )
 
 pub returns-clause-memberships : goal.returns-clause-memberships
-returns-clause-memberships c = λ g k d b a p l w now n e i. (
-  λ S u h q s. found_given g k l d b a p w now n e i (Ok S) h (subst (λ (o : Option (Option Val)). IsSingle g k l d b a p w now (Ok S) o) (sym q) tt) (here p)
-      (subst (λ (o : Option (Option Val)). Chosen p (itself d b a) n (place_of e) (Ok S) o (here p)) (sym q) (inl (s, refl))),
-  λ S u h q s. found_given g k l d b a p w now n e i (Ok S) h (subst (λ (o : Option (Option Val)). IsSingle g k l d b a p w now (Ok S) o) (sym q) tt) (stops p (itself d b a) (place_of a) (why.NotIn (record { 0 = n })))
-      (subst (λ (o : Option (Option Val)). Chosen p (itself d b a) n (place_of e) (Ok S) o (stops p (itself d b a) (place_of a) (why.NotIn (record { 0 = n })))) (sym q) (inr (s, refl))),
-  λ f h. found_given g k l d b a p w now n e i (Err f) h tt (faulted p (itself d b a) f) refl,
+returns-clause-memberships c = λ g sp k d b a p l w now n e i. (
+  λ S u h q s. found_given g sp k l d b a p w now n e i (Ok S) h (subst (λ (o : Option (Option Val)). IsSingle g sp k l d b a p w now (Ok S) o) (sym q) tt) (here p)
+      (subst (λ (o : Option (Option Val)). Chosen sp p (itself d b a) n (place_of e) (Ok S) o (here p)) (sym q) (inl (s, refl))),
+  λ S u h q s. found_given g sp k l d b a p w now n e i (Ok S) h (subst (λ (o : Option (Option Val)). IsSingle g sp k l d b a p w now (Ok S) o) (sym q) tt) (fails sp p (itself d b a) (why.NotIn (record { 0 = n })) None)
+      (subst (λ (o : Option (Option Val)). Chosen sp p (itself d b a) n (place_of e) (Ok S) o (fails sp p (itself d b a) (why.NotIn (record { 0 = n })) None)) (sym q) (inr (s, refl))),
+  λ f h. found_given g sp k l d b a p w now n e i (Err f) h tt (faulted p (itself d b a) f) refl,
 )
 
 pub returns-clause-choices : goal.returns-clause-choices
-returns-clause-choices c = λ g k d b a p l w now n e S i h q. (
-  λ u xs m one x. chosen_members g k l d b a p w now n e i S h q u m xs one x,
-  λ u m z. found_no_member g k l d b a p w now n e i S h q u m z,
-  λ f m. found_no_list g k l d b a p w now n e i S h q f m,
+returns-clause-choices c = λ g sp k d b a p l w now n e S i h q. (
+  λ u xs m one x. chosen_members g sp k l d b a p w now n e i S h q u m xs one x,
+  λ u m z. found_no_member g sp k l d b a p w now n e i S h q u m z,
+  λ f m. found_no_list g sp k l d b a p w now n e i S h q f m,
 )
 
 pub returns-clause-nested : goal.returns-clause-nested

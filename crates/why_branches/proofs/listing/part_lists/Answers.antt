@@ -6,19 +6,19 @@ pub returns-clause-members : goal.returns-clause-members
 returns-clause-members c = λ k p n. (members_none k p n, λ vs v xs s h. members_more k p n vs v xs s h, λ vs v xs l s h. members_full k p n vs v xs l s h)
 
 pub returns-clause-arms : goal.returns-clause-arms
-returns-clause-arms c = λ g d k p. (arms_none g d k p, λ es e xs zs s a b. arms_more g d k p es e xs zs s a b, λ es e xs l s a. arms_full g d k p es e xs l s a)
+returns-clause-arms c = λ g sp d k p. (arms_none g sp d k p, λ es e xs zs s a b. arms_more g sp d k p es e xs zs s a b, λ es e xs l s a. arms_full g sp d k p es e xs l s a)
 
 pub returns-clause-parts : goal.returns-clause-parts
-returns-clause-parts c = λ g d k e. (
-  none_gone g d k e,
-  λ ps y ys zs h s a b. gone_on g d k e ps y ys zs h s a b,
-  λ ps y ys h s a. gone_full g d k e ps y ys h s a,
-  λ y q zs i b. after_passed g d k e y q zs i b,
-  λ y q s w i l. after_ended g d k e y q s w i l,
+returns-clause-parts c = λ g sp d k e. (
+  none_gone g sp d k e,
+  λ ps y ys zs h s a b. gone_on g sp d k e ps y ys zs h s a b,
+  λ ps y ys h s a. gone_full g sp d k e ps y ys h s a,
+  λ y q zs i b. after_passed g sp d k e y q zs i b,
+  λ y q s w i l. after_ended g sp d k e y q s w i l,
 )
 
 pub returns-clause-conjunctions : goal.returns-clause-conjunctions
-returns-clause-conjunctions c = λ g d k p l. (turns_begin g d k p l, λ es e xs ys a b. turns_go_on g d k p es e xs ys l a b)
+returns-clause-conjunctions c = λ g sp d k p l. (turns_begin g sp d k p l, λ es e xs ys a b. turns_go_on g sp d k p es e xs ys l a b)
 
 pub returns-clause-tests : goal.returns-clause-tests
 returns-clause-tests c = λ g d k e. (

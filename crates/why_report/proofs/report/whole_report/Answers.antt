@@ -11,11 +11,11 @@ told_behind-requires-clause-ends c =
 pub returns-in-Some : goal.returns-in-Some
 returns-in-Some c =
     let s = c.args.steps.now in
-    reported s.spec.now s.log.now (asked s.stutter s.within s.limit) (named c.args.labels.now) c.args.most c.in-Some.prefix c.args.searched.answer c.told_behind.result
+    reported s.spec.now s.log.now (asked s.stutter s.within s.limit) (named c.args.labels.now) c.args.wanted.why c.args.wanted.near c.in-Some.prefix c.args.searched.answer c.told_behind.result
     c.in-Some.ensures c.told_behind.ensures
 
 pub returns-in-None : goal.returns-in-None
 returns-in-None c =
     let s = c.args.steps.now in
-    reported_alone s.spec.now s.log.now (asked s.stutter s.within s.limit) (named c.args.labels.now) c.args.most c.args.searched.answer c.told_alone.result c.in-None.ensures
+    reported_alone s.spec.now s.log.now (asked s.stutter s.within s.limit) (named c.args.labels.now) c.args.wanted.why c.args.wanted.near c.args.searched.answer c.told_alone.result c.in-None.ensures
     c.told_alone.ensures

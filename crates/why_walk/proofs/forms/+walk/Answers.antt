@@ -54,7 +54,7 @@ walk_part-returns-then-depth-eq0 t c =
     let d = c.args.depth in
     let p = c.args.places in
     let q = c.args.part in
-    ok_then c.one_end.result _ _ (λ x h. nested_row (setting s) k d (before s vs) (part_term q) p c.part_place.result c.ends_at.result x.items c.requires.room c.if-depth-eq0.true c.part_place.ensures c.ends_at.ensures h) c.one_end.ensures
+    ok_then c.one_end.result _ _ (λ x h. nested_row (setting s) c.args.sparing k d (before s vs) (part_term q) p c.part_place.result c.ends_at.result x.items c.requires.room c.if-depth-eq0.true c.part_place.ensures c.ends_at.ensures h) c.one_end.ensures
 
 pub walk_part-walk_row-requires : goal.walk_part-walk_row-requires
 walk_part-walk_row-requires t c =
@@ -78,7 +78,7 @@ walk_part-returns t c =
     let p = c.args.places in
     let q = c.args.part in
     let same : suc (c.args.depth - 1) ≡ c.args.depth = omega (arith, c.if-depth-eq0.false) in
-    ok_then c.walk_row.result _ _ (λ x h. listed_at (setting s) k (suc (d - 1)) d (before s vs) (part_term q) p x.items same h) c.walk_row.ensures
+    ok_then c.walk_row.result _ _ (λ x h. listed_at (setting s) c.args.sparing k (suc (d - 1)) d (before s vs) (part_term q) p x.items same h) c.walk_row.ensures
 
 pub walk_row-walk_test-requires : goal.walk_row-walk_test-requires
 walk_row-walk_test-requires t c =
@@ -171,7 +171,7 @@ walk_both-walk_all-requires t c =
     let p = c.args.places in
     let q = c.args.part in
     let same = ap (map part_term) c.deref.ensures.value ∙ c.in_ok-parts.ensures in
-    (omega (arith, c.decreases), (c.requires.room, both_grounds s vs k c.requires.room d p q c.requires.grounds c.deref.result.now (terms_list c.args.terms.now) same c.requires.form))
+    (omega (arith, c.decreases), (c.requires.room, both_grounds s c.args.sparing vs k c.requires.room d p q c.requires.grounds c.deref.result.now (terms_list c.args.terms.now) same c.requires.form))
 
 pub walk_both-returns : goal.walk_both-returns
 walk_both-returns t c =
@@ -182,7 +182,7 @@ walk_both-returns t c =
     let p = c.args.places in
     let q = c.args.part in
     let same = ap (map part_term) c.deref.ensures.value ∙ c.in_ok-parts.ensures in
-    ok_then c.walk_all.result _ _ (λ x h. both_listed s vs k c.requires.room d p q c.requires.grounds c.deref.result.now (terms_list c.args.terms.now) same c.requires.form x.items h) c.walk_all.ensures
+    ok_then c.walk_all.result _ _ (λ x h. both_listed s c.args.sparing vs k c.requires.room d p q c.requires.grounds c.deref.result.now (terms_list c.args.terms.now) same c.requires.form x.items h) c.walk_all.ensures
 
 pub walk_unchanged-walk_all-requires : goal.walk_unchanged-walk_all-requires
 walk_unchanged-walk_all-requires t c =
@@ -195,7 +195,7 @@ walk_unchanged-walk_all-requires t c =
     let ts = map (unchanged_of (place_of (part_term q))) (terms_list c.args.terms.now) in
     let same = ap (map part_term) c.deref.ensures.value ∙ c.in_ok-parts.ensures ∙ ap (λ (at : Place). map (unchanged_of at) (terms_list c.args.terms.now)) c.part_place.ensures in
     let us = map value c.outermost-slots.result.now in
-    (omega (arith, c.decreases), (c.requires.room, narrowed_grounds s vs k c.requires.room d p q c.requires.grounds c.args.kept us c.deref.result.now ts c.outermost-slots.ensures same c.requires.form))
+    (omega (arith, c.decreases), (c.requires.room, narrowed_grounds s c.args.sparing vs k c.requires.room d p q c.requires.grounds c.args.kept us c.deref.result.now ts c.outermost-slots.ensures same c.requires.form))
 
 pub walk_unchanged-returns : goal.walk_unchanged-returns
 walk_unchanged-returns t c =
@@ -208,7 +208,7 @@ walk_unchanged-returns t c =
     let ts = map (unchanged_of (place_of (part_term q))) (terms_list c.args.terms.now) in
     let same = ap (map part_term) c.deref.ensures.value ∙ c.in_ok-parts.ensures ∙ ap (λ (at : Place). map (unchanged_of at) (terms_list c.args.terms.now)) c.part_place.ensures in
     let us = map value c.outermost-slots.result.now in
-    ok_then c.walk_all.result _ _ (λ x h. narrowed_listed s vs k c.requires.room d p q c.requires.grounds c.args.kept us c.deref.result.now ts c.outermost-slots.ensures same c.requires.form x.items h) c.walk_all.ensures
+    ok_then c.walk_all.result _ _ (λ x h. narrowed_listed s c.args.sparing vs k c.requires.room d p q c.requires.grounds c.args.kept us c.deref.result.now ts c.outermost-slots.ensures same c.requires.form x.items h) c.walk_all.ensures
 
 pub walk_either-walk_any-requires : goal.walk_either-walk_any-requires
 walk_either-walk_any-requires t c =
@@ -219,7 +219,7 @@ walk_either-walk_any-requires t c =
     let p = c.args.places in
     let q = c.args.part in
     let same = ap (map part_term) c.deref.ensures.value ∙ c.in_ok-parts.ensures in
-    (omega (arith, c.decreases), (c.requires.room, either_grounds s vs k c.requires.room d p q c.requires.grounds c.deref.result.now (terms_list c.args.terms.now) same c.requires.form))
+    (omega (arith, c.decreases), (c.requires.room, either_grounds s c.args.sparing vs k c.requires.room d p q c.requires.grounds c.deref.result.now (terms_list c.args.terms.now) same c.requires.form))
 
 pub walk_either-returns : goal.walk_either-returns
 walk_either-returns t c =
@@ -230,7 +230,7 @@ walk_either-returns t c =
     let p = c.args.places in
     let q = c.args.part in
     let same = ap (map part_term) c.deref.ensures.value ∙ c.in_ok-parts.ensures in
-    ok_then c.or_no_member.result _ _ (λ x h. either_listed s vs k c.requires.room d p q c.requires.grounds c.deref.result.now (terms_list c.args.terms.now) same c.requires.form c.in_ok-ends.ends.items x.items c.in_ok-ends.ensures
+    ok_then c.or_no_member.result _ _ (λ x h. either_listed s c.args.sparing vs k c.requires.room d p q c.requires.grounds c.deref.result.now (terms_list c.args.terms.now) same c.requires.form c.in_ok-ends.ends.items x.items c.in_ok-ends.ensures
     (subst (λ (at : Place). OrNoMember at c.in_ok-ends.ends.items x.items) c.part_place.ensures h)) c.or_no_member.ensures
 
 pub walk_boxed-walk_any-requires : goal.walk_boxed-walk_any-requires
@@ -245,7 +245,7 @@ walk_boxed-walk_any-requires t c =
     let f = unchanged_of (place_of (part_term q)) c.args.subscript.now in
     let qs = part.Plain c.args.action ∷ part.Unchanged c.part_place.result c.args.subscript ∷ [] in
     let same : map part_term qs ≡ e ∷ f ∷ [] = ap (λ (at : Place). c.args.action.now ∷ unchanged_of at c.args.subscript.now ∷ []) c.part_place.ensures in
-    (omega (arith, c.decreases), (c.requires.room, either_grounds s vs k c.requires.room d p q c.requires.grounds qs (e ∷ f ∷ []) same c.requires.form))
+    (omega (arith, c.decreases), (c.requires.room, either_grounds s c.args.sparing vs k c.requires.room d p q c.requires.grounds qs (e ∷ f ∷ []) same c.requires.form))
 
 pub walk_boxed-returns : goal.walk_boxed-returns
 walk_boxed-returns t c =
@@ -259,7 +259,7 @@ walk_boxed-returns t c =
     let f = unchanged_of (place_of (part_term q)) c.args.subscript.now in
     let qs = part.Plain c.args.action ∷ part.Unchanged c.part_place.result c.args.subscript ∷ [] in
     let same : map part_term qs ≡ e ∷ f ∷ [] = ap (λ (at : Place). c.args.action.now ∷ unchanged_of at c.args.subscript.now ∷ []) c.part_place.ensures in
-    ok_then c.walk_any.result _ _ (λ x h. boxed_listed s vs k c.requires.room d p q c.requires.grounds qs e f same c.requires.form x.items h) c.walk_any.ensures
+    ok_then c.walk_any.result _ _ (λ x h. boxed_listed s c.args.sparing vs k c.requires.room d p q c.requires.grounds qs e f same c.requires.form x.items h) c.walk_any.ensures
 
 pub walk_angled-walk_part-requires : goal.walk_angled-walk_part-requires
 walk_angled-walk_part-requires t c =
@@ -271,7 +271,7 @@ walk_angled-walk_part-requires t c =
     let q = c.args.part in
     let e = c.args.action.now in
     let v = c.args.subscript.now in
-    (omega (arith, c.decreases), (c.requires.room, angled_grounds (setting s) k c.requires.room d (before s vs) (part_term q) p c.requires.grounds e v c.requires.form))
+    (omega (arith, c.decreases), (c.requires.room, angled_grounds (setting s) c.args.sparing k c.requires.room d (before s vs) (part_term q) p c.requires.grounds e v c.requires.form))
 
 pub walk_angled-altered_ends-requires : goal.walk_angled-altered_ends-requires
 walk_angled-altered_ends-requires t c =
@@ -283,7 +283,7 @@ walk_angled-altered_ends-requires t c =
     let q = c.args.part in
     let e = c.args.action.now in
     let v = c.args.subscript.now in
-    let read = ends_read (setting s) k c.requires.room d (before s vs) (part_term q) p c.requires.grounds e v c.requires.form c.in_ok-found.found.items c.in_ok-found.ensures in
+    let read = ends_read (setting s) c.args.sparing k c.requires.room d (before s vs) (part_term q) p c.requires.grounds e v c.requires.form c.in_ok-found.found.items c.in_ok-found.ensures in
     subst (λ (at : Place). EndsRead (setting s) d (before s vs) (changed_of at v) c.in_ok-found.found.items) (sym c.part_place.ensures) read
 
 pub walk_angled-returns : goal.walk_angled-returns
@@ -297,7 +297,7 @@ walk_angled-returns t c =
     let e = c.args.action.now in
     let v = c.args.subscript.now in
     let found = c.in_ok-found.found.items in
-    ok_then c.altered_ends.result _ _ (λ x h. angled_row (setting s) k c.requires.room d (before s vs) (part_term q) p c.requires.grounds e v c.requires.form found x.items c.in_ok-found.ensures
+    ok_then c.altered_ends.result _ _ (λ x h. angled_row (setting s) c.args.sparing k c.requires.room d (before s vs) (part_term q) p c.requires.grounds e v c.requires.form found x.items c.in_ok-found.ensures
     (subst (λ (at : Place). EndsAltered (setting s) d (before s vs) (changed_of at v) found x.items) c.part_place.ensures h)) c.altered_ends.ensures
 
 pub walk_inside-walk_part-requires : goal.walk_inside-walk_part-requires
@@ -308,7 +308,7 @@ walk_inside-walk_part-requires t c =
     let d = c.args.depth in
     let p = c.args.places in
     let q = c.args.part in
-    (omega (arith, c.decreases), (c.requires.room, inside_grounds s vs k c.requires.room d p q c.requires.grounds c.args.inner.now c.requires.form))
+    (omega (arith, c.decreases), (c.requires.room, inside_grounds s c.args.sparing vs k c.requires.room d p q c.requires.grounds c.args.inner.now c.requires.form))
 
 pub walk_inside-returns : goal.walk_inside-returns
 walk_inside-returns t c =
@@ -318,7 +318,7 @@ walk_inside-returns t c =
     let d = c.args.depth in
     let p = c.args.places in
     let q = c.args.part in
-    ok_then c.walk_part.result _ _ (λ x h. inside_listed s vs k c.requires.room d p q c.requires.grounds c.args.inner.now c.requires.form x.items h) c.walk_part.ensures
+    ok_then c.walk_part.result _ _ (λ x h. inside_listed s c.args.sparing vs k c.requires.room d p q c.requires.grounds c.args.inner.now c.requires.form x.items h) c.walk_part.ensures
 
 pub walk_branch-eval_truth-requires : goal.walk_branch-eval_truth-requires
 walk_branch-eval_truth-requires t c =
@@ -328,7 +328,7 @@ walk_branch-eval_truth-requires t c =
     let d = c.args.depth in
     let p = c.args.places in
     let q = c.args.part in
-    in_scene s vs p c.scene_at.result (λ ops x. Reads ops d x c.args.test.now) c.scene_at.ensures.table c.scene_at.ensures.context (branch_reads s vs k c.requires.room d p q c.requires.grounds c.args.test.now c.args.holds.now c.args.other.now c.requires.form)
+    in_scene s vs p c.scene_at.result (λ ops x. Reads ops d x c.args.test.now) c.scene_at.ensures.table c.scene_at.ensures.context (branch_reads s c.args.sparing vs k c.requires.room d p q c.requires.grounds c.args.test.now c.args.holds.now c.args.other.now c.requires.form)
 
 pub walk_branch-walk_part-requires : goal.walk_branch-walk_part-requires
 walk_branch-walk_part-requires t c =
@@ -340,7 +340,7 @@ walk_branch-walk_part-requires t c =
     let q = c.args.part in
     let there = on_stage s vs p c.scene_at.result (λ ops x. TruthOf (Evaluates ops d) x c.args.test.now (Ok c.in-Ok-true.field-0)) c.scene_at.ensures.table c.scene_at.ensures.context c.in-Ok-true.ensures in
     let told = subst (λ (b : Bool). TruthOf (Evaluates s.operators.now d) (at_next s.which (before s vs) p) c.args.test.now (Ok b)) c.in-Ok-true.field-0-test there in
-    (omega (arith, c.decreases), (c.requires.room, branch_grounds s vs k c.requires.room d p q c.requires.grounds c.args.test.now c.args.holds.now c.args.other.now true c.requires.form told))
+    (omega (arith, c.decreases), (c.requires.room, branch_grounds s c.args.sparing vs k c.requires.room d p q c.requires.grounds c.args.test.now c.args.holds.now c.args.other.now true c.requires.form told))
 
 pub walk_branch-returns-in-Ok-true : goal.walk_branch-returns-in-Ok-true
 walk_branch-returns-in-Ok-true t c =
@@ -352,7 +352,7 @@ walk_branch-returns-in-Ok-true t c =
     let q = c.args.part in
     let there = on_stage s vs p c.scene_at.result (λ ops x. TruthOf (Evaluates ops d) x c.args.test.now (Ok c.in-Ok-true.field-0)) c.scene_at.ensures.table c.scene_at.ensures.context c.in-Ok-true.ensures in
     let told = subst (λ (b : Bool). TruthOf (Evaluates s.operators.now d) (at_next s.which (before s vs) p) c.args.test.now (Ok b)) c.in-Ok-true.field-0-test there in
-    ok_then c.walk_part.result _ _ (λ x h. branch_listed s vs k c.requires.room d p q c.requires.grounds c.args.test.now c.args.holds.now c.args.other.now true c.requires.form told x.items h) c.walk_part.ensures
+    ok_then c.walk_part.result _ _ (λ x h. branch_listed s c.args.sparing vs k c.requires.room d p q c.requires.grounds c.args.test.now c.args.holds.now c.args.other.now true c.requires.form told x.items h) c.walk_part.ensures
 
 pub walk_branch-walk_part-requires-in-Ok-false : goal.walk_branch-walk_part-requires-in-Ok-false
 walk_branch-walk_part-requires-in-Ok-false t c =
@@ -364,7 +364,7 @@ walk_branch-walk_part-requires-in-Ok-false t c =
     let q = c.args.part in
     let there = on_stage s vs p c.scene_at.result (λ ops x. TruthOf (Evaluates ops d) x c.args.test.now (Ok c.in-Ok-false.field-0)) c.scene_at.ensures.table c.scene_at.ensures.context c.in-Ok-false.ensures in
     let told = subst (λ (b : Bool). TruthOf (Evaluates s.operators.now d) (at_next s.which (before s vs) p) c.args.test.now (Ok b)) c.in-Ok-false.field-0-test there in
-    (omega (arith, c.decreases), (c.requires.room, branch_grounds s vs k c.requires.room d p q c.requires.grounds c.args.test.now c.args.holds.now c.args.other.now false c.requires.form told))
+    (omega (arith, c.decreases), (c.requires.room, branch_grounds s c.args.sparing vs k c.requires.room d p q c.requires.grounds c.args.test.now c.args.holds.now c.args.other.now false c.requires.form told))
 
 pub walk_branch-returns-in-Ok-false : goal.walk_branch-returns-in-Ok-false
 walk_branch-returns-in-Ok-false t c =
@@ -376,7 +376,7 @@ walk_branch-returns-in-Ok-false t c =
     let q = c.args.part in
     let there = on_stage s vs p c.scene_at.result (λ ops x. TruthOf (Evaluates ops d) x c.args.test.now (Ok c.in-Ok-false.field-0)) c.scene_at.ensures.table c.scene_at.ensures.context c.in-Ok-false.ensures in
     let told = subst (λ (b : Bool). TruthOf (Evaluates s.operators.now d) (at_next s.which (before s vs) p) c.args.test.now (Ok b)) c.in-Ok-false.field-0-test there in
-    ok_then c.walk_part-in-Ok-false.result _ _ (λ x h. branch_listed s vs k c.requires.room d p q c.requires.grounds c.args.test.now c.args.holds.now c.args.other.now false c.requires.form told x.items h) c.walk_part-in-Ok-false.ensures
+    ok_then c.walk_part-in-Ok-false.result _ _ (λ x h. branch_listed s c.args.sparing vs k c.requires.room d p q c.requires.grounds c.args.test.now c.args.holds.now c.args.other.now false c.requires.form told x.items h) c.walk_part-in-Ok-false.ensures
 
 pub walk_branch-returns-in_ok-end-in-Err : goal.walk_branch-returns-in_ok-end-in-Err
 walk_branch-returns-in_ok-end-in-Err t c =
@@ -387,7 +387,7 @@ walk_branch-returns-in_ok-end-in-Err t c =
     let p = c.args.places in
     let q = c.args.part in
     let there = on_stage s vs p c.scene_at.result (λ ops x. Tells {A = Bool} (Err c.in-Err.fault) (TruthOf (Evaluates ops d) x c.args.test.now)) c.scene_at.ensures.table c.scene_at.ensures.context c.in-Err.ensures in
-    ok_then c.one_end.result _ _ (λ x h. branch_refused s vs k c.requires.room d p q c.requires.grounds c.args.test.now c.args.holds.now c.args.other.now c.in-Err.fault c.in_ok-end-in-Err.end x.items c.requires.form there c.in_ok-end-in-Err.ensures h) c.one_end.ensures
+    ok_then c.one_end.result _ _ (λ x h. branch_refused s c.args.sparing vs k c.requires.room d p q c.requires.grounds c.args.test.now c.args.holds.now c.args.other.now c.in-Err.fault c.in_ok-end-in-Err.end x.items c.requires.form there c.in_ok-end-in-Err.ensures h) c.one_end.ensures
 
 pub walk_case-chosen_arm-requires : goal.walk_case-chosen_arm-requires
 walk_case-chosen_arm-requires t c =
@@ -399,7 +399,7 @@ walk_case-chosen_arm-requires t c =
     let q = c.args.part in
     let cs = arms_list c.args.cases.now in
     let other = option_copied c.args.other in
-    in_scene s vs p c.scene_at-scene.result (λ ops x. ReadsEach (Reads ops d) x (map (λ y. y.0) cs)) c.scene_at-scene.ensures.table c.scene_at-scene.ensures.context (arms_reads s vs k c.requires.room d p q c.requires.grounds cs other c.requires.form)
+    in_scene s vs p c.scene_at-scene.result (λ ops x. ReadsEach (Reads ops d) x (map (λ y. y.0) cs)) c.scene_at-scene.ensures.table c.scene_at-scene.ensures.context (arms_reads s c.args.sparing vs k c.requires.room d p q c.requires.grounds cs other c.requires.form)
 
 pub walk_case-walk_part-requires : goal.walk_case-walk_part-requires
 walk_case-walk_part-requires t c =
@@ -413,7 +413,7 @@ walk_case-walk_part-requires t c =
     let other = option_copied c.args.other in
     let there = on_stage s vs p c.scene_at-scene.result (λ ops x. Chosen (TruthOf (Evaluates ops d) x) c.part_place.result cs other (Ok c.in-Ok.term.now)) c.scene_at-scene.ensures.table c.scene_at-scene.ensures.context c.in-Ok.ensures.chosen in
     let told = subst (λ (at : Place). Chosen (TruthOf (Evaluates s.operators.now d) (at_next s.which (before s vs) p)) at cs other (Ok c.in-Ok.term.now)) c.part_place.ensures there in
-    (omega (arith, c.decreases), (c.requires.room, arms_grounds s vs k c.requires.room d p q c.requires.grounds cs other c.in-Ok.term.now c.requires.form told))
+    (omega (arith, c.decreases), (c.requires.room, arms_grounds s c.args.sparing vs k c.requires.room d p q c.requires.grounds cs other c.in-Ok.term.now c.requires.form told))
 
 pub walk_case-returns-in-Ok : goal.walk_case-returns-in-Ok
 walk_case-returns-in-Ok t c =
@@ -427,7 +427,7 @@ walk_case-returns-in-Ok t c =
     let other = option_copied c.args.other in
     let there = on_stage s vs p c.scene_at-scene.result (λ ops x. Chosen (TruthOf (Evaluates ops d) x) c.part_place.result cs other (Ok c.in-Ok.term.now)) c.scene_at-scene.ensures.table c.scene_at-scene.ensures.context c.in-Ok.ensures.chosen in
     let told = subst (λ (at : Place). Chosen (TruthOf (Evaluates s.operators.now d) (at_next s.which (before s vs) p)) at cs other (Ok c.in-Ok.term.now)) c.part_place.ensures there in
-    ok_then c.walk_part.result _ _ (λ x h. arms_listed s vs k c.requires.room d p q c.requires.grounds cs other c.in-Ok.term.now c.requires.form told x.items h) c.walk_part.ensures
+    ok_then c.walk_part.result _ _ (λ x h. arms_listed s c.args.sparing vs k c.requires.room d p q c.requires.grounds cs other c.in-Ok.term.now c.requires.form told x.items h) c.walk_part.ensures
 
 pub walk_case-returns-in_ok-end-in-Err : goal.walk_case-returns-in_ok-end-in-Err
 walk_case-returns-in_ok-end-in-Err t c =
@@ -441,7 +441,7 @@ walk_case-returns-in_ok-end-in-Err t c =
     let other = option_copied c.args.other in
     let here = on_stage s vs p c.scene_at-scene.result (λ ops x. Stops (Chosen (TruthOf (Evaluates ops d) x) c.part_place.result cs other) c.in-Err.fault) c.scene_at-scene.ensures.table c.scene_at-scene.ensures.context c.in-Err.ensures.fault in
     let there = subst (λ (at : Place). Stops (Chosen (TruthOf (Evaluates s.operators.now d) (at_next s.which (before s vs) p)) at cs other) c.in-Err.fault) c.part_place.ensures here in
-    ok_then c.one_end.result _ _ (λ x h. arms_refused s vs k c.requires.room d p q c.requires.grounds cs other c.in-Err.fault c.in_ok-end-in-Err.end x.items c.requires.form there c.in_ok-end-in-Err.ensures h) c.one_end.ensures
+    ok_then c.one_end.result _ _ (λ x h. arms_refused s c.args.sparing vs k c.requires.room d p q c.requires.grounds cs other c.in-Err.fault c.in_ok-end-in-Err.end x.items c.requires.form there c.in_ok-end-in-Err.ensures h) c.one_end.ensures
 
 pub walk_call-eval_each-requires : goal.walk_call-eval_each-requires
 walk_call-eval_each-requires t c =
@@ -453,7 +453,7 @@ walk_call-eval_each-requires t c =
     let q = c.args.part in
     let j = c.args.number.0 in
     let ts = terms_list c.args.arguments.now in
-    in_scene s vs p c.scene_at.result (λ ops x. ReadsEach (Reads ops d) x ts) c.scene_at.ensures.table c.scene_at.ensures.context (call_reads s vs k c.requires.room d p q c.requires.grounds j ts c.requires.form)
+    in_scene s vs p c.scene_at.result (λ ops x. ReadsEach (Reads ops d) x ts) c.scene_at.ensures.table c.scene_at.ensures.context (call_reads s c.args.sparing vs k c.requires.room d p q c.requires.grounds j ts c.requires.form)
 
 pub walk_call-walk_body-requires : goal.walk_call-walk_body-requires
 walk_call-walk_body-requires t c =
@@ -467,7 +467,7 @@ walk_call-walk_body-requires t c =
     let ts = terms_list c.args.arguments.now in
     let there = on_stage s vs p c.scene_at.result (λ ops x. Each (Evaluates ops d x) ts (Ok c.in-Ok.values.items)) c.scene_at.ensures.table c.scene_at.ensures.context c.in-Ok.ensures.values in
     let told = subst (λ (us : List Val). Each (Evaluates s.operators.now d (at_next s.which (before s vs) p)) ts (Ok us)) (sym c.deref.ensures.value) there in
-    (omega (arith, c.decreases), (c.requires.room, call_grounds s vs k c.requires.room d p q c.requires.grounds j ts c.deref.result.now c.requires.form told))
+    (omega (arith, c.decreases), (c.requires.room, call_grounds s c.args.sparing vs k c.requires.room d p q c.requires.grounds j ts c.deref.result.now c.requires.form told))
 
 pub walk_call-returns-in-Ok : goal.walk_call-returns-in-Ok
 walk_call-returns-in-Ok t c =
@@ -481,7 +481,7 @@ walk_call-returns-in-Ok t c =
     let ts = terms_list c.args.arguments.now in
     let there = on_stage s vs p c.scene_at.result (λ ops x. Each (Evaluates ops d x) ts (Ok c.in-Ok.values.items)) c.scene_at.ensures.table c.scene_at.ensures.context c.in-Ok.ensures.values in
     let told = subst (λ (us : List Val). Each (Evaluates s.operators.now d (at_next s.which (before s vs) p)) ts (Ok us)) (sym c.deref.ensures.value) there in
-    ok_then c.walk_body.result _ _ (λ x h. call_listed s vs k c.requires.room d p q c.requires.grounds j ts c.deref.result.now c.requires.form told x.items h) c.walk_body.ensures
+    ok_then c.walk_body.result _ _ (λ x h. call_listed s c.args.sparing vs k c.requires.room d p q c.requires.grounds j ts c.deref.result.now c.requires.form told x.items h) c.walk_body.ensures
 
 pub walk_call-returns-in_ok-end-in-Err : goal.walk_call-returns-in_ok-end-in-Err
 walk_call-returns-in_ok-end-in-Err t c =
@@ -494,7 +494,7 @@ walk_call-returns-in_ok-end-in-Err t c =
     let j = c.args.number.0 in
     let ts = terms_list c.args.arguments.now in
     let there = on_stage s vs p c.scene_at.result (λ ops x. Stops (Each (Evaluates ops d x) ts) c.in-Err.fault) c.scene_at.ensures.table c.scene_at.ensures.context c.in-Err.ensures.fault in
-    ok_then c.one_end.result _ _ (λ x h. call_refused s vs k c.requires.room d p q c.requires.grounds j ts c.in-Err.fault c.in_ok-end-in-Err.end x.items c.requires.form there c.in_ok-end-in-Err.ensures h) c.one_end.ensures
+    ok_then c.one_end.result _ _ (λ x h. call_refused s c.args.sparing vs k c.requires.room d p q c.requires.grounds j ts c.in-Err.fault c.in_ok-end-in-Err.end x.items c.requires.form there c.in_ok-end-in-Err.ensures h) c.one_end.ensures
 
 pub walk_exists-eval_bounds-requires : goal.walk_exists-eval_bounds-requires
 walk_exists-eval_bounds-requires t c =
@@ -506,7 +506,7 @@ walk_exists-eval_bounds-requires t c =
     let q = c.args.part in
     let bs = c.args.bounds.now in
     let e = c.args.body.now in
-    in_scene s vs p c.scene_at.result (λ ops x. BoundsRead (Reads ops d) x bs) c.scene_at.ensures.table c.scene_at.ensures.context (some_reads s vs k c.requires.room d p q c.requires.grounds bs e c.requires.form)
+    in_scene s vs p c.scene_at.result (λ ops x. BoundsRead (Reads ops d) x bs) c.scene_at.ensures.table c.scene_at.ensures.context (some_reads s c.args.sparing vs k c.requires.room d p q c.requires.grounds bs e c.requires.form)
 
 pub walk_exists-walk_over-requires : goal.walk_exists-walk_over-requires
 walk_exists-walk_over-requires t c =
@@ -521,7 +521,7 @@ walk_exists-walk_over-requires t c =
     let all = combinations (ranges (map bound_members c.deref.result.now)) in
     let there = on_stage s vs p c.scene_at.result (λ ops x. BoundValues (Evaluates ops d) x bs (Ok (combinations (ranges (map bound_members c.in-Ok.sets.items))))) c.scene_at.ensures.table c.scene_at.ensures.context c.in-Ok.ensures.values in
     let told = subst (λ (sets : List BoundSet). BoundValues (Evaluates s.operators.now d) (at_next s.which (before s vs) p) bs (Ok (combinations (ranges (map bound_members sets))))) (sym c.deref.ensures.value) there in
-    (omega (arith, c.decreases), (c.requires.room, some_grounds s vs k c.requires.room d p q c.requires.grounds bs e all c.requires.form told))
+    (omega (arith, c.decreases), (c.requires.room, some_grounds s c.args.sparing vs k c.requires.room d p q c.requires.grounds bs e all c.requires.form told))
 
 pub walk_exists-returns-in-Ok : goal.walk_exists-returns-in-Ok
 walk_exists-returns-in-Ok t c =
@@ -536,7 +536,7 @@ walk_exists-returns-in-Ok t c =
     let all = combinations (ranges (map bound_members c.deref.result.now)) in
     let there = on_stage s vs p c.scene_at.result (λ ops x. BoundValues (Evaluates ops d) x bs (Ok (combinations (ranges (map bound_members c.in-Ok.sets.items))))) c.scene_at.ensures.table c.scene_at.ensures.context c.in-Ok.ensures.values in
     let told = subst (λ (sets : List BoundSet). BoundValues (Evaluates s.operators.now d) (at_next s.which (before s vs) p) bs (Ok (combinations (ranges (map bound_members sets))))) (sym c.deref.ensures.value) there in
-    ok_then c.or_no_member.result _ _ (λ x h. some_listed s vs k c.requires.room d p q c.requires.grounds bs e all c.requires.form told c.in_ok-ends-in-Ok.ends.items x.items c.in_ok-ends-in-Ok.ensures
+    ok_then c.or_no_member.result _ _ (λ x h. some_listed s c.args.sparing vs k c.requires.room d p q c.requires.grounds bs e all c.requires.form told c.in_ok-ends-in-Ok.ends.items x.items c.in_ok-ends-in-Ok.ensures
     (subst (λ (at : Place). OrNoMember at c.in_ok-ends-in-Ok.ends.items x.items) c.part_place.ensures h)) c.or_no_member.ensures
 
 pub walk_exists-returns : goal.walk_exists-returns
@@ -550,7 +550,7 @@ walk_exists-returns t c =
     let bs = c.args.bounds.now in
     let e = c.args.body.now in
     let there = on_stage s vs p c.scene_at.result (λ ops x. Stops (BoundValues (Evaluates ops d) x bs) c.in-Err.fault) c.scene_at.ensures.table c.scene_at.ensures.context c.in-Err.ensures.fault in
-    ok_then c.one_end.result _ _ (λ x h. some_refused s vs k c.requires.room d p q c.requires.grounds bs e c.in-Err.fault c.in_ok-end-in-Err.end x.items c.requires.form there c.in_ok-end-in-Err.ensures h) c.one_end.ensures
+    ok_then c.one_end.result _ _ (λ x h. some_refused s c.args.sparing vs k c.requires.room d p q c.requires.grounds bs e c.in-Err.fault c.in_ok-end-in-Err.end x.items c.requires.form there c.in_ok-end-in-Err.ensures h) c.one_end.ensures
 
 pub walk_over-walk_combinations-requires : goal.walk_over-walk_combinations-requires
 walk_over-walk_combinations-requires t c =
@@ -569,7 +569,7 @@ walk_over-returns t c =
     let d = c.args.depth in
     let p = c.args.places.now in
     let same = ap (map members) c.deref.ensures.value ∙ c.in_ok-lists.ensures.members in
-    ok_then c.walk_combinations.result _ _ (λ x h. subst (λ (ls : List (List Val)). AnyListed g k d p (under ctx c.args.body.now (combinations ls)) x.items) same h) c.walk_combinations.ensures
+    ok_then c.walk_combinations.result _ _ (λ x h. subst (λ (ls : List (List Val)). AnyListed g c.args.sparing k d p (under ctx c.args.body.now (combinations ls)) x.items) same h) c.walk_combinations.ensures
 
 pub walk_under-walk_copy-requires : goal.walk_under-walk_copy-requires
 walk_under-walk_copy-requires t c =
@@ -586,7 +586,7 @@ walk_under-returns t c =
     let d = c.args.depth in
     let p = c.args.places.now in
     let same = ap (map value) c.deref.ensures.value ∙ c.in_ok-inner.ensures in
-    ok_then c.walk_copy.result _ _ (λ x h. subst (λ (us : List Val). IsListed g k d (before c.args.stage us) c.args.body.now p x.items) same h) c.walk_copy.ensures
+    ok_then c.walk_copy.result _ _ (λ x h. subst (λ (us : List Val). IsListed g c.args.sparing k d (before c.args.stage us) c.args.body.now p x.items) same h) c.walk_copy.ensures
 
 pub walk_combinations-loop-more-init : goal.walk_combinations-loop-more-init
 walk_combinations-loop-more-init t c =
@@ -600,7 +600,7 @@ walk_combinations-loop-more-init t c =
     let more = c.has_combination-more.result in
     let places = c.in_ok-indices.indices.items in
     let begun = left_begins lists more places c.in_ok-indices.ensures c.has_combination-more.ensures in
-    (under_start g k d p ctx e (combinations lists) (left_from more lists places) c.new-all.result.items begun c.new-all.ensures.items, within_begins lists more places c.in_ok-indices.ensures c.has_combination-more.ensures)
+    (under_start g c.args.sparing k d p ctx e (combinations lists) (left_from more lists places) c.new-all.result.items begun c.new-all.ensures.items, within_begins lists more places c.in_ok-indices.ensures c.has_combination-more.ensures)
 
 pub walk_combinations-returns-then-len-room : goal.walk_combinations-returns-then-len-room
 walk_combinations-returns-then-len-room t c =
@@ -614,7 +614,7 @@ walk_combinations-returns-then-len-room t c =
     let more = c.loop-more.more in
     let places = c.loop-more.indices.items in
     let full : k ≤ length c.loop-more.all.items = omega arith in
-    under_ends g k d p ctx e (combinations lists) (left_from more lists places) c.loop-more.all.items c.requires.room full c.loop-more.invariant.0
+    under_ends g c.args.sparing k d p ctx e (combinations lists) (left_from more lists places) c.loop-more.all.items c.requires.room full c.loop-more.invariant.0
 
 pub walk_combinations-walk_under-requires : goal.walk_combinations-walk_under-requires
 walk_combinations-walk_under-requires t c =
@@ -629,7 +629,7 @@ walk_combinations-walk_under-requires t c =
     let places = c.loop-more.indices.items in
     let left = some_left more lists places c.loop-more-test.true (c.loop-more.invariant.1 c.loop-more-test.true) in
     let within = subst (λ (ps : List ℕ). AreWithin lists ps) (sym c.deref.ensures.value) (c.loop-more.invariant.1 c.loop-more-test.true) in
-    let grounds = under_ground g k d p ctx e (combinations lists) (left_from more lists places) (at_places lists places) left.0 c.loop-more.all.items left.1 c.requires.grounds c.loop-more.invariant.0 in
+    let grounds = under_ground g c.args.sparing k d p ctx e (combinations lists) (left_from more lists places) (at_places lists places) left.0 c.loop-more.all.items left.1 c.requires.grounds c.loop-more.invariant.0 in
     let room : 1 ≤ c.args.room - c.len-in-loop-more.result = omega arith in
     (omega (arith, c.decreases), (room, (subst (λ (ps : List ℕ). WhyGrounded g d (bind ctx (at_places lists ps)) e p) (sym c.deref.ensures.value) grounds, within)))
 
@@ -663,9 +663,9 @@ walk_combinations-loop-more-preserved t c =
     let left = left_is more again lists places new c.loop-more-test.true c.advance-more.ensures.left in
     let few : length c.loop-more.all.items < k = omega arith in
     let same : c.len-in-loop-more.result ≡ length c.loop-more.all.items = omega arith in
-    let here = subst (λ (ps : List ℕ). IsListed g (k - c.len-in-loop-more.result) d (bind ctx (at_places lists ps)) e p c.in-Ok.further.items) c.deref.ensures.value c.in-Ok.ensures in
-    let there = subst (λ (n : ℕ). IsListed g (k - n) d (bind ctx (at_places lists places)) e p c.in-Ok.further.items) same here in
-    (under_step g k d p ctx e (combinations lists) (left_from more lists places) (at_places lists places) (left_from again lists new) c.loop-more.all.items c.in-Ok.further.items c.append.new.all.items left few there c.in_ok-append-in-Ok.ensures c.loop-more.invariant.0, c.advance-more.ensures.within)
+    let here = subst (λ (ps : List ℕ). IsListed g c.args.sparing (k - c.len-in-loop-more.result) d (bind ctx (at_places lists ps)) e p c.in-Ok.further.items) c.deref.ensures.value c.in-Ok.ensures in
+    let there = subst (λ (n : ℕ). IsListed g c.args.sparing (k - n) d (bind ctx (at_places lists places)) e p c.in-Ok.further.items) same here in
+    (under_step g c.args.sparing k d p ctx e (combinations lists) (left_from more lists places) (at_places lists places) (left_from again lists new) c.loop-more.all.items c.in-Ok.further.items c.append.new.all.items left few there c.in_ok-append-in-Ok.ensures c.loop-more.invariant.0, c.advance-more.ensures.within)
 
 pub walk_combinations-returns : goal.walk_combinations-returns
 walk_combinations-returns t c =
@@ -678,7 +678,7 @@ walk_combinations-returns t c =
     let lists = map members c.args.lists.now in
     let more = c.loop-more.more in
     let places = c.loop-more.indices.items in
-    under_done g k d p ctx e (combinations lists) (left_from more lists places) c.loop-more.all.items (none_more more lists places c.loop-more-test.false) c.loop-more.invariant.0
+    under_done g c.args.sparing k d p ctx e (combinations lists) (left_from more lists places) c.loop-more.all.items (none_more more lists places c.loop-more-test.false) c.loop-more.invariant.0
 
 pub walk_all-loop-part-init : goal.walk_all-loop-part-init
 walk_all-loop-part-init t c =
@@ -687,7 +687,7 @@ walk_all-loop-part-init t c =
     let k = c.args.room in
     let d = c.args.depth in
     let p = c.args.places in
-    all_start g k d p (parts_of ctx c.args.parts.now) c.in_ok-found.found.items c.requires.room c.in_ok-found.ensures
+    all_start g c.args.sparing k d p (parts_of ctx c.args.parts.now) c.in_ok-found.found.items c.requires.room c.in_ok-found.ensures
 
 pub walk_all-walk_on-requires : goal.walk_all-walk_on-requires
 walk_all-walk_on-requires t c =
@@ -701,7 +701,7 @@ walk_all-walk_on-requires t c =
     let e : Context × Term = (ctx, part_term c.part-item.result) in
     let below : c.loop-part.part-index < length c.args.parts.now = omega arith in
     let cut = apart es i e (cut_mapped (λ (q : Part). (ctx, part_term q)) c.args.parts.now i c.part-item.result (cut_at c.args.parts.now i c.part-item.result below c.part-item.is)) in
-    (omega (arith, c.decreases), (c.requires.room, all_ground g k d p es i e c.loop-part.found.items cut c.requires.grounds c.loop-part.invariant))
+    (omega (arith, c.decreases), (c.requires.room, all_ground g c.args.sparing k d p es i e c.loop-part.found.items cut c.requires.grounds c.loop-part.invariant))
 
 pub walk_all-loop-part-preserved : goal.walk_all-loop-part-preserved
 walk_all-loop-part-preserved t c =
@@ -715,7 +715,7 @@ walk_all-loop-part-preserved t c =
     let e : Context × Term = (ctx, part_term c.part-item.result) in
     let below : c.loop-part.part-index < length c.args.parts.now = omega arith in
     let cut = apart es i e (cut_mapped (λ (q : Part). (ctx, part_term q)) c.args.parts.now i c.part-item.result (cut_at c.args.parts.now i c.part-item.result below c.part-item.is)) in
-    all_step g k d p es i e c.loop-part.found.items c.in-Ok.further.items c.requires.room cut c.in-Ok.ensures c.loop-part.invariant
+    all_step g c.args.sparing k d p es i e c.loop-part.found.items c.in-Ok.further.items c.requires.room cut c.in-Ok.ensures c.loop-part.invariant
 
 pub walk_all-returns : goal.walk_all-returns
 walk_all-returns t c =
@@ -728,7 +728,7 @@ walk_all-returns t c =
     let i = c.loop-part.part-index in
     let passed : length c.args.parts.now ≤ c.loop-part.part-index = omega arith in
     let over : length es ≤ i = omega (arith, passed, length-map {B = Context × Term} c.args.parts.now (λ (q : Part). (ctx, part_term q))) in
-    all_done g k d p es i c.loop-part.found.items over c.loop-part.invariant
+    all_done g c.args.sparing k d p es i c.loop-part.found.items over c.loop-part.invariant
 
 pub walk_any-loop-part-init : goal.walk_any-loop-part-init
 walk_any-loop-part-init t c =
@@ -737,7 +737,7 @@ walk_any-loop-part-init t c =
     let k = c.args.room in
     let d = c.args.depth in
     let p = c.args.places.now in
-    any_start g k d p (parts_of ctx c.args.parts.now) c.new-all.result.items c.new-all.ensures.items
+    any_start g c.args.sparing k d p (parts_of ctx c.args.parts.now) c.new-all.result.items c.new-all.ensures.items
 
 pub walk_any-returns-then-len-room : goal.walk_any-returns-then-len-room
 walk_any-returns-then-len-room t c =
@@ -752,7 +752,7 @@ walk_any-returns-then-len-room t c =
     let below : c.loop-part.part-index < length c.args.parts.now = omega arith in
     let cut = apart es i e (cut_mapped (λ (q : Part). (ctx, part_term q)) c.args.parts.now i c.part-item.result (cut_at c.args.parts.now i c.part-item.result below c.part-item.is)) in
     let full : k ≤ length c.loop-part.all.items = omega arith in
-    any_ends g k d p es i e c.loop-part.all.items c.requires.room full cut c.loop-part.invariant
+    any_ends g c.args.sparing k d p es i e c.loop-part.all.items c.requires.room full cut c.loop-part.invariant
 
 pub walk_any-walk_copy-requires : goal.walk_any-walk_copy-requires
 walk_any-walk_copy-requires t c =
@@ -767,7 +767,7 @@ walk_any-walk_copy-requires t c =
     let below : c.loop-part.part-index < length c.args.parts.now = omega arith in
     let cut = apart es i e (cut_mapped (λ (q : Part). (ctx, part_term q)) c.args.parts.now i c.part-item.result (cut_at c.args.parts.now i c.part-item.result below c.part-item.is)) in
     let room : 1 ≤ c.args.room - c.len-in-loop-part.result = omega arith in
-    (omega (arith, c.decreases), (room, any_ground g k d p es i e cut c.requires.grounds))
+    (omega (arith, c.decreases), (room, any_ground g c.args.sparing k d p es i e cut c.requires.grounds))
 
 pub walk_any-loop-part-preserved : goal.walk_any-loop-part-preserved
 walk_any-loop-part-preserved t c =
@@ -783,7 +783,7 @@ walk_any-loop-part-preserved t c =
     let cut = apart es i e (cut_mapped (λ (q : Part). (ctx, part_term q)) c.args.parts.now i c.part-item.result (cut_at c.args.parts.now i c.part-item.result below c.part-item.is)) in
     let few : length c.loop-part.all.items < k = omega arith in
     let same : c.len-in-loop-part.result ≡ length c.loop-part.all.items = omega arith in
-    any_step g k d p es i e c.loop-part.all.items c.in-Ok.more.items c.append.new.all.items few cut (subst (λ (n : ℕ). IsListed g (k - n) d ctx (part_term c.part-item.result) p c.in-Ok.more.items) same c.in-Ok.ensures) c.in_ok-append-in-Ok.ensures c.loop-part.invariant
+    any_step g c.args.sparing k d p es i e c.loop-part.all.items c.in-Ok.more.items c.append.new.all.items few cut (subst (λ (n : ℕ). IsListed g c.args.sparing (k - n) d ctx (part_term c.part-item.result) p c.in-Ok.more.items) same c.in-Ok.ensures) c.in_ok-append-in-Ok.ensures c.loop-part.invariant
 
 pub walk_any-returns : goal.walk_any-returns
 walk_any-returns t c =
@@ -796,7 +796,7 @@ walk_any-returns t c =
     let i = c.loop-part.part-index in
     let passed : length c.args.parts.now ≤ c.loop-part.part-index = omega arith in
     let over : length es ≤ i = omega (arith, passed, length-map {B = Context × Term} c.args.parts.now (λ (q : Part). (ctx, part_term q))) in
-    any_done g k d p es i c.loop-part.all.items over c.loop-part.invariant
+    any_done g c.args.sparing k d p es i c.loop-part.all.items over c.loop-part.invariant
 
 pub walk_copy-walk_part-requires : goal.walk_copy-walk_part-requires
 walk_copy-walk_part-requires t c =
@@ -811,7 +811,7 @@ walk_copy-returns t c =
     let ctx = before c.args.stage (map value c.args.slots.now) in
     let k = c.args.room in
     let d = c.args.depth in
-    ok_then c.walk_part.result _ _ (λ x h. subst (λ (p : Places). IsListed g k d ctx (part_term c.args.part) p x.items) c.in_ok-same.ensures h) c.walk_part.ensures
+    ok_then c.walk_part.result _ _ (λ x h. subst (λ (p : Places). IsListed g c.args.sparing k d ctx (part_term c.args.part) p x.items) c.in_ok-same.ensures h) c.walk_part.ensures
 
 pub walk_end-walk_part-requires : goal.walk_end-walk_part-requires
 walk_end-walk_part-requires t c =
@@ -821,14 +821,15 @@ walk_end-walk_part-requires t c =
     let e : Context × Term = (ctx, part_term c.args.part) in
     (omega (arith, c.decreases), (c.requires.room, subst (λ (n : Ended). EndGrounded g d e n) c.in-Passed.is c.requires.grounds))
 
-pub walk_end-returns-in-Passed : goal.walk_end-returns-in-Passed
-walk_end-returns-in-Passed t c =
+pub walk_end-returns-in_ok-ends-in-Passed : goal.walk_end-returns-in_ok-ends-in-Passed
+walk_end-returns-in_ok-ends-in-Passed t c =
     let g = setting c.args.stage in
     let ctx = before c.args.stage (map value c.args.slots.now) in
     let k = c.args.room in
     let d = c.args.depth in
     let e : Context × Term = (ctx, part_term c.args.part) in
-    ok_then c.walk_part.result _ _ (λ x h. subst (λ (n : Ended). IsAfter g k d e n x.items) (sym c.in-Passed.is) (after_place g k d ctx (part_term c.args.part) c.in-Passed.places x.items h)) c.walk_part.ensures
+    ok_then c.behind.result _ _ (λ x h. subst (λ (n : Ended). IsAfter g c.args.sparing k d e n x.items) (sym c.in-Passed.is)
+    (after_place g c.args.sparing k d ctx (part_term c.args.part) c.in-Passed.places c.in-Passed.spared c.in_ok-ends-in-Passed.ends.items x.items h c.in_ok-ends-in-Passed.ensures)) c.behind.ensures
 
 pub walk_end-returns-in-Ends : goal.walk_end-returns-in-Ends
 walk_end-returns-in-Ends t c =
@@ -837,7 +838,7 @@ walk_end-returns-in-Ends t c =
     let k = c.args.room in
     let d = c.args.depth in
     let e : Context × Term = (ctx, part_term c.args.part) in
-    ok_then c.one_end.result _ _ (λ x h. subst (λ (n : Ended). IsAfter g k d e n x.items) (sym c.in-Ends.is) (after_end g k d e c.in-Ends.why x.items c.requires.room h)) c.one_end.ensures
+    ok_then c.one_end.result _ _ (λ x h. subst (λ (n : Ended). IsAfter g c.args.sparing k d e n x.items) (sym c.in-Ends.is) (after_end g c.args.sparing k d e c.in-Ends.why x.items c.requires.room h)) c.one_end.ensures
 
 pub walk_on-loop-end-init : goal.walk_on-loop-end-init
 walk_on-loop-end-init t c =
@@ -849,7 +850,7 @@ walk_on-loop-end-init t c =
     let ps = c.args.found.items in
     let gives = c.into_iter-end-iterator.ensures.into_iter_gives in
     record {
-      ahead = (0, ahead_first ps ∙ sym gives.0, on_start g k d e ps c.new-all.result.items c.new-all.ensures.items);
+      ahead = (0, ahead_first ps ∙ sym gives.0, on_start g c.args.sparing k d e ps c.new-all.result.items c.new-all.ensures.items);
       len = omega (arith, gives.1, ap length gives.0, c.args.found.ok.0);
     }
 
@@ -884,8 +885,8 @@ walk_on-loop-end-preserved-in-Continue-1 t c =
     let cut = ahead_at ps (into_iter_items c.loop-end.end-iterator) i c.in-Some.end left ahead.1 step.0 in
     let few : length c.loop-end.all.items < k = omega arith in
     let same : c.len-then-len-room.result ≡ length c.loop-end.all.items = omega arith in
-    let more = on_step g k d e ps i c.in-Some.end c.loop-end.all.items c.in-Ok.more.items c.append.new.all.items few cut
-    (subst (λ (n : ℕ). IsAfter g (k - n) d e c.in-Some.end c.in-Ok.more.items) same c.in-Ok.ensures) c.in_ok-append-in-Ok.ensures ahead.2 in
+    let more = on_step g c.args.sparing k d e ps i c.in-Some.end c.loop-end.all.items c.in-Ok.more.items c.append.new.all.items few cut
+    (subst (λ (n : ℕ). IsAfter g c.args.sparing (k - n) d e c.in-Some.end c.in-Ok.more.items) same c.in-Ok.ensures) c.in_ok-append-in-Ok.ensures ahead.2 in
     record {
       ahead = (i + 1, ahead_next ps (into_iter_items c.loop-end.end-iterator) i c.in-Some.end left ahead.1 step.0, more);
       len = omega (arith, step.1, c.loop-end.invariant.len, ap length step.0);
@@ -905,7 +906,7 @@ walk_on-loop-end-preserved t c =
     let step = c.in-Some.ensures.steps in
     let cut = ahead_at ps (into_iter_items c.loop-end.end-iterator) i c.in-Some.end left ahead.1 step.0 in
     let full : k ≤ length c.loop-end.all.items = omega arith in
-    let more = on_pass g k d e ps i c.in-Some.end c.loop-end.all.items full cut ahead.2 in
+    let more = on_pass g c.args.sparing k d e ps i c.in-Some.end c.loop-end.all.items full cut ahead.2 in
     record {
       ahead = (i + 1, ahead_next ps (into_iter_items c.loop-end.end-iterator) i c.in-Some.end left ahead.1 step.0, more);
       len = omega (arith, step.1, c.loop-end.invariant.len, ap length step.0);
@@ -921,7 +922,7 @@ walk_on-returns t c =
     let ps = c.args.found.items in
     let ahead = c.loop-end.invariant.ahead in
     let over = ahead_over ps (into_iter_items c.loop-end.end-iterator) ahead.0 ahead.1 (sym c.loop-end.invariant.len ∙ c.in-None.ensures.steps.0) in
-    on_done g k d e ps ahead.0 c.loop-end.all.items over ahead.2
+    on_done g c.args.sparing k d e ps ahead.0 c.loop-end.all.items over ahead.2
 
 pub walk_body-definition-operator-requires : goal.walk_body-definition-operator-requires
 walk_body-definition-operator-requires t c =
@@ -964,4 +965,4 @@ walk_body-returns t c =
     let us = c.args.values.now in
     let o = c.definition-operator.result.now in
     let same = ap (map value) c.deref.ensures.value ∙ c.in_ok-inner.ensures in
-    ok_then c.walk_part.result _ _ (λ x h. body_listed g k d p ctx j us o x.items c.definition-operator.ensures (subst (λ (vs : List Val). IsListed g k d (before c.args.stage vs) o.body p x.items) same h)) c.walk_part.ensures
+    ok_then c.walk_part.result _ _ (λ x h. body_listed g c.args.sparing k d p ctx j us o x.items c.definition-operator.ensures (subst (λ (vs : List Val). IsListed g c.args.sparing k d (before c.args.stage vs) o.body p x.items) same h)) c.walk_part.ensures

@@ -73,14 +73,14 @@ abbrev pub decreases-walk_end : goal.decreases-walk_end
 decreases-walk_end l = 10 * l.depth + 2
 
 abbrev pub invariant-walk_all-loop-part : goal.invariant-walk_all-loop-part
-invariant-walk_all-loop-part l = AllSoFar (setting l.stage) l.room l.depth l.fn.places (parts_of (before l.stage (map (λ v. v.now) l.slots)) l.parts) l.part-index l.found.items
+invariant-walk_all-loop-part l = AllSoFar (setting l.stage) l.sparing l.room l.depth l.fn.places (parts_of (before l.stage (map (λ v. v.now) l.slots)) l.parts) l.part-index l.found.items
 
 abbrev pub invariant-walk_any-loop-part : goal.invariant-walk_any-loop-part
-invariant-walk_any-loop-part l = AnySoFar (setting l.stage) l.room l.depth l.places (parts_of (before l.stage (map (λ v. v.now) l.slots)) l.parts) (take l.part-index (parts_of (before l.stage (map (λ v. v.now) l.slots)) l.parts)) l.all.items
+invariant-walk_any-loop-part l = AnySoFar (setting l.stage) l.sparing l.room l.depth l.places (parts_of (before l.stage (map (λ v. v.now) l.slots)) l.parts) (take l.part-index (parts_of (before l.stage (map (λ v. v.now) l.slots)) l.parts)) l.all.items
 
 abbrev pub invariant-walk_on-loop-end : goal.invariant-walk_on-loop-end
 invariant-walk_on-loop-end l = record {
-  ahead : Ahead l.fn.found.items (into_iter_items l.end-iterator) (λ i. OnSoFar (setting l.stage) l.room l.depth (before l.stage (map (λ v. v.now) l.slots), part_term l.part) l.fn.found.items i l.all.items);
+  ahead : Ahead l.fn.found.items (into_iter_items l.end-iterator) (λ i. OnSoFar (setting l.stage) l.sparing l.room l.depth (before l.stage (map (λ v. v.now) l.slots), part_term l.part) l.fn.found.items i l.all.items);
   len : into_iter_len l.end-iterator ≡ length (into_iter_items l.end-iterator);
 }
 
@@ -89,5 +89,5 @@ decreases-walk_combinations-loop-more l = length (left_from l.more (map (λ x. x
 
 abbrev pub invariant-walk_combinations-loop-more : goal.invariant-walk_combinations-loop-more
 invariant-walk_combinations-loop-more l =
-    UnderSoFar (setting l.stage) l.room l.depth l.places (before l.stage (map (λ v. v.now) l.slots)) l.body (combinations (map (λ x. x.now) l.lists)) (left_from l.more (map (λ x. x.now) l.lists) l.indices.items) l.all.items
+    UnderSoFar (setting l.stage) l.sparing l.room l.depth l.places (before l.stage (map (λ v. v.now) l.slots)) l.body (combinations (map (λ x. x.now) l.lists)) (left_from l.more (map (λ x. x.now) l.lists) l.indices.items) l.all.items
     × (IsTrue l.more → AreWithin (map (λ x. x.now) l.lists) l.indices.items)

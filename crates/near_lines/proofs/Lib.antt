@@ -1,0 +1,10 @@
+mod FirstTexts
+mod Loops
+mod AllEnds
+mod Nearing
+mod Telling
+mod LackingOnes
+mod Leading
+mod Repairing
+mod FunctionKinds
+mod Placing

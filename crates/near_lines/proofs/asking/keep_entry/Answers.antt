@@ -1,0 +1,35 @@
+use Rattle.std.proofs.Common.{◌≡◌, ◌↔◌, ◌<◌, ℕ, length, subst, sym}
+use Rattle.std.specs.Prelude.{All}
+use Rattle.tla_core.specs.States.{Values}
+use Rattle.tla_eval.specs.Laws.{HoldValues}
+use Rattle.path_updates.specs.declared.update.Update.{Update}
+use Rattle.line_steps.specs.Says.{IsState}
+use Rattle.line_steps.specs.Asks.{Moves, updated}
+use Rattle.action_reads.specs.Filled.{Completes, Fills}
+use Rattle.run_texts.specs.Answers.{named}
+use Rattle.why_not.proofs.Updated.{updated_is}
+use Rattle.near_lines.specs.Tells.{IsNearLine}
+use Rattle.near_lines.proofs.FirstTexts.{adds_none}
+use Rattle.near_lines.proofs.Nearing.{stuck_lines}
+use Rattle.near_lines.proofs.Placing.{none_of, some_of}
+use Rattle.near_lines.proofs.asking.keep_entry.Goals as goal
+
+pub keep_from-requires-clause-updated : goal.keep_from-requires-clause-updated
+keep_from-requires-clause-updated c =
+    let s = c.args.entry.now in
+    let us = c.args.subject.line.now.updates in
+    let p = c.in-Some.places in
+    let o = c.in_ok-moved.field-0 in
+    let m = c.in_ok-moved.ensures in
+    let within : All (λ (u : Update). u.path.variable.0 < length s) us = subst (λ (n : ℕ). All (λ (u : Update). u.path.variable.0 < n) us) (sym c.requires.state.long) c.requires.fits.updates in
+    updated_is us s p within (some_of o p (λ q. length q ≡ length s) c.in-Some.is m.long) (some_of o p (λ q. Fills (updated us) q) c.in-Some.is m.filled) (some_of o p (λ q. HoldValues q) c.in-Some.is m.values)
+    (some_of o p (λ q. (t : Values) → Completes q t ↔ (IsState (length s) t × Moves us s t)) c.in-Some.is m.exact)
+
+pub returns-in-None : goal.returns-in-None
+returns-in-None c =
+    let g = c.args.subject.spec.now in
+    let line = c.args.subject.line.now in
+    let l = named c.args.subject.labels.now in
+    let s = c.args.entry.now in
+    let none = none_of c.in_ok-moved.field-0 ((t : Values) → IsState (length s) t → Moves line.updates s t → ⊥) c.in-None.is c.in_ok-moved.ensures.none in
+    adds_none c.args.room (IsNearLine g line l s) c.args.texts.now.keys c.requires.few (stuck_lines g line l s none)

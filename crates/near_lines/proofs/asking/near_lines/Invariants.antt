@@ -1,0 +1,8 @@
+use Rattle.std.proofs.Common.{take, []}
+use Rattle.run_texts.specs.Answers.{named}
+use Rattle.near_lines.specs.Adding.{Adds, OneSays}
+use Rattle.near_lines.specs.Tells.{IsNearLine}
+use Rattle.near_lines.proofs.asking.near_lines.Given as goal
+
+abbrev pub invariant-loop-entry : goal.invariant-loop-entry
+invariant-loop-entry l = Adds l.room (OneSays (IsNearLine l.spec l.line (named l.fn.labels)) (take l.entry-index l.entries)) [] l.texts.keys

@@ -1,0 +1,12 @@
+use Rattle.std.proofs.Common.{Option, subst, sym}
+use Rattle.std.specs.Prelude.{OnOk}
+use Rattle.run_texts.specs.Answers.{named}
+use Rattle.why_branches.specs.declared.sparing.Spared.{Spared}
+use Rattle.why_branches.specs.declared.why.Ended.TheVariants.{Passed}
+use Rattle.near_lines.specs.Adding.{Adds, FailedSays}
+use Rattle.near_lines.proofs.failing.keep_passed.Goals as goal
+
+pub returns-in-Some : goal.returns-in-Some
+returns-in-Some c =
+    subst (λ (o : Option Spared). OnOk c.keep_spared.result (Adds c.args.room (FailedSays c.args.subject.spec.now c.args.subject.line.now (named c.args.subject.labels.now) (Passed c.args.places.now o)) c.args.texts.now.keys c.keep_spared.new.texts.keys))
+    (sym c.in-Some.is) c.keep_spared.ensures

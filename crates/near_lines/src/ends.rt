@@ -1,0 +1,43 @@
+//! The ends of all branches of a line.
+
+ghost use Rattle.std.specs.Prelude.{IfOk, length};
+ghost use Rattle.line_steps.specs.Says.{IsState};
+ghost use Rattle.ready_specs.specs.Ready.{IsReadyLine, IsReadySpec};
+ghost use Rattle.why_not.specs.Results.{AreUpdated};
+ghost use Rattle.why_not.specs.Taken.{LeadsThere};
+ghost use Rattle.near_lines.specs.Adding.{AreAllEnds};
+
+use path_updates::Line;
+use std::alloc::{AllocError, Global};
+use tla_core::{Partial, State};
+use tla_terms::Spec;
+use trace_base::NoMemory;
+use why_branches::{Ended, Sparing};
+use why_not::line_ends;
+
+/// More branches than any memory holds the ends of.
+const ROOM: usize = u32::MAX as usize;
+
+/// The ends of all branches of the line from the state, where some parts may be passed over.
+pub(crate) fn all_ends(
+    alloc: Global,
+    spec: &Spec,
+    line: &Line,
+    from: &State,
+    sparing: Sparing,
+    places: &Partial,
+) -> Result<Vec<Ended>, NoMemory>
+    requires ready { IsReadySpec spec.now }
+    requires fits { IsReadyLine spec.now line.now }
+    requires state { IsState (length spec.now.variables) from.now }
+    requires updated { AreUpdated line.now.updates from.now places.now }
+    requires exact { LeadsThere line.now.updates from.now places.now }
+    ensures { IfOk result (λ ends. AreAllEnds sparing spec.now line.now from.now ends.items) }
+{
+    let same = places.copy(alloc)?;
+    let ends = line_ends(alloc, spec, line, from, sparing, ROOM, same)?;
+    if ends.len() >= ROOM {
+        return Err(AllocError);
+    }
+    Ok(ends)
+}

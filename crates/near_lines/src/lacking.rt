@@ -1,0 +1,69 @@
+//! What is seen and alone does not stand there.
+
+ghost use Rattle.std.specs.Prelude.{◌≤◌, OnOk, length};
+ghost use Rattle.run_texts.specs.Answers.{named};
+ghost use Rattle.near_lines.specs.Adding.{Adds, LackingSays, OneSays, UnseenSays};
+
+use crate::firsts::keep;
+use crate::seeing::{found_at, lacking_alone};
+use crate::subject::Subject;
+use crate::words::unseen_text;
+use std::alloc::Global;
+use std::collections::BTreeSet;
+use tla_core::Partial;
+use trace_base::{NoMemory, Text};
+use why_branches::Ended;
+
+/// Keeps the lines of what is seen and alone is lacking where these branches were gone through.
+pub(crate) fn keep_unseen(
+    alloc: Global,
+    subject: Subject<'_>,
+    ends: &[Ended],
+    texts: &mut BTreeSet<Text>,
+    room: usize,
+) -> Result<(), NoMemory>
+    requires { length texts.old.keys ≤ room }
+    ensures { OnOk result (Adds room (OneSays (UnseenSays subject.entry.line.now (named subject.entry.labels.now)) ends.now) texts.old.keys texts.new.keys) }
+{
+    for end in ends {
+        keep_end(alloc, subject, end, texts, room)?;
+    }
+    Ok(())
+}
+
+/// The same of one branch.
+fn keep_end(
+    alloc: Global,
+    subject: Subject<'_>,
+    end: &Ended,
+    texts: &mut BTreeSet<Text>,
+    room: usize,
+) -> Result<(), NoMemory>
+    requires { length texts.old.keys ≤ room }
+    ensures { OnOk result (Adds room (UnseenSays subject.entry.line.now (named subject.entry.labels.now) end.now) texts.old.keys texts.new.keys) }
+{
+    match end {
+        Ended::Passed(places, _) => keep_lacking(alloc, subject, places, texts, room),
+        Ended::Ends(_) => Ok(()),
+    }
+}
+
+/// The same where this is filled.
+fn keep_lacking(
+    alloc: Global,
+    subject: Subject<'_>,
+    places: &Partial,
+    texts: &mut BTreeSet<Text>,
+    room: usize,
+) -> Result<(), NoMemory>
+    requires { length texts.old.keys ≤ room }
+    ensures { OnOk result (Adds room (LackingSays subject.entry.line.now (named subject.entry.labels.now) places.now) texts.old.keys texts.new.keys) }
+{
+    match lacking_alone(subject.line.sees.items(), places) {
+        None => Ok(()),
+        Some(see) => {
+            let text = unseen_text(alloc, subject, see, found_at(see, places))?;
+            keep(texts, room, text)
+        }
+    }
+}

@@ -1,0 +1,34 @@
+-- Which parts may be passed over where they do not hold: those at one place. An UNCHANGED is not passed over, since it stands for as many parts as it
+-- names variables.
+use Rattle.std.specs.Prelude.{Bool, true, false, ◌==◌, ◌&&◌, Option, None, Some, if◌then◌else◌}
+use Rattle.trace_base.specs.declared.place.Place.{Place}
+use Rattle.tla_ast.specs.declared.operators.PrefixOperator.TheVariants as prefix
+use Rattle.tla_terms.specs.Terms as term
+use Rattle.tla_terms.specs.Terms.{Meaning, Term, meaning_of, place_of}
+use Rattle.tla_actions.specs.Forms.{Form, call}
+use Rattle.why_branches.specs.declared.sparing.Sparing.{Sparing}
+
+abbrev pub same_place : Place → Place → Bool
+same_place a b = (a.file == b.file) && (a.line == b.line) && (a.col == b.col)
+
+-- UNCHANGED, of the text or of one of the terms of a tuple
+abbrev pub keeps : Meaning → Bool
+keeps (term.Prefix prefix.Unchanged e) = true
+keeps m = false
+
+abbrev pub is_unchanged : Term → Bool
+is_unchanged e = keeps (meaning_of e)
+
+-- where no place is named, nothing is passed over
+abbrev pub may_spare : Option Place → Term → Bool
+may_spare None e = false
+may_spare (Some at) e = if same_place at (place_of e) then (if is_unchanged e then false else true) else false
+
+-- nothing is passed over, and no definition is called
+abbrev pub nothing : Sparing
+nothing = record { at = None; call = None }
+
+-- further in, in what a form opens to
+abbrev pub called : Form → Sparing → Sparing
+called (call k es) sp = record { at = sp.at; call = Some (record { 0 = k }) }
+called f sp = sp

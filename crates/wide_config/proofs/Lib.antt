@@ -1,0 +1,4 @@
+mod Outcomes
+mod PassedOver
+pub mod Remaining
+mod Within

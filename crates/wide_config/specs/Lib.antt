@@ -1,0 +1,4 @@
+pub mod Bounds
+pub mod Laws
+pub mod Passed
+pub mod Wide
