@@ -1,8 +1,6 @@
 -- What tells why is made of lines that are no states.
-use Rattle.std.proofs.Common.{◌≡◌, ◌≢◌, ◌∙◌, sym, ap, subst, refl, ℕ, zero, suc, List, [], ◌∷◌, ◌++◌, Option, Some, None, All, append_assoc, codes, decimal, false, true}
-use Rattle.std.specs.Prelude.{◌==◌}
-use Rattle.std.specs.List.{AllByRecursion}
-use Rattle.std.proofs.lemmas.List.Elements.{All-cons, All-from_recursion, All-head, All-nil, All-tail}
+use Rattle.std.proofs.Common.{◌≡◌, sym, ap, subst, refl, ℕ, List, [], ◌∷◌, ◌++◌, Option, Some, None, All, append_assoc, codes}
+use Rattle.std.proofs.lemmas.List.Elements.{All-head, All-tail}
 use Rattle.serde_json.specs.Data.{object}
 use Rattle.json_values.specs.Prints.{PrintsReadBack}
 use Rattle.trace_base.specs.declared.place.LineAt.{LineAt}
@@ -16,11 +14,10 @@ use Rattle.path_updates.specs.declared.line.Line.{Line}
 use Rattle.run_texts.specs.Answers.{Named, log_name}
 use Rattle.run_texts.specs.Logs.{line_text}
 use Rattle.run_texts.specs.Ordered.{OrderAscends}
-use Rattle.run_texts.specs.Places.{name_at, place_text}
+use Rattle.run_texts.specs.Places.{name_at}
 use Rattle.run_texts.specs.States.{state_text}
-use Rattle.state_file_laws.specs.Laws.{AreNames, AsidesReadBack, IsAside, IsOneLine, asides_text}
-use Rattle.state_file_laws.proofs.Feedless.{NoFeed, feedless, feedless-append, feedless-decimal, feedless-tested}
-use Rattle.state_file_laws.proofs.ReportSays.{one_line}
+use Rattle.state_file_laws.specs.Laws.{AreNames, AsidesReadBack, IsOneLine}
+use Rattle.state_file_laws.proofs.Feedless.{NoFeed, feedless, feedless-append, feedless-tested}
 use Rattle.state_file_laws.proofs.ShownData.{state_data, state_written}
 use Rattle.state_file_laws.proofs.StateData.{state_clean, state_given}
 use Rattle.why_branches.specs.declared.why.Why.{Why}
@@ -29,28 +26,9 @@ use Rattle.why_branches.specs.declared.why.WhyKind.TheVariants as why
 use Rattle.why_report.specs.Lines.{entry_text, place_behind, reason_text, why_more, why_text, whys_text}
 use Rattle.why_report.specs.Tells.{Tells, entry_lines, is_cut, is_whole, no_entry_left, no_room_left}
 use Rattle.why_line_laws.specs.Laws.{AreOneLine, IsWhole, WhyReadsBack}
+use Rattle.why_line_laws.proofs.Lines.{AreAsides, at_feedless, feedless_is_one_line, line_aside, line_feedless, log_feedless, name_feedless, none_aside}
 
 -- ---- lines without a line feed in them
-
-no_feed_byte : (b : ℕ) → (b == 10) ≡ false → b ≢ 10
-no_feed_byte b e is = let same : (b == 10) ≡ true = rw is refl in cc
-
-feedless_is_one_line : (text : List ℕ) → NoFeed text → IsOneLine text
-feedless_is_one_line text h = All-from_recursion (λ b. b ≢ 10) text (each text h)
-  where
-    each : (bs : List ℕ) → NoFeed bs → AllByRecursion (λ b. b ≢ 10) bs
-    each [] h = tt
-    each (b ∷ bs) h = (no_feed_byte b h.0, each bs h.1)
-
--- a name among some, or none
-name_feedless : (names : List (List ℕ)) (i : ℕ) → All IsOneLine names → NoFeed (name_at names i)
-name_feedless [] i h = tt
-name_feedless (n ∷ ns) zero h = one_line n (All-head IsOneLine n ns h)
-name_feedless (n ∷ ns) (suc i) h = name_feedless ns i (All-tail IsOneLine n ns h)
-
-log_feedless : (logs : List (List ℕ)) (file : ℕ) → All IsOneLine logs → NoFeed (log_name logs file)
-log_feedless logs zero h = tt
-log_feedless logs (suc n) h = name_feedless logs n h
 
 code_feedless : (kind : EvalKind) → NoFeed (eval_code kind)
 code_feedless eval.NotBoolean = feedless-tested (eval_code eval.NotBoolean) refl
@@ -82,32 +60,9 @@ reason_feedless names (why.NotSeen x) h = feedless-append (codes " NotSeen ") (n
 
 place_feedless : (files : List (List ℕ)) (at : Option Place) → All IsOneLine files → NoFeed (place_behind files at)
 place_feedless files None h = tt
-place_feedless files (Some at) h =
-    let colon = feedless-tested (codes ":") refl in
-    let name = feedless-append (name_at files at.file) (codes ":") (name_feedless files at.file h) colon in
-    let line = feedless-append (name_at files at.file ++ codes ":") (decimal at.line) name (feedless-decimal at.line) in
-    let col = feedless-append (name_at files at.file ++ codes ":" ++ decimal at.line) (codes ":") line colon in
-    feedless-append (codes " at ") (place_text files at) (feedless-tested (codes " at ") refl)
-    (feedless-append (name_at files at.file ++ codes ":" ++ decimal at.line ++ codes ":") (decimal at.col) col (feedless-decimal at.col))
+place_feedless files (Some at) h = at_feedless files at h
 
 -- ---- what tells why, as lines
-
--- a text is some lines that are no states
-pub record AreAsides (text : List ℕ) : Type 0 where
-  pub lines : List (List ℕ)
-  pub aside : All IsAside lines
-  pub is : text ≡ asides_text lines
-
-none_aside : AreAsides []
-none_aside = record { lines = []; aside = All-nil IsAside; is = refl }
-
--- a line more before them
-line_aside : (line rest : List ℕ) → NoFeed line → IsAside line → AreAsides rest → AreAsides ((line ++ codes "\n") ++ rest)
-line_aside line rest h one more = record {
-  lines = line ∷ more.lines;
-  aside = All-cons IsAside line more.lines one more.aside;
-  is = append_assoc line (codes "\n") rest ∙ ap (λ (t : List ℕ). line ++ 10 ∷ t) more.is;
-}
 
 -- what begins with the word WHY
 told_line : (body rest : List ℕ) → NoFeed body → AreAsides rest → AreAsides (((codes "WHY " ++ body) ++ codes "\n") ++ rest)
@@ -123,8 +78,7 @@ why_aside l at w rest one more =
     let line = line_text (log_name l.logs at.file) at.line in
     let reason = reason_text l.variables w.reason in
     let place = place_behind l.files w.at in
-    let feedless_line = feedless-append (log_name l.logs at.file ++ codes ":") (decimal at.line)
-    (feedless-append (log_name l.logs at.file) (codes ":") (log_feedless l.logs at.file one.logs) (feedless-tested (codes ":") refl)) (feedless-decimal at.line) in
+    let feedless_line = line_feedless l.logs at one.logs in
     let body = feedless-append (line ++ reason) place (feedless-append line reason feedless_line (reason_feedless l.variables w.reason one.variables)) (place_feedless l.files w.at one.files) in
     subst AreAsides (sym (regrouped (codes "WHY ") line reason place rest)) (told_line (line ++ reason ++ place) rest body more)
 
@@ -155,14 +109,14 @@ module _ (prints_back : PrintsReadBack) (order : OrderAscends) (g : Spec) (line 
   entry_lines_aside s ws rest h more =
       subst AreAsides (sym (append_assoc (entry_text l s) (whys_text l line.at ws) rest)) (entry_aside s (whys_text l line.at ws ++ rest) h (whys_aside l line.at ws rest one more))
 
-  tells_aside : (most : ℕ) (entries : List Values) (told : List ℕ) → All (IsWhole l.variables) entries → Tells g line l most entries told → AreAsides told
+  pub tells_aside : (most : ℕ) (entries : List Values) (told : List ℕ) → All (IsWhole l.variables) entries → Tells g line l most entries told → AreAsides told
   tells_aside _ _ _ h (no_entry_left most) = none_aside
   tells_aside _ _ _ h (no_room_left s ss) = more_aside
   tells_aside _ _ _ h (is_cut most s ss ws are) = entry_lines_aside s ws why_more (All-head (IsWhole l.variables) s ss h) more_aside
   tells_aside _ _ _ h (is_whole most left s ss ws text are sum rest) =
       entry_lines_aside s ws text (All-head (IsWhole l.variables) s ss h) (tells_aside left ss text (All-tail (IsWhole l.variables) s ss h) rest)
 
-log_one_line : (logs : List (List ℕ)) (file : ℕ) → All IsOneLine logs → IsOneLine (log_name logs file)
+pub log_one_line : (logs : List (List ℕ)) (file : ℕ) → All IsOneLine logs → IsOneLine (log_name logs file)
 log_one_line logs file h = feedless_is_one_line (log_name logs file) (log_feedless logs file h)
 
 pub why_reads_back : PrintsReadBack → OrderAscends → AsidesReadBack → WhyReadsBack

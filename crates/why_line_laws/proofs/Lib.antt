@@ -1,1 +1,5 @@
 mod Asides
+mod Lines
+mod NearAsides
+mod Printed
+mod ReadAgain

@@ -1,4 +1,4 @@
-//! A law of reports that tell why a log is not explained.
+//! A law of reports that tell why a log is not explained, and how near it is to that.
 #![tactic(auto)]
 
 mod laws;
