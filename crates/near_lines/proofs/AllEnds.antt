@@ -1,14 +1,17 @@
 -- Where the list of the first branches is not full, it is the list of all.
 use Rattle.std.proofs.Common.{◌≡◌, ◌↔◌, inl, inr, sym, ◌∙◌, subst, arith, ℕ, ◌<◌, List, length}
-use Rattle.std.specs.Prelude.{Contains}
+use Rattle.std.specs.Prelude.{Contains, Option}
 use Rattle.tla_core.specs.States.{Values}
 use Rattle.tla_terms.specs.declared.spec.Spec.{Spec}
 use Rattle.tla_eval.specs.Contexts.{Places}
 use Rattle.tla_eval.specs.Evaluates.{max_evaluations}
 use Rattle.tla_actions.specs.declared.which.Which.TheVariants as which
 use Rattle.path_updates.specs.declared.line.Line.{Line}
-use Rattle.line_steps.specs.Says.{setting}
+use Rattle.line_steps.specs.Says.{IsState, setting}
 use Rattle.line_steps.specs.Asks.{act_of}
+use Rattle.form_growth.specs.Laws.{WholeStays}
+use Rattle.walk_grounds.specs.Laws.{OrderlyActionsAreGrounded}
+use Rattle.ready_specs.specs.Ready.{IsReadyLine, IsReadySpec}
 use Rattle.found_states.specs.Parts.{Parts}
 use Rattle.found_states.proofs.Lists.{of_map}
 use Rattle.why_branches.specs.Branches.{Branches, Onward}
@@ -22,9 +25,9 @@ use Rattle.why_walk.proofs.Keeping.{kept_length}
 use Rattle.why_not.specs.Lines.{AreBoth, GoesThroughBut}
 use Rattle.why_not.specs.Results.{AreUpdated}
 use Rattle.why_not.specs.Taken.{AreEnds, LeadsThere}
-use Rattle.why_not.proofs.Telling.{same_parts}
+use Rattle.why_not.proofs.Telling.{line_grounded, same_parts}
 use Rattle.why_not.proofs.Updated.{one_updated}
-use Rattle.near_lines.specs.Adding.{AreAllEnds}
+use Rattle.near_lines.specs.Adding.{AreAllEnds, EndsReached}
 
 module _ (sp : Sparing) (g : Spec) (line : Line) (s : Values) (p : Places) (a : AreUpdated line.updates s p) (exact : LeadsThere line.updates s p) where
   abbrev Way : Parts → Trace → Type 0
@@ -54,3 +57,11 @@ module _ (sp : Sparing) (g : Spec) (line : Line) (s : Values) (p : Places) (a : 
 
       found : TurnsFound (setting which.Action g) sp max_evaluations k p e.0 xs
       found = e.2.found.1
+
+-- some state extends what is filled at each of them that was gone through
+pub ends_reached : OrderlyActionsAreGrounded → WholeStays → (g : Spec) → IsReadySpec g → (line : Line) → IsReadyLine g line → (s : Values) → IsState (length g.variables) s → (p : Places) → AreUpdated line.updates s p
+    → (sp : Sparing) (k : ℕ) (ends : List Ended) → AreEnds sp g line s k p ends → EndsReached ends
+ends_reached law grows g ready line fits s state p a sp k ends e q o m =
+    let gr = line_grounded law grows g ready line fits s state p a e.0 e.1 in
+    let passes = e.2.passes gr.0.0 gr.0.2.0 gr.0.1 gr.0.2.1 in
+    (passes.further q o m).2 gr.1.0 gr.1.1

@@ -10,7 +10,7 @@ use Rattle.tla_actions.specs.declared.which.Which.TheVariants as which
 use Rattle.path_updates.specs.declared.line.Line.{Line}
 use Rattle.line_steps.specs.Says.{IsState, setting}
 use Rattle.line_steps.specs.Asks.{Moves}
-use Rattle.found_states.proofs.Lists.{any_of, of_any}
+use Rattle.found_states.proofs.Lists.{all_in, any_of, of_any, place_by_all}
 use Rattle.run_texts.specs.Answers.{Named}
 use Rattle.why_branches.specs.PassedOver.{nothing}
 use Rattle.why_branches.specs.Told.{EndsAt, IsPassable}
@@ -28,8 +28,9 @@ use Rattle.why_not.specs.Lines.{StandsIn}
 use Rattle.why_not.specs.Results.{AreUpdated}
 use Rattle.why_not.proofs.Updated.{updated_moves, updated_values}
 use Rattle.why_not.proofs.Completing.{possible}
-use Rattle.near_lines.specs.Adding.{Adds, AreAllEnds, FailedSays, OneSays, UnseenSays, failing_at, failing_place}
+use Rattle.near_lines.specs.Adding.{AreAllEnds, EndsReached, FailedSays, FailsReached, OneSays, UnseenSays, failing_at, failing_place}
 use Rattle.near_lines.specs.Near.{FailsAt, sparing_at}
+use Rattle.near_lines.specs.Repairs.{AreReached}
 use Rattle.near_lines.specs.Tells.{IsNearLine, TellsFailed, TellsUnseen}
 use Rattle.near_lines.proofs.FirstTexts.{adds_none, adds_so}
 
@@ -61,6 +62,9 @@ module _ (g : Spec) (line : Line) (l : Named) (s : Values) where
 
     pub failed_lines : (t : List ℕ) → OneSays (FailedSays g line l) ends t ↔ TellsFailed g line l s at t
     failed_lines t = (λ h. let r = of_any (λ n. FailedSays g line l n t) ends h in failed_told r.0 t r.1 r.2, told_failed t)
+
+    pub failed_reached : EndsReached ends → FailsReached g line s at
+    failed_reached reached w q f = reached q (Some w) ((are (Passed q (Some w))).1 (f.branch, f.goes, end_passes f.branch.spared f.branch.end q (Some w) f.through f.first))
 
   -- what is seen and alone is lacking
 
@@ -108,11 +112,10 @@ module _ (g : Spec) (line : Line) (l : Named) (s : Values) where
     ends_there at ws (passed q) h = absurd h
     ends_there at ws (ended q p w) h = passable_at w.at w.reason h.1 ∙ h.0
 
-    fails_there : (at : Place) (t : List ℕ) → TellsFailed g line l s at t → Any (λ n. failing_place n ≡ Some at) ends
-    fails_there at t h =
-        let f = h.fails in
+    fails_there : (at : Place) (w : Spared) (q : Places) → FailsAt g line s at w q → Any (λ n. failing_place n ≡ Some at) ends
+    fails_there at w q f =
         let way = f.goes.2 in
-        let y = near_ones_end (setting which.Action g) at max_evaluations way.0 f.goes.0 f.branch way.2 (some_spared f.branch.spared h.part f.first) in
+        let y = near_ones_end (setting which.Action g) at max_evaluations way.0 f.goes.0 f.branch way.2 (some_spared f.branch.spared w f.first) in
         any_of (λ n. failing_place n ≡ Some at) ends (end_of y.0) ((are (end_of y.0)).1 (y.0, (f.goes.0, f.goes.1, (way.0, way.1, y.1)), refl)) (ends_there at y.0.spared y.0.end y.2)
 
     pub tried_all : (places : List Place) → ((at : Place) → Any (λ n. failing_place n ≡ Some at) ends → Contains places at)
@@ -123,10 +126,18 @@ module _ (g : Spec) (line : Line) (l : Named) (s : Values) where
         | inr f ↦ (let r = of_any (λ at. TellsFailed g line l s at t) places f in inl (r.0, r.2))
       ],
       λ h. elim h [
-        | inl f ↦ inr (any_of (λ at. TellsFailed g line l s at t) places f.0 (has f.0 (fails_there f.0 t f.1)) f.1)
+        | inl f ↦ inr (any_of (λ at. TellsFailed g line l s at t) places f.0 (has f.0 (fails_there f.0 f.1.part f.1.filled f.1.fails)) f.1)
         | inr u ↦ inl u
       ],
     )
+
+    pub all_reached : EndsReached ends → (places : List Place) → ((at : Place) → Any (λ n. failing_place n ≡ Some at) ends → Contains places at) → All (FailsReached g line s) places → AreReached g line s
+    all_reached reached places has each = record {
+      parts = λ at w q f. all_in (FailsReached g line s) places (place_by_all (FailsReached g line s) places each) at (has at (fails_there at w q f)) w q f;
+      sees = λ see q f.
+          let o = first_spared f.branch.spared in
+          reached q o ((are (Passed q o)).1 (f.branch, f.goes, end_passes f.branch.spared f.branch.end q o f.through refl));
+    }
 
   -- where the updates have no result there is no near line
 
@@ -139,3 +150,6 @@ module _ (g : Spec) (line : Line) (l : Named) (s : Values) where
   pub stuck_lines : ((t : Values) → IsState (length s) t → Moves line.updates s t → ⊥) → (t : List ℕ) → IsNearLine g line l s t → ⊥
   stuck_lines none t (inl f) = no_branch none f.1.fails.goes.0 f.1.fails.goes.1
   stuck_lines none t (inr u) = no_branch none u.lacks.goes.0 u.lacks.goes.1
+
+  pub stuck_reached : ((t : Values) → IsState (length s) t → Moves line.updates s t → ⊥) → AreReached g line s
+  stuck_reached none = record { parts = λ at w q f. absurd (no_branch none f.goes.0 f.goes.1); sees = λ see q f. absurd (no_branch none f.goes.0 f.goes.1) }

@@ -1,6 +1,6 @@
 -- The places where branches end, one after the other.
 use Rattle.std.proofs.Common.{◌≡◌, inl, inr, sym, ◌∙◌, ap, subst, ℕ, ◌<◌, ◌+◌, List, [], ◌∷◌, ◌++◌, length, take, get_or, Result, Ok, Err}
-use Rattle.std.specs.Prelude.{Any, Contains, IfSome, OnOk, Option, None, Some}
+use Rattle.std.specs.Prelude.{Any, Contains, IfOk, IfSome, OnOk, Option, None, Some}
 use Rattle.std.specs.Option.{IfNone}
 use Rattle.std.proofs.lemmas.List.Elements.{Contains-push_cases}
 use Rattle.trace_base.specs.declared.place.Place.{Place}
@@ -43,3 +43,11 @@ some_of o x P e h = subst (λ q. IfSome q P) e h
 
 pub none_of : {A : Type 0} (o : Option A) (P : Type 0) → o ≡ None → IfNone o P → P
 none_of o P e h = subst (λ q. IfNone q P) e h
+
+pub on_any : {A E : Type 0} (r : Result A E) (P : Type 0) → P → OnOk r P
+on_any (Ok x) P h = h
+on_any (Err e) P h = tt
+
+pub on_any_ok : {A E : Type 0} (r : Result A E) (P : Type 0) → P → IfOk r (λ x. P)
+on_any_ok (Ok x) P h = h
+on_any_ok (Err e) P h = tt

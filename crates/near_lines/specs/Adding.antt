@@ -11,8 +11,10 @@ use Rattle.tla_eval.specs.Contexts.{Places}
 use Rattle.path_updates.specs.Changes.{Finds}
 use Rattle.path_updates.specs.declared.line.Line.{Line}
 use Rattle.path_updates.specs.declared.update.See.{See}
+use Rattle.action_reads.specs.Filled.{Completes}
 use Rattle.run_texts.specs.Answers.{Named}
 use Rattle.why_branches.specs.Traces.{Trace}
+use Rattle.why_branches.specs.declared.sparing.Spared.{Spared}
 use Rattle.why_branches.specs.declared.sparing.Sparing.{Sparing}
 use Rattle.why_branches.specs.declared.why.Ended.{Ended}
 use Rattle.why_branches.specs.declared.why.Ended.TheVariants.{Ends, Passed}
@@ -21,7 +23,7 @@ use Rattle.why_branches.specs.declared.why.WhyKind.{WhyKind}
 use Rattle.why_branches.specs.declared.why.WhyKind.TheVariants as why
 use Rattle.why_walk.specs.Ends.{end_of}
 use Rattle.why_not.specs.Lines.{GoesThroughBut, StandsIn}
-use Rattle.near_lines.specs.Near.{LacksAlone, StandsAt}
+use Rattle.near_lines.specs.Near.{FailsAt, LacksAlone, StandsAt}
 use Rattle.near_lines.specs.Texts.{spared_text, unseen_text}
 
 -- x is so, and nothing else is
@@ -46,6 +48,14 @@ pub record Adds (k : ℕ) (P : List ℕ → Type 0) (old new : List (List ℕ)) 
 -- these are the ends of all branches of the line from the state
 abbrev pub AreAllEnds : Sparing → Spec → Line → Values → List Ended → Type 0
 AreAllEnds sp g line s ends = (n : Ended) → Contains ends n ↔ ((x : Trace) × GoesThroughBut sp g line s x × (end_of x ≡ n))
+
+-- some state extends what is filled at each end that was gone through
+abbrev pub EndsReached : List Ended → Type 0
+EndsReached ends = (q : Places) (o : Option Spared) → Contains ends (Passed q o) → (t : Values) × Completes q t
+
+-- and where the parts at the place alone fail
+abbrev pub FailsReached : Spec → Line → Values → Place → Type 0
+FailsReached g line s at = (w : Spared) (q : Places) → FailsAt g line s at w q → (t : Values) × Completes q t
 
 -- where a part ends a branch that might be passed over
 abbrev pub failing_at : Option Place → WhyKind → Option Place

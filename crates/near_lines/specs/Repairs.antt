@@ -53,3 +53,8 @@ SeeRepairs g line s = (see : See) (q : Places) (r : LacksSee g line s see q) (t 
 pub record AreRepairs (g : Spec) (line : Line) (s : Values) : Type 0 where
   pub parts : PartRepairs g line s
   pub sees : SeeRepairs g line s
+
+-- Some state extends what is filled in each of them: so there is the step that the line would have.
+pub record AreReached (g : Spec) (line : Line) (s : Values) : Type 0 where
+  pub parts : (at : Place) (w : Spared) (q : Places) → FailsAt g line s at w q → (t : Values) × Completes q t
+  pub sees : (see : See) (q : Places) → LacksSee g line s see q → (t : Values) × Completes q t

@@ -6,7 +6,7 @@ ghost use Rattle.run_texts.specs.Answers.{named};
 ghost use Rattle.why_not.specs.Results.{AreUpdated};
 ghost use Rattle.why_not.specs.Taken.{LeadsThere};
 ghost use Rattle.near_lines.specs.Adding.{Adds};
-ghost use Rattle.near_lines.specs.Repairs.{AreRepairs};
+ghost use Rattle.near_lines.specs.Repairs.{AreReached, AreRepairs};
 ghost use Rattle.near_lines.specs.Tells.{IsNearLine, TellsNear};
 
 use crate::ends::all_ends;
@@ -40,6 +40,7 @@ pub fn near_lines(
     requires states { All (IsState (length spec.now.variables)) entries.now }
     ensures told { IfOk result (λ told. TellsNear spec.now line.now (named labels.now) most entries.now (string_bytes told)) }
     ensures repairs { (s : Values) → IsState (length spec.now.variables) s → AreRepairs spec.now line.now s }
+    ensures reached { IfOk result (λ told. All (AreReached spec.now line.now) entries.now) }
 {
     repair_law(spec, line);
     let subject = Subject { labels, spec, line };
@@ -63,7 +64,8 @@ fn keep_entry(
     requires fits { IsReadyLine subject.spec.now subject.line.now }
     requires state { IsState (length subject.spec.now.variables) entry.now }
     requires few { length texts.old.keys ≤ room }
-    ensures { OnOk result (Adds room (IsNearLine subject.entry.spec.now subject.entry.line.now (named subject.entry.labels.now) entry.now) texts.old.keys texts.new.keys) }
+    ensures keeps { OnOk result (Adds room (IsNearLine subject.entry.spec.now subject.entry.line.now (named subject.entry.labels.now) entry.now) texts.old.keys texts.new.keys) }
+    ensures reached { OnOk result (AreReached subject.entry.spec.now subject.entry.line.now entry.now) }
 {
     match moved(alloc, &subject.line.updates, entry)? {
         None => Ok(()),
@@ -86,7 +88,8 @@ fn keep_from(
     requires updated { AreUpdated subject.line.now.updates entry.now places.now }
     requires exact { LeadsThere subject.line.now.updates entry.now places.now }
     requires few { length texts.old.keys ≤ room }
-    ensures { OnOk result (Adds room (IsNearLine subject.entry.spec.now subject.entry.line.now (named subject.entry.labels.now) entry.now) texts.old.keys texts.new.keys) }
+    ensures keeps { OnOk result (Adds room (IsNearLine subject.entry.spec.now subject.entry.line.now (named subject.entry.labels.now) entry.now) texts.old.keys texts.new.keys) }
+    ensures reached { OnOk result (AreReached subject.entry.spec.now subject.entry.line.now entry.now) }
 {
     let nothing = Sparing {
         at: None,

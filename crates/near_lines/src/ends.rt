@@ -5,13 +5,15 @@ ghost use Rattle.line_steps.specs.Says.{IsState};
 ghost use Rattle.ready_specs.specs.Ready.{IsReadyLine, IsReadySpec};
 ghost use Rattle.why_not.specs.Results.{AreUpdated};
 ghost use Rattle.why_not.specs.Taken.{LeadsThere};
-ghost use Rattle.near_lines.specs.Adding.{AreAllEnds};
+ghost use Rattle.near_lines.specs.Adding.{AreAllEnds, EndsReached};
 
+use form_growth::whole_law;
 use path_updates::Line;
 use std::alloc::{AllocError, Global};
 use tla_core::{Partial, State};
 use tla_terms::Spec;
 use trace_base::NoMemory;
+use walk_grounds::orderly_law;
 use why_branches::{Ended, Sparing};
 use why_not::line_ends;
 
@@ -32,8 +34,11 @@ pub(crate) fn all_ends(
     requires state { IsState (length spec.now.variables) from.now }
     requires updated { AreUpdated line.now.updates from.now places.now }
     requires exact { LeadsThere line.now.updates from.now places.now }
-    ensures { IfOk result (λ ends. AreAllEnds sparing spec.now line.now from.now ends.items) }
+    ensures all { IfOk result (λ ends. AreAllEnds sparing spec.now line.now from.now ends.items) }
+    ensures reached { IfOk result (λ ends. EndsReached ends.items) }
 {
+    orderly_law();
+    whole_law();
     let same = places.copy(alloc)?;
     let ends = line_ends(alloc, spec, line, from, sparing, ROOM, same)?;
     if ends.len() >= ROOM {

@@ -1,13 +1,13 @@
 //! The parts that alone fail.
 
-ghost use Rattle.std.specs.Prelude.{◌≡◌, ◌≤◌, ◌⊎◌, Any, Contains, IfOk, OnOk, Some, length};
+ghost use Rattle.std.specs.Prelude.{◌≡◌, ◌≤◌, All, Any, Contains, IfOk, OnOk, Some, length};
 ghost use Rattle.line_steps.specs.Says.{IsState};
 ghost use Rattle.ready_specs.specs.Ready.{IsReadyLine, IsReadySpec};
 ghost use Rattle.run_texts.specs.Answers.{named};
 ghost use Rattle.why_not.specs.Results.{AreUpdated};
 ghost use Rattle.why_not.specs.Taken.{LeadsThere};
 ghost use Rattle.why_branches.specs.declared.why.Ended.TheVariants.{Passed};
-ghost use Rattle.near_lines.specs.Adding.{Adds, FailedSays, Grows, OneSays, failing_at, failing_place};
+ghost use Rattle.near_lines.specs.Adding.{Adds, FailedSays, FailsReached, Grows, OneSays, failing_at, failing_place};
 ghost use Rattle.near_lines.specs.Tells.{TellsFailed};
 
 use crate::ends::all_ends;
@@ -80,7 +80,8 @@ pub(crate) fn keep_failing(
     requires updated { AreUpdated subject.line.now.updates entry.now places.now }
     requires exact { LeadsThere subject.line.now.updates entry.now places.now }
     requires few { length texts.old.keys ≤ room }
-    ensures { OnOk result (Adds room (OneSays (TellsFailed subject.entry.spec.now subject.entry.line.now (named subject.entry.labels.now) entry.now) failing.now) texts.old.keys texts.new.keys) }
+    ensures keeps { OnOk result (Adds room (OneSays (TellsFailed subject.entry.spec.now subject.entry.line.now (named subject.entry.labels.now) entry.now) failing.now) texts.old.keys texts.new.keys) }
+    ensures reached { OnOk result (All (FailsReached subject.entry.spec.now subject.entry.line.now entry.now) failing.now) }
 {
     for at in failing {
         keep_failing_at(alloc, subject, entry, places, at, texts, room)?;
@@ -104,7 +105,8 @@ fn keep_failing_at(
     requires updated { AreUpdated subject.line.now.updates entry.now places.now }
     requires exact { LeadsThere subject.line.now.updates entry.now places.now }
     requires few { length texts.old.keys ≤ room }
-    ensures { OnOk result (Adds room (TellsFailed subject.entry.spec.now subject.entry.line.now (named subject.entry.labels.now) entry.now at.now) texts.old.keys texts.new.keys) }
+    ensures keeps { OnOk result (Adds room (TellsFailed subject.entry.spec.now subject.entry.line.now (named subject.entry.labels.now) entry.now at.now) texts.old.keys texts.new.keys) }
+    ensures reached { OnOk result (FailsReached subject.entry.spec.now subject.entry.line.now entry.now at.now) }
 {
     let sparing = Sparing {
         at: Some(*at),

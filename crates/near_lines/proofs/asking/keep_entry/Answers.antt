@@ -10,7 +10,7 @@ use Rattle.run_texts.specs.Answers.{named}
 use Rattle.why_not.proofs.Updated.{updated_is}
 use Rattle.near_lines.specs.Tells.{IsNearLine}
 use Rattle.near_lines.proofs.FirstTexts.{adds_none}
-use Rattle.near_lines.proofs.Nearing.{stuck_lines}
+use Rattle.near_lines.proofs.Nearing.{stuck_lines, stuck_reached}
 use Rattle.near_lines.proofs.Placing.{none_of, some_of}
 use Rattle.near_lines.proofs.asking.keep_entry.Goals as goal
 
@@ -25,11 +25,17 @@ keep_from-requires-clause-updated c =
     updated_is us s p within (some_of o p (λ q. length q ≡ length s) c.in-Some.is m.long) (some_of o p (λ q. Fills (updated us) q) c.in-Some.is m.filled) (some_of o p (λ q. HoldValues q) c.in-Some.is m.values)
     (some_of o p (λ q. (t : Values) → Completes q t ↔ (IsState (length s) t × Moves us s t)) c.in-Some.is m.exact)
 
-pub returns-in-None : goal.returns-in-None
-returns-in-None c =
+pub returns-in-None-clause-keeps : goal.returns-in-None-clause-keeps
+returns-in-None-clause-keeps c =
     let g = c.args.subject.spec.now in
     let line = c.args.subject.line.now in
     let l = named c.args.subject.labels.now in
     let s = c.args.entry.now in
     let none = none_of c.in_ok-moved.field-0 ((t : Values) → IsState (length s) t → Moves line.updates s t → ⊥) c.in-None.is c.in_ok-moved.ensures.none in
     adds_none c.args.room (IsNearLine g line l s) c.args.texts.now.keys c.requires.few (stuck_lines g line l s none)
+
+pub returns-in-None-clause-reached : goal.returns-in-None-clause-reached
+returns-in-None-clause-reached c =
+    let line = c.args.subject.line.now in
+    let s = c.args.entry.now in
+    stuck_reached c.args.subject.spec.now line (named c.args.subject.labels.now) s (none_of c.in_ok-moved.field-0 ((t : Values) → IsState (length s) t → Moves line.updates s t → ⊥) c.in-None.is c.in_ok-moved.ensures.none)
