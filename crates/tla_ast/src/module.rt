@@ -1,6 +1,6 @@
 //! Syntax trees of modules.
 
-ghost use Rattle.std.specs.Prelude.{◌≡◌, ◌↔◌, ◌<◌, [], ◌∷◌, ◌++◌, length, OnOk, OnErr, IsSome, option_copied, slice_get};
+ghost use Rattle.std.specs.Prelude.{◌≡◌, ◌↔◌, ◌<◌, [], ◌∷◌, ◌++◌, length, OnOk, OnErr, IsSome, option_copied, option_to_list, slice_get};
 
 use crate::expr::{Definition, Expr};
 use std::alloc::Global;
@@ -131,6 +131,14 @@ impl Units {
     {
         self.items.append(&mut more.items)?;
         Ok(())
+    }
+
+    /// Takes the last unit off, or nothing where there is none.
+    pub fn pop(&mut self) -> Option<Unit>
+        ensures taken { self.old ≡ self.new ++ option_to_list result }
+        ensures variant { IsSome result ↔ (0 < length self.old) }
+    {
+        self.items.pop()
     }
 
     /// How many units there are.
