@@ -109,7 +109,7 @@ module _ {A : Type 0} (y z : System A) (same : SaySame y z) where
   not_explained n of after w e = record {
     some_left = below_count y z same n e.some_left;
     all = e.all ∙ same.count;
-    behaves = (e.behaves.0, run_same y z same n 0 e.behaves.0 w e.behaves.1, e.behaves.2 ∙ same.expected n e.behaves.0);
+    behaves = (e.behaves.0, run_same y z same n 0 e.behaves.0 w e.behaves.1, (same.expected n e.behaves.0 after).0 e.behaves.2);
     no_more = λ v b. e.no_more v (b.0, run_same z y other (suc n) 0 b.0 v b.1);
     clear = clear_same n e.clear;
     no_fault = λ j h. e.no_fault j (faulty_same z y other n j h);

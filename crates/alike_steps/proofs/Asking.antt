@@ -1,5 +1,5 @@
 -- What is asked over the one specification beside its log is asked over the other.
-use Rattle.std.proofs.Common.{◌≡◌, refl, inl, inr, subst, List, [], length}
+use Rattle.std.proofs.Common.{◌≡◌, ◌∙◌, refl, inl, inr, subst, List, [], length}
 use Rattle.std.specs.Prelude.{ℕ, Bool, true, false, Result, Ok, Err}
 use Rattle.trace_base.specs.declared.place.Place.{Place}
 use Rattle.tla_core.specs.States.{Values}
@@ -97,7 +97,7 @@ module _ (actions : ActionsAlike) (evaluates : EvaluatesAlike) (s t : Spec) (log
         (λ l k a. line_faults l k u v f a) h;
     silent_fault = λ u v f h. fault_silent actions s t over in_none u v f h;
     at = λ n u v. same_places s.operators t.operators log.lines m.lines n beside.logs.lines;
-    expected = λ n u. same_places s.operators t.operators log.lines m.lines n beside.logs.lines;
+    expected = λ n u at h. h ∙ same_places s.operators t.operators log.lines m.lines n beside.logs.lines;
     state_of = λ u. refl;
     count = zip_long AreLines log.lines m.lines beside.logs.lines;
     within = refl;

@@ -1,5 +1,6 @@
 -- What is asked on the one side is asked on the other; both ways, the two ask the same.
 use Rattle.std.specs.Prelude.{◌≡◌, ℕ}
+use Rattle.trace_base.specs.declared.place.LineAt.{LineAt}
 use Rattle.trace_base.specs.declared.place.Place.{Place}
 use Rattle.tla_core.specs.States.{Values}
 use Rattle.tla_core.specs.declared.fault.Fault.{Fault}
@@ -16,7 +17,7 @@ pub record Carries (a b : PairAsks) : Type 0 where
   pub step_fault : (n : ℕ) (s t : Values) (f : Fault) → a.system.FaultStep n s t f → b.system.FaultStep n s t f
   pub silent_fault : (s t : Values) (f : Fault) → a.system.FaultSilent s t f → b.system.FaultSilent s t f
   pub at : (n : ℕ) (s t : Values) → a.system.at n s t ≡ b.system.at n s t
-  pub expected : (n : ℕ) (s : Values) → a.system.expected n s ≡ b.system.expected n s
+  pub expected : (n : ℕ) (s : Values) (at : LineAt) → a.system.Expected n s at → b.system.Expected n s at
   pub state_of : (s : Values) → a.system.state_of s ≡ b.system.state_of s
   pub count : a.system.count ≡ b.system.count
   pub within : a.system.within ≡ b.system.within
@@ -45,7 +46,7 @@ module _ (a b : PairAsks) (there : Carries a b) (back : Carries b a) where
     fault_step = λ n s t f. (there.step_fault n s t f, back.step_fault n s t f);
     fault_silent = λ s t f. (there.silent_fault s t f, back.silent_fault s t f);
     at = there.at;
-    expected = there.expected;
+    expected = λ n s at. (there.expected n s at, back.expected n s at);
     state_of = there.state_of;
     count = there.count;
     within = there.within;

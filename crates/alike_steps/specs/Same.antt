@@ -1,5 +1,6 @@
 -- Two systems that say the same, relation by relation, and two that ask the same of given states.
 use Rattle.std.specs.Prelude.{◌≡◌, ◌↔◌, ℕ}
+use Rattle.trace_base.specs.declared.place.LineAt.{LineAt}
 use Rattle.trace_base.specs.declared.place.Place.{Place}
 use Rattle.tla_core.specs.States.{Values}
 use Rattle.tla_core.specs.System.{System}
@@ -16,7 +17,7 @@ pub record SaySame {A : Type 0} (y z : System A) : Type 0 where
   pub fault_step : (n : ℕ) (s t : A) (f : Fault) → y.FaultStep n s t f ↔ z.FaultStep n s t f
   pub fault_silent : (s t : A) (f : Fault) → y.FaultSilent s t f ↔ z.FaultSilent s t f
   pub at : (n : ℕ) (s t : A) → y.at n s t ≡ z.at n s t
-  pub expected : (n : ℕ) (s : A) → y.expected n s ≡ z.expected n s
+  pub expected : (n : ℕ) (s : A) (at : LineAt) → y.Expected n s at ↔ z.Expected n s at
   pub state_of : (s : A) → y.state_of s ≡ z.state_of s
   pub count : y.count ≡ z.count
   pub within : y.within ≡ z.within

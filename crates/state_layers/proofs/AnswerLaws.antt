@@ -3,6 +3,7 @@ use Rattle.std.proofs.Common.{◌≡◌, ◌≤◌, ◌<◌, ◌+◌, ◌-◌, �
 use Rattle.std.proofs.lemmas.List.{length-map, length-append}
 use Rattle.std.proofs.lemmas.Bool.{cases_lt}
 use Rattle.std.proofs.lemmas.Grind.{common_steps}
+use Rattle.trace_base.specs.declared.place.LineAt.{LineAt}
 use Rattle.tla_core.specs.System.{System}
 use Rattle.tla_core.specs.Sets.{IsList, HasAtMost}
 use Rattle.tla_core.specs.Runs.{Run, start, wait, go, Layer, Entry, Upto, IsUpto}
@@ -83,11 +84,11 @@ module _ {A : Type 0} where
       let h = b.list.all s l in absurd (omega (arith, h.1))
 
   pub not_explained : (y : System A) (n front : ℕ) (nodes : List (Node A)) (shown : List Shown) → 1 ≤ y.within → n < y.count → IsStuck y n nodes front
-      → (s : A) → Run y n 0 s shown → IsNotExplained y n y.count (y.expected n s) shown
-  not_explained y n front nodes shown one lt k s r = record {
+      → (s : A) → Run y n 0 s shown → (after : LineAt) → y.Expected n s after → IsNotExplained y n y.count after shown
+  not_explained y n front nodes shown one lt k s r after told = record {
     some_left = lt;
     all = refl;
-    behaves = (s, r, refl);
+    behaves = (s, r, told);
     no_more = λ u more. k.none more.0 (record { states = u; run = more.1 });
     clear = clear_of y n (y.within - 1) nodes k.widest (last_within y n one) k.kept;
     no_fault = λ j h. elim h.5 [

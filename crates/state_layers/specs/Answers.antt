@@ -54,7 +54,7 @@ pub record IsExplained {A : Type 0} (y : System A) (w : List Shown) (widest : �
 pub record IsNotExplained {A : Type 0} (y : System A) (n of : ℕ) (after : LineAt) (w : List Shown) : Type 0 where
   pub some_left : n < y.count
   pub all : of ≡ y.count
-  pub behaves : (s : A) × Run y n 0 s w × (after ≡ y.expected n s)
+  pub behaves : (s : A) × Run y n 0 s w × y.Expected n s after
   pub no_more : (v : List Shown) → IsBehaviour y (suc n) v → ⊥
   pub clear : Clear y n
   pub no_fault : (j : ℕ) → Faulty y n j → ⊥

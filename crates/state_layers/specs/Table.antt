@@ -88,7 +88,7 @@ system_of edges assumptions assumes count within limit total = record {
   FaultStep = λ n s t f. Leads edges (Line (line n)) s true t;
   FaultSilent = λ s t f. Leads edges Silent s true t;
   at = λ n s t. record { file = t.0; line = n };
-  expected = λ n s. record { file = s.0; line = n };
+  Expected = λ n s at. at ≡ record { file = s.0; line = n };
   state_of = λ s. s.1;
   count = count;
   within = within;

@@ -69,7 +69,7 @@ pub trait Steps {
     fn expected(&self, line: u32, from: &Self::Entry) -> LineAt
         requires left { line < (system self.now).count }
         requires reached { IsReached (system self.now) line from.now }
-        ensures { result ≡ (system self.now).expected line from.now };
+        ensures { (system self.now).Expected line from.now result };
 
     /// How many assumptions there are.
     fn assumes(&self) -> usize

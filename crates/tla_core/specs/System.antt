@@ -23,8 +23,8 @@ pub record System (A : Type 0) : Type 1 where
   pub FaultSilent : A → A → Fault → Type 0
   -- the line of a log that the n-th step is, where it leads from the first to the second
   pub at : ℕ → A → A → LineAt
-  -- the line that is named where it is reached after n lines and none can follow: the first of those that may be the n-th
-  pub expected : ℕ → A → LineAt
+  -- this line is named where it is reached after n lines and none can follow: the first of those that may be the n-th
+  pub Expected : ℕ → A → LineAt → Type 0
   -- the state in it
   pub state_of : A → Values
   -- how many lines there are

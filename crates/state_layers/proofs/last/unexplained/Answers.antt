@@ -34,9 +34,10 @@ returns-clause-answered g c =
     let x = c.index.result.now in
     let at = tail_at c.args.nodes.items c.in_ok-tail.tail.items c.args.start x k.whole.some c.in_ok-tail.ensures.tail c.index.ensures in
     let ends = rw (c.in_ok-push.ensures.items, c.in_ok-tail.ensures.items, c.in_ok-end.ensures, take_more c.args.nodes.items c.args.start x at) at c.in_ok-behaviour.ensures in
-    rw (c.count.ensures, c.expected-after.ensures, c.in_ok-end.ensures)
+    let told = rw c.in_ok-end.ensures at c.expected-after.ensures in
+    rw c.count.ensures
     (not_explained y c.args.line c.args.start c.args.nodes.items c.in_ok-behaviour.behaviour c.requires.small.some c.requires.left k x.entry
-    (front_run y c.args.line c.args.start c.args.nodes.items x c.in_ok-behaviour.behaviour k.whole at ends))
+    (front_run y c.args.line c.args.start c.args.nodes.items x c.in_ok-behaviour.behaviour k.whole at ends) c.expected-after.result told)
 
 pub returns-clause-last : goal.returns-clause-last
 returns-clause-last g c =
