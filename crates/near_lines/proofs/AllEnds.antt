@@ -14,7 +14,7 @@ use Rattle.walk_grounds.specs.Laws.{OrderlyActionsAreGrounded}
 use Rattle.ready_specs.specs.Ready.{IsReadyLine, IsReadySpec}
 use Rattle.found_states.specs.Parts.{Parts}
 use Rattle.found_states.proofs.Lists.{of_map}
-use Rattle.why_branches.specs.Branches.{Branches, Onward}
+use Rattle.why_branches.specs.Branches.{Onward, Turns}
 use Rattle.why_branches.specs.Founds.{TurnsFound}
 use Rattle.why_branches.specs.Traces.{Trace, here}
 use Rattle.why_branches.specs.declared.sparing.Sparing.{Sparing}
@@ -31,15 +31,15 @@ use Rattle.near_lines.specs.Adding.{AreAllEnds, EndsReached}
 
 module _ (sp : Sparing) (g : Spec) (line : Line) (s : Values) (p : Places) (a : AreUpdated line.updates s p) (exact : LeadsThere line.updates s p) where
   abbrev Way : Parts → Trace → Type 0
-  Way es x = Onward (Branches (setting which.Action g) sp max_evaluations) max_evaluations es (here p) x
+  Way es x = Onward (Turns (setting which.Action g) sp max_evaluations) max_evaluations es (here p) x
 
   -- there is one way to fill the places, and to part the line
   on_way : (es : Parts) → AreBoth g (act_of line.event) s es → (x : Trace) → GoesThroughBut sp g line s x → Way es x
   on_way es i x h =
       let q : h.0 ≡ p = one_updated line.updates s p a exact h.0 h.1 in
       let f : h.2.0 ≡ es = same_parts g (act_of line.event) s es h.2.0 i h.2.1 in
-      subst (λ (z : Places). Onward (Branches (setting which.Action g) sp max_evaluations) max_evaluations es (here z) x) q
-      (subst (λ (us : Parts). Onward (Branches (setting which.Action g) sp max_evaluations) max_evaluations us (here h.0) x) f h.2.2)
+      subst (λ (z : Places). Onward (Turns (setting which.Action g) sp max_evaluations) max_evaluations es (here z) x) q
+      (subst (λ (us : Parts). Onward (Turns (setting which.Action g) sp max_evaluations) max_evaluations us (here h.0) x) f h.2.2)
 
   pub all_ends_are : (k : ℕ) (ends : List Ended) → AreEnds sp g line s k p ends → length ends < k → AreAllEnds sp g line s ends
   all_ends_are k ends e short n = (

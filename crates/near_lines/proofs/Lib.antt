@@ -7,4 +7,4 @@ mod LackingOnes
 mod Leading
 mod Repairing
 mod FunctionKinds
-mod Placing
+mod Known

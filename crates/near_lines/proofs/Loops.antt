@@ -1,5 +1,5 @@
 -- Texts that are told of the elements of a list, one after the other.
-use Rattle.std.proofs.Common.{◌≡◌, ◌⊎◌, ◌↔◌, inl, inr, refl, sym, subst, arith, ℕ, zero, suc, ◌≤◌, ◌<◌, ◌+◌, List, [], ◌∷◌, ◌++◌, length, take, get_or}
+use Rattle.std.proofs.Common.{◌≡◌, ◌⊎◌, ◌↔◌, inl, inr, refl, sym, subst, arith, ℕ, ◌≤◌, ◌<◌, ◌+◌, List, [], ◌∷◌, ◌++◌, length, take, get_or}
 use Rattle.std.specs.Prelude.{Any, Contains}
 use Rattle.std.proofs.lemmas.List.{take_all}
 use Rattle.std.proofs.lemmas.List.Elements.{Contains-push, Contains-push_cases, Contains-append_left}
@@ -40,35 +40,3 @@ module _ {A : Type 0} (P : A → List ℕ → Type 0) where
 
     pub one_ends : (old new : List (List ℕ)) (i : ℕ) → length xs ≤ i → Adds k (OneSays P (take i xs)) old new → Adds k (OneSays P xs) old new
     one_ends old new i l a = subst (λ (ys : List A). Adds k (OneSays P ys) old new) (take_all i xs l) a
-
-  -- behind others
-  module _ (Q : List ℕ → Type 0) (k : ℕ) (xs : List A) where
-    pub beside_starts : (old new : List (List ℕ)) → Adds k Q old new → Adds k (λ t. Q t ⊎ OneSays P (take 0 xs) t) old new
-    beside_starts old new a = adds_so k Q (λ t. Q t ⊎ OneSays P (take 0 xs) t) old new (λ t. (λ q. inl q, λ h. elim h [ inl q ↦ q | inr n ↦ absurd (says_none t n) ])) a
-
-    pub beside_step : (old mid new : List (List ℕ)) (i : ℕ) (x : A) → i < length xs → x ≡ get_or xs i x → Adds k (λ t. Q t ⊎ OneSays P (take i xs) t) old mid → Adds k (P x) mid new
-        → Adds k (λ t. Q t ⊎ OneSays P (take (i + 1) xs) t) old new
-    beside_step old mid new i x l e a b =
-        let c = apart xs i x (cut_at xs i x l e) in
-        subst (λ (ys : List A). Adds k (λ t. Q t ⊎ OneSays P ys t) old new) (sym c.more)
-        (adds_so k (λ t. (Q t ⊎ OneSays P (take i xs) t) ⊎ P x t) (λ t. Q t ⊎ OneSays P (take i xs ++ x ∷ []) t) old new
-        (λ t. (
-          λ h. elim h [
-            | inl j ↦ elim j [ inl q ↦ inl q | inr n ↦ inr ((says_more (take i xs) x t).0 (inl n)) ]
-            | inr n ↦ inr ((says_more (take i xs) x t).0 (inr n))
-          ],
-          λ h. elim h [
-            | inl q ↦ inl (inl q)
-            | inr n ↦ elim ((says_more (take i xs) x t).1 n) [ inl m ↦ inl (inr m) | inr m ↦ inr m ]
-          ],
-        ))
-        (adds_both k (λ t. Q t ⊎ OneSays P (take i xs) t) (P x) old mid new a b))
-
-    pub beside_ends : (old new : List (List ℕ)) (i : ℕ) → length xs ≤ i → Adds k (λ t. Q t ⊎ OneSays P (take i xs) t) old new → Adds k (λ t. Q t ⊎ OneSays P xs t) old new
-    beside_ends old new i l a = subst (λ (ys : List A). Adds k (λ t. Q t ⊎ OneSays P ys t) old new) (take_all i xs l) a
-
--- an element that is there is read, whatever else would be
-pub read_there : {A : Type 0} (xs : List A) (i : ℕ) (d e : A) → i < length xs → get_or xs i d ≡ get_or xs i e
-read_there [] i d e l = absurd (omega (arith, l))
-read_there (x ∷ xs) zero d e l = refl
-read_there (x ∷ xs) (suc i) d e l = read_there xs i d e (omega (arith, l))

@@ -1,40 +1,45 @@
 -- From the ends of branches to the near lines.
 use Rattle.std.proofs.Common.{◌≡◌, ◌⊎◌, ◌↔◌, inl, inr, refl, sym, ◌∙◌, ap, subst, ℕ, List, [], ◌∷◌, length}
-use Rattle.std.specs.Prelude.{All, Any, Contains, Option, None, Some}
+use Rattle.std.specs.Prelude.{Contains, Option, None, Some}
 use Rattle.trace_base.specs.declared.place.Place.{Place}
 use Rattle.tla_core.specs.States.{Values}
+use Rattle.tla_terms.specs.Terms.{place_of}
 use Rattle.tla_terms.specs.declared.spec.Spec.{Spec}
 use Rattle.tla_eval.specs.Contexts.{Places}
 use Rattle.tla_eval.specs.Evaluates.{max_evaluations}
 use Rattle.tla_actions.specs.declared.which.Which.TheVariants as which
 use Rattle.path_updates.specs.declared.line.Line.{Line}
+use Rattle.path_updates.specs.declared.update.See.{See}
 use Rattle.line_steps.specs.Says.{IsState, setting}
 use Rattle.line_steps.specs.Asks.{Moves}
-use Rattle.found_states.proofs.Lists.{all_in, any_of, of_any, place_by_all}
+use Rattle.form_growth.specs.Laws.{WholeStays}
+use Rattle.walk_grounds.specs.Laws.{OrderlyActionsAreGrounded}
+use Rattle.ready_specs.specs.Ready.{IsReadyLine, IsReadySpec}
+use Rattle.found_states.proofs.Lists.{any_of, of_any}
 use Rattle.run_texts.specs.Answers.{Named}
-use Rattle.why_branches.specs.PassedOver.{nothing}
-use Rattle.why_branches.specs.Told.{EndsAt, IsPassable}
+use Rattle.why_branches.specs.PassedOver.{behind_one, nothing}
+use Rattle.why_branches.specs.Told.{Fits, IsNamed, IsPassed, sparing_of}
 use Rattle.why_branches.specs.Traces.{End, SparedPart, Trace, ended, passed}
+use Rattle.why_branches.specs.declared.sparing.Passing.{Passing}
+use Rattle.why_branches.specs.declared.sparing.Passing.TheVariants.{At, Nothing, OnePlace}
 use Rattle.why_branches.specs.declared.sparing.Spared.{Spared}
 use Rattle.why_branches.specs.declared.why.Ended.{Ended}
 use Rattle.why_branches.specs.declared.why.Ended.TheVariants.{Ends, Passed}
-use Rattle.why_branches.specs.declared.why.Why.{Why}
-use Rattle.why_branches.specs.declared.why.WhyKind.{WhyKind}
-use Rattle.why_branches.specs.declared.why.WhyKind.TheVariants as why
-use Rattle.why_branches.proofs.NearOnes.{near_ones_end}
-use Rattle.why_walk.specs.Ends.{end_of, end_with, first_spared}
+use Rattle.why_branches.proofs.OnePlace.{one_place_is_each}
+use Rattle.why_walk.specs.Ends.{end_with, first_spared}
 use Rattle.why_walk.proofs.Passing.{not_passed, passed_same, spared_same}
-use Rattle.why_not.specs.Lines.{StandsIn}
+use Rattle.why_not.specs.Lines.{GoesThroughBut}
 use Rattle.why_not.specs.Results.{AreUpdated}
 use Rattle.why_not.proofs.Updated.{updated_moves, updated_values}
 use Rattle.why_not.proofs.Completing.{possible}
-use Rattle.near_lines.specs.Adding.{AreAllEnds, EndsReached, FailedSays, FailsReached, OneSays, UnseenSays, failing_at, failing_place}
-use Rattle.near_lines.specs.Near.{FailsAt, sparing_at}
+use Rattle.near_lines.specs.Adding.{AreAllEnds, EndsReached, NearSays, OneSays, sparing_one}
+use Rattle.near_lines.specs.Near.{FailsAt, LacksSee}
 use Rattle.near_lines.specs.Repairs.{AreReached}
-use Rattle.near_lines.specs.Tells.{IsNearLine, TellsFailed, TellsUnseen}
-use Rattle.near_lines.proofs.FirstTexts.{adds_none, adds_so}
+use Rattle.near_lines.specs.Tells.{IsNearLine}
+use Rattle.near_lines.proofs.Repairing.{first_kept, says_all}
 
 -- what is kept of a branch that was gone through
+
 passes_end : (ws : List SparedPart) (n : End) (q : Places) (o : Option Spared) → end_with ws n ≡ Passed q o → (n ≡ passed q) × (first_spared ws ≡ o)
 passes_end ws (passed p) q o e = (ap passed (passed_same p q (first_spared ws) o e), spared_same p q (first_spared ws) o e)
 passes_end ws (ended p s w) q o e = absurd (not_passed w q o e)
@@ -42,101 +47,89 @@ passes_end ws (ended p s w) q o e = absurd (not_passed w q o e)
 end_passes : (ws : List SparedPart) (n : End) (q : Places) (o : Option Spared) → n ≡ passed q → first_spared ws ≡ o → end_with ws n ≡ Passed q o
 end_passes ws n q o e f = ap (λ (m : End). end_with ws m) e ∙ ap (λ (z : Option Spared). Passed q z) f
 
-module _ (g : Spec) (line : Line) (l : Named) (s : Values) where
-  -- the parts at a place that alone fail
+through_end : (n : End) (q : Places) → n ≡ passed q → IsPassed n
+through_end n q e = subst (λ (m : End). IsPassed m) (sym e) tt
 
-  module _ (at : Place) (ends : List Ended) (are : AreAllEnds (sparing_at at) g line s ends) where
-    failed_told : (n : Ended) (t : List ℕ) → Contains ends n → FailedSays g line l n t → TellsFailed g line l s at t
-    failed_told (Passed q (Some w)) t m h =
+-- what was passed over first tells what may be passed over
+
+fits_told : (ws : List SparedPart) (w : Spared) (at : Place) → first_spared ws ≡ Some w → w.why.at ≡ Some at → Fits ws (At at)
+fits_told [] w at e f = tt
+fits_told (v ∷ ws) w at e f = sym (ap (λ (o : Option Place). behind_one o OnePlace) (ap (λ (u : Spared). u.why.at) (some_is v.told w e) ∙ f))
+  where
+    some_is : (u w : Spared) → ◌≡◌ {A = Option Spared} (Some u) (Some w) → u ≡ w
+    some_is u w e = cc
+
+none_first : (ws : List SparedPart) → first_spared ws ≡ None → Fits ws Nothing
+none_first [] e = tt
+none_first (v ∷ ws) e = absurd (some_is v.told e)
+  where
+    some_is : (u : Spared) → ◌≡◌ {A = Option Spared} (Some u) None → ⊥
+    some_is u e = cc
+
+fits_none : (ws : List SparedPart) → Fits ws Nothing → first_spared ws ≡ None
+fits_none [] h = refl
+fits_none (v ∷ ws) h = absurd (never v.told.why.at h)
+  where
+    never : (o : Option Place) → Nothing ≡ behind_one o OnePlace → ⊥
+    never None h = cc
+    never (Some at) h = cc
+
+module _ (g : Spec) (line : Line) (l : Named) (s : Values) where
+  -- of each place alone, and of none
+
+  module _ (at : Passing) (named : IsNamed at) (x : Trace) (through : IsPassed x.end) where
+    to_one : GoesThroughBut (sparing_of at) g line s x → GoesThroughBut sparing_one g line s x × Fits x.spared at
+    to_one h = let r = (one_place_is_each (setting which.Action g) at named max_evaluations h.2.0 h.0 x through).0 h.2.2 in ((h.0, h.1, (h.2.0, h.2.1, r.0)), r.1)
+
+    to_each : GoesThroughBut sparing_one g line s x → Fits x.spared at → GoesThroughBut (sparing_of at) g line s x
+    to_each h i = (h.0, h.1, (h.2.0, h.2.1, (one_place_is_each (setting which.Action g) at named max_evaluations h.2.0 h.0 x through).1 (h.2.2, i)))
+
+  module _ (law : OrderlyActionsAreGrounded) (grows : WholeStays) (ready : IsReadySpec g) (fits : IsReadyLine g line) (state : IsState (length g.variables) s) (ends : List Ended) (are : AreAllEnds sparing_one g line s ends) where
+    -- the part that was passed over first stands at a place
+    stands_at : (x : Trace) → GoesThroughBut sparing_one g line s x → (w : Spared) → first_spared x.spared ≡ Some w → (at : Place) × (w.why.at ≡ Some at)
+    stands_at x h w e =
+        let first = first_kept x.spared w e in
+        let is = (says_all law grows g ready line fits s state sparing_one x h).spared first.0 first.1 in
+        (place_of first.0.part.term, ap (λ (v : Spared). v.why.at) (sym first.2) ∙ is.stands)
+
+    end_told : (n : Ended) (t : List ℕ) → Contains ends n → NearSays g line l n t → IsNearLine g line l s t
+    end_told (Passed q (Some w)) t m h =
         let r = (are (Passed q (Some w))).0 m in
         let k = passes_end r.0.spared r.0.end q (Some w) r.2 in
-        record { part = w; filled = q; fails = record { branch = r.0; goes = r.1; through = k.0; first = k.1; seen = h.0 }; is = h.1 }
-    failed_told (Passed q None) t m h = absurd h
-    failed_told (Ends w) t m h = absurd h
+        let at = stands_at r.0 r.1 w k.1 in
+        let goes = to_each (At at.0) tt r.0 (through_end r.0.end q k.0) r.1 (fits_told r.0.spared w at.0 k.1 at.1) in
+        inl (at.0, record { part = w; filled = q; fails = record { branch = r.0; goes = goes; through = k.0; first = k.1; seen = h.0 }; is = h.1 })
+    end_told (Passed q None) t m h =
+        let r = (are (Passed q None)).0 m in
+        let k = passes_end r.0.spared r.0.end q None r.2 in
+        let goes = to_each Nothing tt r.0 (through_end r.0.end q k.0) r.1 (none_first r.0.spared k.1) in
+        inr (record { see = h.see; filled = q; lacks = record { branch = r.0; goes = goes; through = k.0; alone = h.alone }; stands = h.stands; found = h.found; is = h.is })
+    end_told (Ends w) t m h = absurd h
 
-    told_failed : (t : List ℕ) → TellsFailed g line l s at t → OneSays (FailedSays g line l) ends t
-    told_failed t h =
-        let f = h.fails in
-        any_of (λ n. FailedSays g line l n t) ends (Passed h.filled (Some h.part))
-        ((are (Passed h.filled (Some h.part))).1 (f.branch, f.goes, end_passes f.branch.spared f.branch.end h.filled (Some h.part) f.through f.first)) (f.seen, h.is)
+    -- where a branch that is near ends
 
-    pub failed_lines : (t : List ℕ) → OneSays (FailedSays g line l) ends t ↔ TellsFailed g line l s at t
-    failed_lines t = (λ h. let r = of_any (λ n. FailedSays g line l n t) ends h in failed_told r.0 t r.1 r.2, told_failed t)
+    fails_end : (at : Place) (w : Spared) (q : Places) → FailsAt g line s at w q → Contains ends (Passed q (Some w))
+    fails_end at w q f =
+        let r = to_one (At at) tt f.branch (through_end f.branch.end q f.through) f.goes in
+        (are (Passed q (Some w))).1 (f.branch, r.0, end_passes f.branch.spared f.branch.end q (Some w) f.through f.first)
 
-    pub failed_reached : EndsReached ends → FailsReached g line s at
-    failed_reached reached w q f = reached q (Some w) ((are (Passed q (Some w))).1 (f.branch, f.goes, end_passes f.branch.spared f.branch.end q (Some w) f.through f.first))
+    lacks_end : (see : See) (q : Places) → LacksSee g line s see q → Contains ends (Passed q None)
+    lacks_end see q f =
+        let r = to_one Nothing tt f.branch (through_end f.branch.end q f.through) f.goes in
+        (are (Passed q None)).1 (f.branch, r.0, end_passes f.branch.spared f.branch.end q None f.through (fits_none f.branch.spared r.1))
 
-  -- what is seen and alone is lacking
+    told_end : (t : List ℕ) → IsNearLine g line l s t → OneSays (NearSays g line l) ends t
+    told_end t (inl h) = let f = h.1 in any_of (λ n. NearSays g line l n t) ends (Passed f.filled (Some f.part)) (fails_end h.0 f.part f.filled f.fails) (f.fails.seen, f.is)
+    told_end t (inr h) = any_of (λ n. NearSays g line l n t) ends (Passed h.filled None) (lacks_end h.see h.filled h.lacks)
+        (record { see = h.see; alone = h.lacks.alone; stands = h.stands; found = h.found; is = h.is })
 
-  module _ (ends : List Ended) (are : AreAllEnds nothing g line s ends) where
-    unseen_told : (n : Ended) (t : List ℕ) → Contains ends n → UnseenSays line l n t → TellsUnseen g line l s t
-    unseen_told (Passed q o) t m h =
-        let r = (are (Passed q o)).0 m in
-        let k = passes_end r.0.spared r.0.end q o r.2 in
-        record { see = h.see; filled = q; lacks = record { branch = r.0; goes = r.1; through = k.0; alone = h.alone }; stands = h.stands; found = h.found; is = h.is }
-    unseen_told (Ends w) t m h = absurd h
+    pub near_are : (t : List ℕ) → OneSays (NearSays g line l) ends t ↔ IsNearLine g line l s t
+    near_are t = (λ h. let r = of_any (λ n. NearSays g line l n t) ends h in end_told r.0 t r.1 r.2, told_end t)
 
-    told_unseen : (t : List ℕ) → TellsUnseen g line l s t → OneSays (UnseenSays line l) ends t
-    told_unseen t h =
-        let f = h.lacks in
-        let o = first_spared f.branch.spared in
-        any_of (λ n. UnseenSays line l n t) ends (Passed h.filled o)
-        ((are (Passed h.filled o)).1 (f.branch, f.goes, end_passes f.branch.spared f.branch.end h.filled o f.through refl))
-        (record { see = h.see; alone = f.alone; stands = h.stands; found = h.found; is = h.is })
-
-    pub unseen_lines : (t : List ℕ) → OneSays (UnseenSays line l) ends t ↔ TellsUnseen g line l s t
-    unseen_lines t = (λ h. let r = of_any (λ n. UnseenSays line l n t) ends h in unseen_told r.0 t r.1 r.2, told_unseen t)
-
-    -- no other places need be tried than those where branches end
-
-    some_spared : (ws : List SparedPart) (w : Spared) → first_spared ws ≡ Some w → ws ≡ [] → ⊥
-    some_spared [] w e n = none_is w e
-      where
-        none_is : (w : Spared) → ◌≡◌ {A = Option Spared} None (Some w) → ⊥
-        none_is w e = cc
-    some_spared (v ∷ ws) w e n = cons_is v ws n
-      where
-        cons_is : (v : SparedPart) (ws : List SparedPart) → v ∷ ws ≡ [] → ⊥
-        cons_is v ws n = cc
-
-    passable_at : (at : Option Place) (k : WhyKind) → IsPassable k → failing_at at k ≡ at
-    passable_at at why.TestFalse h = refl
-    passable_at at (why.Differs x) h = refl
-    passable_at at (why.NotIn x) h = refl
-    passable_at at why.NoMember h = absurd h
-    passable_at at (why.Fault k) h = absurd h
-    passable_at at (why.NoUpdate x) h = absurd h
-    passable_at at (why.NotSeen x) h = absurd h
-
-    ends_there : (at : Place) (ws : List SparedPart) (n : End) → EndsAt at n → failing_place (end_with ws n) ≡ Some at
-    ends_there at ws (passed q) h = absurd h
-    ends_there at ws (ended q p w) h = passable_at w.at w.reason h.1 ∙ h.0
-
-    fails_there : (at : Place) (w : Spared) (q : Places) → FailsAt g line s at w q → Any (λ n. failing_place n ≡ Some at) ends
-    fails_there at w q f =
-        let way = f.goes.2 in
-        let y = near_ones_end (setting which.Action g) at max_evaluations way.0 f.goes.0 f.branch way.2 (some_spared f.branch.spared w f.first) in
-        any_of (λ n. failing_place n ≡ Some at) ends (end_of y.0) ((are (end_of y.0)).1 (y.0, (f.goes.0, f.goes.1, (way.0, way.1, y.1)), refl)) (ends_there at y.0.spared y.0.end y.2)
-
-    pub tried_all : (places : List Place) → ((at : Place) → Any (λ n. failing_place n ≡ Some at) ends → Contains places at)
-        → (t : List ℕ) → (TellsUnseen g line l s t ⊎ OneSays (TellsFailed g line l s) places t) ↔ IsNearLine g line l s t
-    tried_all places has t = (
-      λ h. elim h [
-        | inl u ↦ inr u
-        | inr f ↦ (let r = of_any (λ at. TellsFailed g line l s at t) places f in inl (r.0, r.2))
-      ],
-      λ h. elim h [
-        | inl f ↦ inr (any_of (λ at. TellsFailed g line l s at t) places f.0 (has f.0 (fails_there f.0 f.1.part f.1.filled f.1.fails)) f.1)
-        | inr u ↦ inl u
-      ],
-    )
-
-    pub all_reached : EndsReached ends → (places : List Place) → ((at : Place) → Any (λ n. failing_place n ≡ Some at) ends → Contains places at) → All (FailsReached g line s) places → AreReached g line s
-    all_reached reached places has each = record {
-      parts = λ at w q f. all_in (FailsReached g line s) places (place_by_all (FailsReached g line s) places each) at (has at (fails_there at w q f)) w q f;
-      sees = λ see q f.
-          let o = first_spared f.branch.spared in
-          reached q o ((are (Passed q o)).1 (f.branch, f.goes, end_passes f.branch.spared f.branch.end q o f.through refl));
+    pub near_reached : EndsReached ends → AreReached g line s
+    near_reached reached = record {
+      parts = λ at w q f. reached q (Some w) (fails_end at w q f);
+      sees = λ see q f. reached q None (lacks_end see q f);
     }
 
   -- where the updates have no result there is no near line

@@ -26,6 +26,7 @@ use Rattle.why_branches.specs.PassedOver.{nothing}
 use Rattle.why_branches.specs.Repaired.{HoldsButOf}
 use Rattle.why_branches.specs.Told.{EndRepairsAll, EndSaysAll, IsSpared, SaysAll, filled_at}
 use Rattle.why_branches.specs.Traces.{End, SparedPart, Trace, passed}
+use Rattle.why_branches.specs.declared.sparing.Passing.TheVariants.{At}
 use Rattle.why_branches.specs.declared.sparing.Spared.{Spared}
 use Rattle.why_branches.specs.declared.sparing.Sparing.{Sparing}
 use Rattle.why_branches.proofs.EachSays.{none_spared, parts_say}
@@ -37,10 +38,10 @@ use Rattle.near_lines.specs.Near.{sparing_at}
 use Rattle.near_lines.specs.Repairs.{AreRepairs, BothHoldBut}
 
 -- what both say where the parts at a place are taken to hold is what the parts say
-both_but : (g : Spec) (at : Place) (act : Option Act) (s t : Values) (es : Parts) → AreBoth g act s es → AllByRecursion (λ e. HoldsButOf (setting which.Action g) (Some at) max_evaluations e.0 e.1 t) es → BothHoldBut g at act s t
-both_but g at None s t es i h = (subst (λ (us : Parts). AllByRecursion (λ e. HoldsButOf (setting which.Action g) (Some at) max_evaluations e.0 e.1 t) us) i h).0
+both_but : (g : Spec) (at : Place) (act : Option Act) (s t : Values) (es : Parts) → AreBoth g act s es → AllByRecursion (λ e. HoldsButOf (setting which.Action g) (At at) max_evaluations e.0 e.1 t) es → BothHoldBut g at act s t
+both_but g at None s t es i h = (subst (λ (us : Parts). AllByRecursion (λ e. HoldsButOf (setting which.Action g) (At at) max_evaluations e.0 e.1 t) us) i h).0
 both_but g at (Some a) s t es i h =
-    let k = subst (λ (us : Parts). AllByRecursion (λ e. HoldsButOf (setting which.Action g) (Some at) max_evaluations e.0 e.1 t) us) i.2 h in
+    let k = subst (λ (us : Parts). AllByRecursion (λ e. HoldsButOf (setting which.Action g) (At at) max_evaluations e.0 e.1 t) us) i.2 h in
     ((i.0, i.1, k.0), k.1.0)
 
 seen_there : (sees : List See) (q : Places) (t : Values) → Completes q t → All (StandsIn q) sees → AreSeen sees t
@@ -53,7 +54,7 @@ both_sides P before behind a b = all_by_place P (before ++ behind) (joined befor
     joined [] h = place_by_all P behind b
     joined (x ∷ xs) h = (h.0, joined xs h.1)
 
-first_kept : (ws : List SparedPart) (w : Spared) → first_spared ws ≡ Some w → (part : SparedPart) × Contains ws part × (part.told ≡ w)
+pub first_kept : (ws : List SparedPart) (w : Spared) → first_spared ws ≡ Some w → (part : SparedPart) × Contains ws part × (part.told ≡ w)
 first_kept [] w e = absurd (none_is w e)
   where
     none_is : (w : Spared) → ◌≡◌ {A = Option Spared} None (Some w) → ⊥
@@ -64,7 +65,7 @@ first_kept (v ∷ ws) w e = (v, head_in v ws, some_is v.told w e)
     some_is u w e = cc
 
 module _ (law : OrderlyActionsAreGrounded) (grows : WholeStays) (g : Spec) (ready : IsReadySpec g) (line : Line) (fits : IsReadyLine g line) (s : Values) (state : IsState (length g.variables) s) where
-  says_all : (sp : Sparing) (x : Trace) (h : GoesThroughBut sp g line s x) → SaysAll (setting which.Action g) sp.at max_evaluations h.2.0 h.0 x
+  pub says_all : (sp : Sparing) (x : Trace) (h : GoesThroughBut sp g line s x) → SaysAll (setting which.Action g) sp.at max_evaluations h.2.0 h.0 x
   says_all sp x h =
       let gr = line_grounded law grows g ready line fits s state h.0 h.1 h.2.0 h.2.1 in
       parts_say (setting which.Action g) sp max_evaluations h.2.0 h.0 x (each_knows (setting which.Action g) h.0 h.2.0 gr.0.1.reads) h.2.2
@@ -82,10 +83,10 @@ module _ (law : OrderlyActionsAreGrounded) (grows : WholeStays) (g : Spec) (read
     parts = λ at w q f.
         let says = says_all (sparing_at at) f.branch f.goes in
         let first = first_kept f.branch.spared w f.first in (
-          (first.0, first.2, subst (λ (n : End). IsSpared (setting which.Action g) (Some at) (filled_at n) first.0) f.through (says.spared first.0 first.1)),
+          (first.0, first.2, subst (λ (n : End). IsSpared (setting which.Action g) (At at) (filled_at n) first.0) f.through (says.spared first.0 first.1)),
           λ t k.
               let m = leads (sparing_at at) f.branch f.goes q f.through t k in
-              let holds = subst (λ (n : End). EndRepairsAll (setting which.Action g) (Some at) max_evaluations f.goes.2.0 n t) f.through (says.repaired t) k in
+              let holds = subst (λ (n : End). EndRepairsAll (setting which.Action g) (At at) max_evaluations f.goes.2.0 n t) f.through (says.repaired t) k in
               (m.0, inl (m.1, both_but g at (act_of line.event) s t f.goes.2.0 f.goes.2.1 holds, seen_there line.sees q t k f.seen)),
         );
     sees = λ see q r t k.

@@ -3,7 +3,6 @@ use Rattle.std.specs.Prelude.{◌≡◌, ◌↔◌, ℕ, List, [], ◌∷◌, Al
 use Rattle.std.specs.Ordering.{nat_cmp}
 use Rattle.std.specs.Cmp.Lexicographic.{slice_cmp}
 use Rattle.std.specs.BTreeSet.{insert_key}
-use Rattle.trace_base.specs.declared.place.Place.{Place}
 use Rattle.tla_values.specs.Data.{Val}
 use Rattle.tla_core.specs.States.{Values}
 use Rattle.tla_terms.specs.declared.spec.Spec.{Spec}
@@ -14,16 +13,14 @@ use Rattle.path_updates.specs.declared.update.See.{See}
 use Rattle.action_reads.specs.Filled.{Completes}
 use Rattle.run_texts.specs.Answers.{Named}
 use Rattle.why_branches.specs.Traces.{Trace}
+use Rattle.why_branches.specs.declared.sparing.Passing.TheVariants.{OnePlace}
 use Rattle.why_branches.specs.declared.sparing.Spared.{Spared}
 use Rattle.why_branches.specs.declared.sparing.Sparing.{Sparing}
 use Rattle.why_branches.specs.declared.why.Ended.{Ended}
 use Rattle.why_branches.specs.declared.why.Ended.TheVariants.{Ends, Passed}
-use Rattle.why_branches.specs.declared.why.Why.{Why}
-use Rattle.why_branches.specs.declared.why.WhyKind.{WhyKind}
-use Rattle.why_branches.specs.declared.why.WhyKind.TheVariants as why
 use Rattle.why_walk.specs.Ends.{end_of}
 use Rattle.why_not.specs.Lines.{GoesThroughBut, StandsIn}
-use Rattle.near_lines.specs.Near.{FailsAt, LacksAlone, StandsAt}
+use Rattle.near_lines.specs.Near.{LacksAlone, StandsAt}
 use Rattle.near_lines.specs.Texts.{spared_text, unseen_text}
 
 -- x is so, and nothing else is
@@ -45,6 +42,10 @@ pub record Adds (k : ℕ) (P : List ℕ → Type 0) (old new : List (List ℕ)) 
   pub are : (t : List ℕ) → Contains texts t ↔ P t
   pub left : new ≡ take k (with_texts old texts)
 
+-- with the parts at one place passed over, whichever that is
+abbrev pub sparing_one : Sparing
+sparing_one = record { at = OnePlace; call = None }
+
 -- these are the ends of all branches of the line from the state
 abbrev pub AreAllEnds : Sparing → Spec → Line → Values → List Ended → Type 0
 AreAllEnds sp g line s ends = (n : Ended) → Contains ends n ↔ ((x : Trace) × GoesThroughBut sp g line s x × (end_of x ≡ n))
@@ -53,29 +54,9 @@ AreAllEnds sp g line s ends = (n : Ended) → Contains ends n ↔ ((x : Trace) �
 abbrev pub EndsReached : List Ended → Type 0
 EndsReached ends = (q : Places) (o : Option Spared) → Contains ends (Passed q o) → (t : Values) × Completes q t
 
--- and where the parts at the place alone fail
-abbrev pub FailsReached : Spec → Line → Values → Place → Type 0
-FailsReached g line s at = (w : Spared) (q : Places) → FailsAt g line s at w q → (t : Values) × Completes q t
-
--- where a part ends a branch that might be passed over
-abbrev pub failing_at : Option Place → WhyKind → Option Place
-failing_at at why.TestFalse = at
-failing_at at (why.Differs x) = at
-failing_at at (why.NotIn x) = at
-failing_at at why.NoMember = None
-failing_at at (why.Fault kind) = None
-failing_at at (why.NoUpdate x) = None
-failing_at at (why.NotSeen x) = None
-
-abbrev pub failing_place : Ended → Option Place
-failing_place (Passed q o) = None
-failing_place (Ends w) = failing_at w.at w.reason
-
--- the text tells of what was passed over in a branch that lacks nothing that is seen
-abbrev pub FailedSays : Spec → Line → Named → Ended → List ℕ → Type 0
-FailedSays g line l (Passed q (Some w)) t = All (StandsIn q) line.sees × (t ≡ spared_text g l line.at w q)
-FailedSays g line l (Passed q None) t = ⊥
-FailedSays g line l (Ends w) t = ⊥
+-- the text tells of what was passed over, where nothing that is seen is lacking
+abbrev pub FailedSays : Spec → Line → Named → Places → Spared → List ℕ → Type 0
+FailedSays g line l q w t = All (StandsIn q) line.sees × (t ≡ spared_text g l line.at w q)
 
 -- the text tells of what is seen and alone is lacking in the places
 pub record LackingSays (line : Line) (l : Named) (q : Places) (t : List ℕ) : Type 0 where
@@ -85,15 +66,14 @@ pub record LackingSays (line : Line) (l : Named) (q : Places) (t : List ℕ) : T
   pub found : Finds (StandsAt q see.path) stands
   pub is : t ≡ unseen_text l line.at see stands
 
--- where a branch was gone through
-abbrev pub UnseenSays : Line → Named → Ended → List ℕ → Type 0
-UnseenSays line l (Passed q o) t = LackingSays line l q t
-UnseenSays line l (Ends w) t = ⊥
+-- where a branch was gone through: of what was passed over in it first, or where nothing was, of what is seen and alone is lacking
+abbrev pub PassedSays : Spec → Line → Named → Places → Option Spared → List ℕ → Type 0
+PassedSays g line l q (Some w) t = FailedSays g line l q w t
+PassedSays g line l q None t = LackingSays line l q t
 
--- a place more, and those that stood there
-pub record Grows {A : Type 0} (old : List A) (x : A) (new : List A) : Type 0 where
-  pub has : Contains new x
-  pub keeps : (y : A) → Contains old y → Contains new y
+abbrev pub NearSays : Spec → Line → Named → Ended → List ℕ → Type 0
+NearSays g line l (Passed q o) t = PassedSays g line l q o t
+NearSays g line l (Ends w) t = ⊥
 
 -- the text is told of one of these
 abbrev pub OneSays : {A : Type 0} → (A → List ℕ → Type 0) → List A → List ℕ → Type 0

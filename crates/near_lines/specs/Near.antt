@@ -10,6 +10,7 @@ use Rattle.path_updates.specs.declared.line.Line.{Line}
 use Rattle.path_updates.specs.Paths.{KeyPath}
 use Rattle.path_updates.specs.declared.update.See.{See}
 use Rattle.why_branches.specs.Traces.{Trace, passed}
+use Rattle.why_branches.specs.declared.sparing.Passing.TheVariants.{At}
 use Rattle.why_branches.specs.declared.sparing.Spared.{Spared}
 use Rattle.why_branches.specs.declared.sparing.Sparing.{Sparing}
 use Rattle.why_walk.specs.Ends.{first_spared}
@@ -17,7 +18,7 @@ use Rattle.why_not.specs.Lines.{GoesThrough, GoesThroughBut, StandsIn}
 
 -- with the parts at the place passed over where they fail
 abbrev pub sparing_at : Place → Sparing
-sparing_at at = record { at = Some at; call = None }
+sparing_at at = record { at = At at; call = None }
 
 -- All of the line is gone through from the state, but the parts at the place, which fail, and all that is seen stands in what is filled then, the places
 -- q; w is what is kept of the first part that fails.

@@ -16,15 +16,16 @@ use Rattle.action_reads.specs.Filled.{Completes}
 use Rattle.why_branches.specs.Repaired.{HoldsBut}
 use Rattle.why_branches.specs.Told.{IsSpared}
 use Rattle.why_branches.specs.Traces.{SparedPart}
+use Rattle.why_branches.specs.declared.sparing.Passing.TheVariants.{At}
 use Rattle.why_branches.specs.declared.sparing.Spared.{Spared}
 use Rattle.near_lines.specs.Near.{FailsAt, LacksSee}
 
 -- the event's operator, where there is one, and Next, where the parts at the place are taken to hold
 abbrev pub BothHoldBut : Spec → Place → Option Act → Values → Values → Type 0
-BothHoldBut g at None s t = HoldsBut (setting which.Action g) (Some at) max_evaluations (at_states [] s t) g.next
+BothHoldBut g at None s t = HoldsBut (setting which.Action g) (At at) max_evaluations (at_states [] s t) g.next
 BothHoldBut g at (Some a) s t =
-    ((o : Operator) × (slice_get g.operators a.operator ≡ Some o) × HoldsBut (setting which.Action g) (Some at) max_evaluations (at_states a.arguments s t) o.body)
-    × HoldsBut (setting which.Action g) (Some at) max_evaluations (at_states [] s t) g.next
+    ((o : Operator) × (slice_get g.operators a.operator ≡ Some o) × HoldsBut (setting which.Action g) (At at) max_evaluations (at_states a.arguments s t) o.body)
+    × HoldsBut (setting which.Action g) (At at) max_evaluations (at_states [] s t) g.next
 
 -- what the line asks, but that this is asked of both states, and that these things alone are to be seen
 abbrev pub asks_but : Spec → Line → (Values → Values → Type 0) → List See → LineAsks
@@ -41,7 +42,7 @@ asks_but g line acts sees = record {
 -- Of each state that extends what is filled: the part that is told of fails there; and if the parts at its place held, it would be a step.
 abbrev pub PartRepairs : Spec → Line → Values → Type 0
 PartRepairs g line s = (at : Place) (w : Spared) (q : Places) → FailsAt g line s at w q
-    → ((part : SparedPart) × (part.told ≡ w) × IsSpared (setting which.Action g) (Some at) q part)
+    → ((part : SparedPart) × (part.told ≡ w) × IsSpared (setting which.Action g) (At at) q part)
     × ((t : Values) → Completes q t → Step (asks_but g line (BothHoldBut g at (act_of line.event)) line.sees) s t)
 
 -- Of each state that extends what is filled: if the one thing were not to be seen, it would be a step.

@@ -10,9 +10,8 @@ ghost use Rattle.near_lines.specs.Repairs.{AreReached, AreRepairs};
 ghost use Rattle.near_lines.specs.Tells.{IsNearLine, TellsNear};
 
 use crate::ends::all_ends;
-use crate::failing::{failing_places, keep_failing};
 use crate::firsts::near_told;
-use crate::lacking::keep_unseen;
+use crate::keeping::keep_ends;
 use crate::subject::Subject;
 use form_growth::whole_law;
 use line_moves::moved;
@@ -24,7 +23,7 @@ use tla_core::{Partial, State};
 use tla_terms::Spec;
 use trace_base::{NoMemory, Text};
 use walk_grounds::orderly_law;
-use why_branches::Sparing;
+use why_branches::{Passing, Sparing};
 
 /// The near lines of the line from all of these entries, each once and in ascending order: the first `most`, and whether there are more.
 pub fn near_lines(
@@ -91,14 +90,14 @@ fn keep_from(
     ensures keeps { OnOk result (Adds room (IsNearLine subject.entry.spec.now subject.entry.line.now (named subject.entry.labels.now) entry.now) texts.old.keys texts.new.keys) }
     ensures reached { OnOk result (AreReached subject.entry.spec.now subject.entry.line.now entry.now) }
 {
-    let nothing = Sparing {
-        at: None,
+    orderly_law();
+    whole_law();
+    let sparing = Sparing {
+        at: Passing::OnePlace,
         call: None,
     };
-    let ends = all_ends(alloc, subject.spec, subject.line, entry, nothing, places)?;
-    let failing = failing_places(alloc, &ends)?;
-    keep_unseen(alloc, subject, &ends, texts, room)?;
-    keep_failing(alloc, subject, entry, places, &failing, texts, room)
+    let ends = all_ends(alloc, subject.spec, subject.line, entry, sparing, places)?;
+    keep_ends(alloc, subject, &ends, texts, room)
 }
 
 /// That the line would have a step, had what a near line names held.

@@ -2,7 +2,7 @@
 
 ghost use Rattle.std.specs.Prelude.{◌≤◌, OnOk, length};
 ghost use Rattle.run_texts.specs.Answers.{named};
-ghost use Rattle.near_lines.specs.Adding.{Adds, LackingSays, OneSays, UnseenSays};
+ghost use Rattle.near_lines.specs.Adding.{Adds, LackingSays};
 
 use crate::firsts::keep;
 use crate::seeing::{found_at, lacking_alone};
@@ -12,44 +12,9 @@ use std::alloc::Global;
 use std::collections::BTreeSet;
 use tla_core::Partial;
 use trace_base::{NoMemory, Text};
-use why_branches::Ended;
 
-/// Keeps the lines of what is seen and alone is lacking where these branches were gone through.
-pub(crate) fn keep_unseen(
-    alloc: Global,
-    subject: Subject<'_>,
-    ends: &[Ended],
-    texts: &mut BTreeSet<Text>,
-    room: usize,
-) -> Result<(), NoMemory>
-    requires { length texts.old.keys ≤ room }
-    ensures { OnOk result (Adds room (OneSays (UnseenSays subject.entry.line.now (named subject.entry.labels.now)) ends.now) texts.old.keys texts.new.keys) }
-{
-    for end in ends {
-        keep_end(alloc, subject, end, texts, room)?;
-    }
-    Ok(())
-}
-
-/// The same of one branch.
-fn keep_end(
-    alloc: Global,
-    subject: Subject<'_>,
-    end: &Ended,
-    texts: &mut BTreeSet<Text>,
-    room: usize,
-) -> Result<(), NoMemory>
-    requires { length texts.old.keys ≤ room }
-    ensures { OnOk result (Adds room (UnseenSays subject.entry.line.now (named subject.entry.labels.now) end.now) texts.old.keys texts.new.keys) }
-{
-    match end {
-        Ended::Passed(places, _) => keep_lacking(alloc, subject, places, texts, room),
-        Ended::Ends(_) => Ok(()),
-    }
-}
-
-/// The same where this is filled.
-fn keep_lacking(
+/// Keeps the line of what is seen and alone is lacking in a branch that was gone through, where this is filled.
+pub(crate) fn keep_lacking(
     alloc: Global,
     subject: Subject<'_>,
     places: &Partial,

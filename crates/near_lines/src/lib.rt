@@ -7,6 +7,7 @@ mod calls;
 mod ends;
 mod failing;
 mod firsts;
+mod keeping;
 mod kinds;
 mod lacking;
 mod seeing;

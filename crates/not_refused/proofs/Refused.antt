@@ -16,8 +16,8 @@ use Rattle.tla_modules.specs.Loads.{IsProgram}
 use Rattle.tla_modules.specs.Paths.{IsPath}
 use Rattle.tla_modules.specs.Refusals.{IsUnread, module_limit}
 use Rattle.tla_terms.specs.declared.spec.Spec.{Spec}
-use Rattle.tla_levels.specs.Resolved.{Resolved}
 use Rattle.tla_levels.specs.declared.fault.ResolveFault.{ResolveFault}
+use Rattle.specification_names.specs.Resolving.{ResolvedBy}
 use Rattle.spec_laws.specs.IsSpec.{IsSpec}
 use Rattle.one_outcome.specs.Outcome.{AreAlike}
 use Rattle.one_program.specs.Laws.{FlatteningMayStop, NoConfigurationRefused, NothingRepeats}
@@ -26,6 +26,7 @@ use Rattle.run_reading.specs.Texts.{HasText, LogsRead, bytes_left, config_limit}
 use Rattle.run_reading.specs.Reaches.{IsNext, Reaches, Stage, config_next, configured, loaded, log_next, logged, module_next, resolved}
 use Rattle.run_reading.specs.Refusals.{IsOfText, IsRefusal, Rejects, in_a_log, in_a_module, in_all_modules, in_forms, in_names, in_the_configuration, is_missing, is_refused, is_too_long}
 use Rattle.one_reading.proofs.OneReading.{Given, Parts, begun_same, configured_same, form_is_one, in_order, program_of, resolved_there, same_program}
+use Rattle.one_reading.proofs.Outcomes.{one_outcome_by}
 use Rattle.one_reading.proofs.SameLogs.{one_text}
 use Rattle.one_reading.proofs.Stages.{LoadedBy, configured_by, loaded_by, logged_from, none_is_some, resolved_by, some_is}
 use Rattle.not_refused.proofs.Forms.{FormsKnown, forms_accepted}
@@ -105,12 +106,12 @@ module _ (known : Known) (files : List File) (job : Job) where
   -- ---- names
 
   names_accepted : (p q : Program) (c d : Config) (s : Spec) (fault : ResolveFault) → Reaches (Some files) job (resolved p c s) → Reaches (Some files) job (configured q d)
-      → Resolved q d job.silent (Err fault) → ⊥
+      → ResolvedBy job.wide q d job.silent (Err fault) → ⊥
   names_accepted p q c d s fault a reaches h =
       let by = resolved_by (Some files) job p c s a in
       let same = configured_same known.parts files job p q c d by.0 reaches in
-      let there : Resolved p c job.silent (Err fault) = resolved_there known.parts files job p q c d (Err fault) same h in
-      known.parts.outcome p c job.silent (form_is_one known.parts files job p c by.0) (Ok s) (Err fault) by.1 there
+      let there : ResolvedBy job.wide p c job.silent (Err fault) = resolved_there known.parts files job p q c d (Err fault) same h in
+      one_outcome_by known.parts.outcome job.wide p c job.silent (form_is_one known.parts files job p c by.0) (Ok s) (Err fault) by.1 there
 
   -- ---- beside an accepted reading
 

@@ -1,3 +1,4 @@
+pub mod Outcomes
 pub mod Stages
 pub mod SameLogs
 pub mod OneReading

@@ -8,8 +8,10 @@ use Rattle.tla_modules.specs.Loads.{IsProgram}
 use Rattle.tla_modules.specs.Paths.{IsPath}
 use Rattle.tla_core.specs.declared.state.Shown.{Shown}
 use Rattle.tla_terms.specs.declared.spec.Spec.{Spec}
-use Rattle.tla_levels.specs.Resolved.{IsOneForm, Resolved}
+use Rattle.tla_levels.specs.Resolved.{IsOneForm}
 use Rattle.tla_levels.specs.declared.fault.ResolveFault.{ResolveFault}
+use Rattle.specification_names.specs.Resolving.{ResolvedBy}
+use Rattle.specification_names.proofs.Readings.{resolved_with}
 use Rattle.load_laws.specs.Loaded.{ConfigurationsHaveOneForm, LoadedAreWellFormed, PlainHasOneForm}
 use Rattle.resolved_laws.specs.InOrder.{ResolvedAreInOrder}
 use Rattle.spec_laws.specs.IsSpec.{IsSpec}
@@ -26,6 +28,7 @@ use Rattle.run_reading.specs.Reaches.{AllRead, Reaches, configured, resolved}
 use Rattle.run_reading.specs.Given.{AllGiven, states_limit}
 use Rattle.one_reading.specs.Laws.{AreSame, GivenIsOne, ReadingIsOne}
 use Rattle.one_program.specs.Laws.{OneConfiguration, OnePath, OneProgram}
+use Rattle.one_reading.proofs.Outcomes.{one_outcome_by}
 use Rattle.one_reading.proofs.Stages.{LoadedBy, WithText, WithoutText, configured_by, counted, loaded_by, logged_from, none_is_some, resolved_by, some_is}
 use Rattle.one_reading.proofs.SameLogs.{AreAlikeReads, one_text, same_logs}
 
@@ -84,7 +87,8 @@ module _ (known : Parts) (files : List File) (job : Job) where
   in_order p c s reaches =
       let r = resolved_by (Some files) job p c s reaches in
       let by = loaded_by (Some files) job p (configured_by (Some files) job p c r.0).0 in
-      known.in_order p c job.silent s (known.well_formed (Some files) 0 0 job.module p (by.0, by.1, by.2, by.3)) r.1
+      let with = resolved_with job.wide p c job.silent s r.1 in
+      known.in_order p with.config job.silent s (known.well_formed (Some files) 0 0 job.module p (by.0, by.1, by.2, by.3)) with.is
 
   -- the programs and the configurations
   pub record AreConfigured (p q : Program) (c d : Config) : Type 0 where
@@ -100,9 +104,9 @@ module _ (known : Parts) (files : List File) (job : Job) where
       record { programs = programs; configurations = same_configuration p c d left.1 given }
 
   -- what is resolved of the same
-  pub resolved_there : (p q : Program) (c d : Config) (r : Result Spec ResolveFault) → AreConfigured p q c d → Resolved q d job.silent r → Resolved p c job.silent r
+  pub resolved_there : (p q : Program) (c d : Config) (r : Result Spec ResolveFault) → AreConfigured p q c d → ResolvedBy job.wide q d job.silent r → ResolvedBy job.wide p c job.silent r
   resolved_there p q c d r same h =
-      subst (λ (x : Config). Resolved p x job.silent r) (sym same.configurations) (subst (λ (x : Program). Resolved x d job.silent r) (sym same.programs) h)
+      subst (λ (x : Config). ResolvedBy job.wide p x job.silent r) (sym same.configurations) (subst (λ (x : Program). ResolvedBy job.wide x d job.silent r) (sym same.programs) h)
 
   pub form_is_one : (p : Program) (c : Config) → Reaches (Some files) job (configured p c) → IsOneForm c
   form_is_one p c reaches = one_form p c (configured_by (Some files) job p c reaches).1
@@ -118,11 +122,11 @@ module _ (known : Parts) (files : List File) (job : Job) where
       let first = resolved_by (Some files) job p c s a in
       let second = resolved_by (Some files) job q d t b in
       let same : AreConfigured p q c d = configured_same p q c d first.0 second.0 in
-      let there : Resolved p c job.silent (Ok t) = resolved_there p q c d (Ok t) same second.1 in
+      let there : ResolvedBy job.wide p c job.silent (Ok t) = resolved_there p q c d (Ok t) same second.1 in
       record {
         programs = same.programs;
         configurations = same.configurations;
-        specs = known.outcome p c job.silent (form_is_one p c first.0) (Ok s) (Ok t) first.1 there;
+        specs = one_outcome_by known.outcome job.wide p c job.silent (form_is_one p c first.0) (Ok s) (Ok t) first.1 there;
       }
 
   same_reading : (p q : Program) (c d : Config) (s t : Spec) (log other : Log) → AllRead (Some files) job p c s log → AllRead (Some files) job q d t other → AreSame p q c d s t log other

@@ -8,7 +8,7 @@ use Rattle.tla_modules.specs.Loads.{IsProgram}
 use Rattle.tla_modules.specs.Paths.{IsPath}
 use Rattle.wide_config.specs.Wide.{ReadsBy}
 use Rattle.tla_terms.specs.declared.spec.Spec.{Spec}
-use Rattle.tla_levels.specs.Resolved.{Resolved}
+use Rattle.specification_names.specs.Resolving.{ResolvedBy}
 use Rattle.log_lines.specs.declared.file.FileLines.{FileLines}
 use Rattle.run_words.specs.declared.job.Job.{Job}
 use Rattle.run_reading.specs.Texts.{HasText, LogsRead, config_limit, no_logs, with_log, without_file}
@@ -55,7 +55,7 @@ module _ (holds : Option (List File)) (job : Job) where
   configured_by _ _ (needs_no_configuration p reaches none) = (reaches, inl (none, refl))
   configured_by _ _ (reads_configuration p name text c reaches some has reads) = (reaches, inr (name, text, some, has, reads))
 
-  pub resolved_by : (p : Program) (c : Config) (s : Spec) → Reaches holds job (resolved p c s) → Reaches holds job (configured p c) × Resolved p c job.silent (Ok s)
+  pub resolved_by : (p : Program) (c : Config) (s : Spec) → Reaches holds job (resolved p c s) → Reaches holds job (configured p c) × ResolvedBy job.wide p c job.silent (Ok s)
   resolved_by _ _ _ (resolves p c s reaches is) = (reaches, is)
 
   pub logged_from : (p : Program) (c : Config) (s : Spec) (read : LogsRead) (names : List (List ℕ)) → Reaches holds job (logged p c s read names) → Reaches holds job (resolved p c s)

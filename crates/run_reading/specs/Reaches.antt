@@ -13,7 +13,7 @@ use Rattle.tla_modules.specs.Paths.{IsPath}
 use Rattle.tla_modules.specs.Refusals.{module_limit}
 use Rattle.wide_config.specs.Wide.{ReadsBy}
 use Rattle.tla_terms.specs.declared.spec.Spec.{Spec}
-use Rattle.tla_levels.specs.Resolved.{Resolved}
+use Rattle.specification_names.specs.Resolving.{ResolvedBy}
 use Rattle.spec_forms.specs.Forms.{AreWhole}
 use Rattle.log_lines.specs.Files.{FileSays, first_line}
 use Rattle.log_lines.specs.declared.file.FileLines.{FileLines}
@@ -48,7 +48,7 @@ pub data Reaches (holds : Option (List File)) (job : Job) : Stage → Type 0 whe
   needs_no_configuration : (p : Program) → Reaches holds job (loaded p) → job.config ≡ None → Reaches holds job (configured p without_file)
   reads_configuration : (p : Program) (name text : List ℕ) (c : Config) → Reaches holds job (loaded p) → job.config ≡ Some name
       → HasText holds name config_limit text → ReadsBy job.wide (length p.files) name text (Ok c) → Reaches holds job (configured p c)
-  resolves : (p : Program) (c : Config) (s : Spec) → Reaches holds job (configured p c) → Resolved p c job.silent (Ok s) → Reaches holds job (resolved p c s)
+  resolves : (p : Program) (c : Config) (s : Spec) → Reaches holds job (configured p c) → ResolvedBy job.wide p c job.silent (Ok s) → Reaches holds job (resolved p c s)
   has_forms : (p : Program) (c : Config) (s : Spec) → Reaches holds job (resolved p c s) → AreWhole s → Reaches holds job (logged p c s no_logs job.logs)
   reads_log : (p : Program) (c : Config) (s : Spec) (read : LogsRead) (name : List ℕ) (names : List (List ℕ)) (text : List ℕ) (f : FileLines)
       → Reaches holds job (logged p c s read (name ∷ names)) → IsLog holds read name text → LogSays job s read text (Ok f)

@@ -14,8 +14,8 @@ use Rattle.tla_modules.specs.Twice.{Repeats, declared_in}
 use Rattle.tla_config.specs.declared.fault.ConfigKind.{ConfigKind}
 use Rattle.wide_config.specs.Wide.{ReadsBy}
 use Rattle.tla_terms.specs.declared.spec.Spec.{Spec}
-use Rattle.tla_levels.specs.Resolved.{Resolved}
 use Rattle.tla_levels.specs.declared.fault.ResolveFault.{ResolveFault}
+use Rattle.specification_names.specs.Resolving.{ResolvedBy}
 use Rattle.tla_actions.specs.declared.fault.FormFault.{FormFault}
 use Rattle.spec_forms.specs.Forms.{IsFirstFault}
 use Rattle.log_lines.specs.declared.file.Refusal.{Refusal}
@@ -52,7 +52,7 @@ pub data Rejects (holds : Option (List File)) (job : Job) : Stage → List ℕ �
       → Repeats all.standard (declared_in all.units) why → Rejects holds job begun (module_refusal (files_of folder all.modules) why)
   in_the_configuration : (p : Program) (name text : List ℕ) (kind : ConfigKind) (at : Place) → job.config ≡ Some name → HasText holds name config_limit text
       → ReadsBy job.wide (length p.files) name text (Err (kind, at)) → Rejects holds job (loaded p) (config_refusal (p.files ++ name ∷ []) kind at)
-  in_names : (p : Program) (c : Config) (fault : ResolveFault) → Resolved p c job.silent (Err fault)
+  in_names : (p : Program) (c : Config) (fault : ResolveFault) → ResolvedBy job.wide p c job.silent (Err fault)
       → Rejects holds job (configured p c) (names_refusal (all_files p c) fault)
   in_forms : (p : Program) (c : Config) (s : Spec) (fault : FormFault) → IsFirstFault s fault
       → Rejects holds job (resolved p c s) (form_refusal (all_files p c) s.variables fault)

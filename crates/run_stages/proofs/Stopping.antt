@@ -16,8 +16,8 @@ use Rattle.tla_modules.specs.Refusals.{IsCaused, module_limit}
 use Rattle.tla_config.specs.declared.fault.ConfigKind.{ConfigKind}
 use Rattle.wide_config.specs.Wide.{ReadsBy}
 use Rattle.tla_terms.specs.declared.spec.Spec.{Spec}
-use Rattle.tla_levels.specs.Resolved.{Resolved}
 use Rattle.tla_levels.specs.declared.fault.ResolveFault.{ResolveFault}
+use Rattle.specification_names.specs.Resolving.{ResolvedBy}
 use Rattle.tla_actions.specs.declared.fault.FormFault.{FormFault}
 use Rattle.spec_forms.specs.Forms.{IsFirstFault}
 use Rattle.log_lines.specs.declared.file.Refusal.{Refusal}
@@ -126,9 +126,9 @@ module _ (holds : Option (List File)) (before now : ℕ) (job : Job) where
       (rejects.in_the_configuration p name text r.0 r.1 e has r.2))) stop h
 
   pub names_stop : (p : Program) (c : Config) (stop : Stop) → Reaches holds job (configured p c)
-      → RefusedWith (λ report. (f : ResolveFault) × Resolved p c job.silent (Err f) × (report ≡ names_refusal (all_files p c) f)) stop → StopsBy holds before now job stop
+      → RefusedWith (λ report. (f : ResolveFault) × ResolvedBy job.wide p c job.silent (Err f) × (report ≡ names_refusal (all_files p c) f)) stop → StopsBy holds before now job stop
   names_stop p c stop reaches h =
-      refused_with (λ report. (f : ResolveFault) × Resolved p c job.silent (Err f) × (report ≡ names_refusal (all_files p c) f))
+      refused_with (λ report. (f : ResolveFault) × ResolvedBy job.wide p c job.silent (Err f) × (report ≡ names_refusal (all_files p c) f))
       (λ report r. as_report report (names_refusal (all_files p c) r.0) r.2 (is_refused (configured p c) (names_refusal (all_files p c) r.0) reaches (rejects.in_names p c r.0 r.1))) stop h
 
   pub forms_stop : (p : Program) (c : Config) (s : Spec) (stop : Stop) → Reaches holds job (resolved p c s)

@@ -1,5 +1,5 @@
 -- What is accepted is printed in lines, and what is printed is valid.
-use Rattle.std.proofs.Common.{◌≡◌, ℕ, List, ◌∷◌, Option, Ok, length, refl, sym, subst}
+use Rattle.std.proofs.Common.{◌≡◌, ◌∙◌, ℕ, List, ◌∷◌, Option, Ok, length, refl, sym, subst}
 use Rattle.std.specs.Prelude.{All, IsUtf8}
 use Rattle.std.proofs.lemmas.List.Elements.{All-nil}
 use Rattle.trace_base.specs.Device.{File}
@@ -7,6 +7,7 @@ use Rattle.tla_ast.specs.declared.config.Config.{Config}
 use Rattle.tla_ast.specs.declared.module.Program.{Program}
 use Rattle.tla_terms.specs.declared.spec.Spec.{Spec}
 use Rattle.tla_levels.specs.Resolved.{Resolved, accepted}
+use Rattle.specification_names.proofs.Readings.{resolved_with}
 use Rattle.path_updates.specs.declared.line.Log.{Log}
 use Rattle.state_verdicts.specs.declared.verdict.Verdict.TheVariants.{Valid}
 use Rattle.run_words.specs.declared.job.Job.{Job}
@@ -27,7 +28,8 @@ same_unchecked p c silent _ (accepted values number ops assumes s conf low is) =
 
 resolved_lines : (holds : Option (List File)) (job : Job) (p : Program) (c : Config) (s : Spec) → UncheckedAreLines → Reaches holds job (resolved p c s) → All HasNoFeed s.unchecked
 resolved_lines holds job p c s law (resolves _ _ _ reaches is) =
-    subst (All HasNoFeed) (sym (same_unchecked p c job.silent s is)) (configured_lines holds job p c law reaches)
+    let with = resolved_with job.wide p c job.silent s is in
+    subst (All HasNoFeed) (sym (same_unchecked p with.config job.silent s with.is ∙ with.unchecked)) (configured_lines holds job p c law reaches)
 
 logged_lines : (holds : Option (List File)) (job : Job) (p : Program) (c : Config) (s : Spec) (read : LogsRead) (names : List (List ℕ)) → UncheckedAreLines
     → Reaches holds job (logged p c s read names) → All HasNoFeed s.unchecked

@@ -1,6 +1,6 @@
 -- What is told of each branch of each action.
 use Rattle.std.proofs.Common.{◌≡◌, refl, sym, ◌∙◌, ap, subst, arith, ℕ, zero, suc, [], ◌∷◌, length, map}
-use Rattle.std.specs.Prelude.{All, Bool, true, false, List, ◌++◌, Contains, Option, None, Some, Result, Ok, Err, slice_get}
+use Rattle.std.specs.Prelude.{All, Bool, true, false, List, ◌++◌, Contains, Some, Result, Ok, Err, slice_get}
 use Rattle.tla_values.specs.declared.fault.EvalKind.TheVariants.{Nested}
 use Rattle.tla_core.specs.States.{Values}
 use Rattle.tla_core.specs.declared.fault.Fault.{Fault}
@@ -26,17 +26,18 @@ use Rattle.found_states.proofs.Opened.{form_held, held_form, held_opened, holds_
 use Rattle.found_states.proofs.Openings.{FormKnows, all_placed, one_opens, opened_at, opens_at}
 use Rattle.found_states.proofs.Placed.{holds_values, reads_values}
 use Rattle.found_states.proofs.Simple.{finds_false, finds_true}
-use Rattle.trace_base.specs.declared.place.Place.{Place}
-use Rattle.why_branches.specs.PassedOver.{called, nothing}
+use Rattle.why_branches.specs.declared.sparing.Passing.{Passing}
+use Rattle.why_branches.specs.declared.sparing.Passing.TheVariants as passing
+use Rattle.why_branches.specs.PassedOver.{called, may_spare, nothing}
 use Rattle.why_branches.specs.declared.sparing.Sparing.{Sparing}
-use Rattle.why_branches.specs.Traces.{End, SparedPart, Trace, added, ended, faulted, here, passed, stops}
-use Rattle.why_branches.specs.Branches.{Altered, Alters, Branches, FormBranches, Goes, OpenedBranches, is_choice, stood, Onward}
+use Rattle.why_branches.specs.Traces.{End, SparedPart, Trace, added, after_spared, ended, faulted, here, passed, stops}
+use Rattle.why_branches.specs.Branches.{Altered, Branches, FormBranches, Goes, OpenedBranches, Tests, Turns, is_choice, stood, Onward}
 use Rattle.why_branches.specs.Repaired.{HoldsBut, HoldsButOf}
 use Rattle.why_branches.specs.Told.{EndRepairs, EndRepairsAll, EndSays, IsSpared, KnowsAll, Says, filled_at, EndSaysAll, SaysAll}
 use Rattle.why_branches.specs.declared.why.WhyKind.TheVariants as why
 use Rattle.why_branches.proofs.LeafSays.{assign_says, choose_says, ok_same, says_faulted, says_passed, says_same, says_stops, test_says}
-use Rattle.why_branches.proofs.OpenSays.{AllBut, OnWay, Opening, PartsKnow, Saying, StopSays, none_of, opened_says, starts, way_on, AllPassed, onward_says}
-use Rattle.why_branches.proofs.Repairs.{form_but, opened_but}
+use Rattle.why_branches.proofs.OpenSays.{AllBut, OnWay, Opening, PartsKnow, SayingOn, StopSays, none_of, opened_says, starts, way_on, AllPassed, onward_says}
+use Rattle.why_branches.proofs.Repairs.{Less, form_but, less_but, one_less, opened_but}
 use Rattle.tla_values.specs.Ascending.{head_in, none_in}
 use Rattle.std.specs.List.{AllByRecursion}
 use Rattle.found_states.specs.Parts.{Parts}
@@ -71,7 +72,7 @@ module _ (g : Setting) (sp : Sparing) (d : ℕ) (c : Context) (a : Term) (p : Pl
       one_opens g.table d (at_next g.which c (map Some t)) w.definitions (holds_values g.table (at_next g.which c (map Some t)) a w) (place_of a) (form g (length c.slots) a)
       (form_knows g w.definitions (length c.slots) a w.known) (opened_at g.which (map Some t) r) q (opens_at g d c p (map Some t) (place_of a) (form g (length c.slots) a) k.has r h) i
 
-  pub opening : (inner : Sparing) (says : Saying g sp inner d) → (o : Opened)
+  pub opening : (inner : Sparing) (says : SayingOn g sp inner d) → (o : Opened)
       → OpensFrom g d c p (place_of a) (form g (length c.slots) a) (Ok o) → Opening g sp inner d says p c a o
   opening inner says o h = record {
     so = λ t k m. form_held g d c (map Some t) a
@@ -84,7 +85,7 @@ module _ (g : Setting) (sp : Sparing) (d : ℕ) (c : Context) (a : Term) (p : Pl
         holds_back g d t o (subst (λ (x : Opened). OpenedHolds (Holds g d) x) (sym e) r.2);
   }
 
-  pub parts_know : (inner : Sparing) (says : Saying g sp inner d) → (o : Opened)
+  pub parts_know : (inner : Sparing) (says : SayingOn g sp inner d) → (o : Opened)
       → OpensFrom g d c p (place_of a) (form g (length c.slots) a) (Ok o) → PartsKnow g sp inner d says p c a o
   parts_know inner says (all_of es) h = all_from (λ e. KnowsAll g p e.0 e.1) es (λ e m t k.
       let w = known t k in
@@ -96,7 +97,7 @@ module _ (g : Setting) (sp : Sparing) (d : ℕ) (c : Context) (a : Term) (p : Pl
 
   -- `<<A>>_v`
 
-  module _ (says : Saying g sp sp d) (e v : Term) (i : form g (length c.slots) a ≡ changing e v) where
+  module _ (says : SayingOn g sp sp d) (e v : Term) (i : form g (length c.slots) a ≡ changing e v) where
     knows_both : (t : Values) → Completes p t → KnowsValues e × KnowsValues v
     knows_both t k = let w = known t k in subst FormKnows i (form_knows g w.definitions (length c.slots) a w.known)
 
@@ -119,15 +120,15 @@ module _ (g : Setting) (sp : Sparing) (d : ℕ) (c : Context) (a : Term) (p : Pl
     altered_says q w (Err f) h z m = says_same g sp c (changed_of (place_of a) v) d q z (faulted q (stood d (c, changed_of (place_of a) v)) f) m (says_faulted g sp c (changed_of (place_of a) v) d q (stood d (c, changed_of (place_of a) v)) f)
 
     -- a branch of A alone
-    first_way : (y : Trace) → Goes (Branches g sp d) d (c, e) (here p) (passed p) y → OnWay g sp p y
-    first_way y h = subst (λ (z : Trace). OnWay g sp p z) (sym h.2) (way_on g sp sp d says p (c, e) (here p) p refl (starts g sp sp d says p) h.0 (says c e p h.0 knows_first h.1))
+    first_way : (y : Trace) → Goes (Turns g sp d) d (c, e) (here p) (passed p) y → OnWay g sp p y
+    first_way y h = subst (λ (z : Trace). OnWay g sp p z) (sym h.2) (way_on g sp sp d says p (c, e) (here p) p refl (starts g sp sp d says p) h.0 (says [] c e p h.0 knows_first h.1))
 
     ended_says : (y : Trace) → OnWay g sp p y → ((t : Values) → EndSays g c a (suc d) y.spared y.end t) → ((t : Values) → EndRepairs g sp.at c a (suc d) y.end t) → Says g sp.at c a (suc d) p y
     ended_says y w h f = record { long = w.long; more = w.more; before = w.before; spared = w.spared; ends = h; repaired = f }
 
     changes_says : (y : Trace) → OnWay g sp p y → ((q : Places) → y.end ≡ passed q → y.spared ≡ [] → (t : Values) → Completes q t → HoldsOf g d c e t) → ((q : Places) → y.end ≡ passed q → (t : Values) → Completes q t → HoldsButOf g sp.at d c e t)
         → (n : End) → y.end ≡ n → (x : Trace)
-        → Goes (Alters g d) d (c, changed_of (place_of a) v) y n x → Says g sp.at c a (suc d) p x
+        → Goes (Tests g d) d (c, changed_of (place_of a) v) y n x → Says g sp.at c a (suc d) p x
     changes_says y w b e1 (ended q s u) j x m = says_same g sp c a (suc d) p x y m (ended_says y w (λ t. subst (λ (n : End). EndSays g c a (suc d) y.spared n t) (sym j) (subst (λ (n : End). StopSays g sp n t) j (w.stops t))) (λ t. subst (λ (n : End). EndRepairs g sp.at c a (suc d) n t) (sym j) tt))
     changes_says y w b e1 (passed q) j x m =
         let long : length q ≡ length p = subst (λ (n : End). length (filled_at n) ≡ length p) j w.long in
@@ -163,22 +164,22 @@ module _ (g : Setting) (sp : Sparing) (d : ℕ) (c : Context) (a : Term) (p : Pl
       where
         first_holds : (q : Places) → h.0.end ≡ passed q → h.0.spared ≡ [] → (t : Values) → Completes q t → HoldsOf g d c e t
         first_holds q j i t k =
-            let s = says c e p h.1.0 knows_first h.1.1 in
+            let s = says [] c e p h.1.0 knows_first h.1.1 in
             let same : h.1.0.end ≡ passed q = sym (ap (λ (z : Trace). z.end) h.1.2) ∙ j in
             let none : h.1.0.spared ≡ [] = sym (ap (λ (z : Trace). z.spared) h.1.2) ∙ i in
             subst (λ (n : End). EndSays g c e d h.1.0.spared n t) same (s.ends t) none k
 
         first_but : (q : Places) → h.0.end ≡ passed q → (t : Values) → Completes q t → HoldsButOf g sp.at d c e t
         first_but q j t k =
-            let s = says c e p h.1.0 knows_first h.1.1 in
+            let s = says [] c e p h.1.0 knows_first h.1.1 in
             let same : h.1.0.end ≡ passed q = sym (ap (λ (z : Trace). z.end) h.1.2) ∙ j in
             subst (λ (n : End). EndRepairs g sp.at c e d n t) same (s.repaired t) k
 
   -- by the form
 
-  module _ (says : (inner : Sparing) → inner.at ≡ sp.at → Saying g sp inner d) where
+  module _ (says : (inner : Sparing) → inner.at ≡ sp.at → SayingOn g sp inner d) where
     opens_says : (f : Form) → form g (length c.slots) a ≡ f → (x : Trace)
-        → ((r : Result Opened Fault) × OpensFrom g d c p (place_of a) f r × OpenedBranches (Branches g (called f sp) d) d (is_choice f) p (stood (suc d) (c, a)) r x) → Says g sp.at c a (suc d) p x
+        → ((r : Result Opened Fault) × OpensFrom g d c p (place_of a) f r × OpenedBranches (Turns g (called f sp) d) d (is_choice f) p (stood (suc d) (c, a)) r x) → Says g sp.at c a (suc d) p x
     opens_says f i x h =
         let o : OpensFrom g d c p (place_of a) (form g (length c.slots) a) h.0 = subst (λ (y : Form). OpensFrom g d c p (place_of a) y h.0) (sym i) h.1 in
         let parts = says (called f sp) (called_at f sp) in
@@ -201,21 +202,47 @@ module _ (g : Setting) (sp : Sparing) (d : ℕ) (c : Context) (a : Term) (p : Pl
     pub more_says : (x : Trace) → Branches g sp (suc d) c a p x → Says g sp.at c a (suc d) p x
     more_says x h = form_says (form g (length c.slots) a) refl x h
 
+-- where less may be passed over
+
+less_spared : (g : Setting) (a b : Passing) → Less a b → (q : Places) (w : SparedPart) → IsSpared g a q w → IsSpared g b q w
+less_spared g a b l q w s = record { may = l w.part.term s.may; stands = s.stands; passable = s.passable; slots = s.slots; lacks = s.lacks }
+
+less_says : (g : Setting) (a b : Passing) → Less a b → (c : Context) (e : Term) (d : ℕ) (p : Places) (x : Trace) → Says g a c e d p x → Says g b c e d p x
+less_says g a b l c e d p x s = record {
+  long = s.long;
+  more = s.more;
+  before = s.before;
+  spared = λ w m. less_spared g a b l (filled_at x.end) w (s.spared w m);
+  ends = s.ends;
+  repaired = λ t. by_end x.end t (s.repaired t);
+}
+  where
+    by_end : (n : End) (t : Values) → EndRepairs g a c e d n t → EndRepairs g b c e d n t
+    by_end (passed q) t h = λ k. less_but g a b l d (at_next g.which c (map Some t)) e (h k)
+    by_end (ended q s w) t h = tt
+
+less_behind : (ws : List SparedPart) (inner sp : Sparing) → inner.at ≡ sp.at → Less (after_spared ws inner).at sp.at
+less_behind ws inner sp e t h = subst (λ (at : Passing). may_spare at t ≡ true) e (by_list ws h)
+  where
+    by_list : (us : List SparedPart) → may_spare (after_spared us inner).at t ≡ true → may_spare inner.at t ≡ true
+    by_list [] h = h
+    by_list (u ∷ us) h = one_less u.told.why.at inner.at t h
+
 -- so of each branch of each action
 pub branches_say : (g : Setting) (sp : Sparing) (d : ℕ) (c : Context) (a : Term) (p : Places) (x : Trace) → KnowsAll g p c a → Branches g sp d c a p x → Says g sp.at c a d p x
 branches_say g sp zero c a p x w h = says_same g sp c a zero p x (faulted p (stood zero (c, a)) (fault Nested (place_of a))) h (says_faulted g sp c a zero p (stood zero (c, a)) (fault Nested (place_of a)))
-branches_say g sp (suc d) c a p x w h = more_says g sp d c a p w (λ inner e c a p x v k. subst (λ (at : Option Place). Says g at c a d p x) e (branches_say g inner d c a p x v k)) x h
+branches_say g sp (suc d) c a p x w h = more_says g sp d c a p w (λ inner e ws c a p x v k. less_says g (after_spared ws inner).at sp.at (less_behind ws inner sp e) c a d p x (branches_say g (after_spared ws inner) d c a p x v k)) x h
 
--- and so where something else may be passed over at the same place
-pub inner_say : (g : Setting) (sp : Sparing) (d : ℕ) (inner : Sparing) → inner.at ≡ sp.at → Saying g sp inner d
-inner_say g sp d inner e c a p x v k = subst (λ (at : Option Place). Says g at c a d p x) e (branches_say g inner d c a p x v k)
+-- and so further in, and behind parts that were passed over
+pub inner_say : (g : Setting) (sp : Sparing) (d : ℕ) (inner : Sparing) → inner.at ≡ sp.at → SayingOn g sp inner d
+inner_say g sp d inner e ws c a p x v k = less_says g (after_spared ws inner).at sp.at (less_behind ws inner sp e) c a d p x (branches_say g (after_spared ws inner) d c a p x v k)
 
 pub form_says_so : (g : Setting) (sp : Sparing) (d : ℕ) (c : Context) (a : Term) (p : Places) (w : KnowsAll g p c a) (f : Form) → form g (length c.slots) a ≡ f → (x : Trace)
     → FormBranches g sp d (λ inner. Branches g inner d) c a f p x → Says g sp.at c a (suc d) p x
 form_says_so g sp d c a p w f i x h = form_says g sp d c a p w (inner_say g sp d) f i x h
 
 -- and of parts that must all hold
-pub parts_say : (g : Setting) (sp : Sparing) (d : ℕ) (es : Parts) (p : Places) (x : Trace) → AllByRecursion (λ e. KnowsAll g p e.0 e.1) es → Onward (Branches g sp d) d es (here p) x → SaysAll g sp.at d es p x
+pub parts_say : (g : Setting) (sp : Sparing) (d : ℕ) (es : Parts) (p : Places) (x : Trace) → AllByRecursion (λ e. KnowsAll g p e.0 e.1) es → Onward (Turns g sp d) d es (here p) x → SaysAll g sp.at d es p x
 parts_say g sp d es p x w h =
     let says = inner_say g sp d sp refl in
     let r = onward_says g sp sp d says p es (here p) x w (starts g sp sp d says p) h in record {
@@ -236,10 +263,10 @@ parts_say g sp d es p x w h =
     by_end ws (ended q s w) t h k = h
 
 -- where nothing may be passed over, nothing is
-pub none_spared : (g : Setting) (d : ℕ) (es : Parts) (p : Places) (x : Trace) → AllByRecursion (λ e. KnowsAll g p e.0 e.1) es → Onward (Branches g nothing d) d es (here p) x → x.spared ≡ []
+pub none_spared : (g : Setting) (d : ℕ) (es : Parts) (p : Places) (x : Trace) → AllByRecursion (λ e. KnowsAll g p e.0 e.1) es → Onward (Turns g nothing d) d es (here p) x → x.spared ≡ []
 none_spared g d es p x w h = by_list x.spared (parts_say g nothing d es p x w h).spared
   where
-    by_list : (ws : List SparedPart) → ((w : SparedPart) → Contains ws w → IsSpared g None (filled_at x.end) w) → ws ≡ []
+    by_list : (ws : List SparedPart) → ((w : SparedPart) → Contains ws w → IsSpared g passing.Nothing (filled_at x.end) w) → ws ≡ []
     by_list [] h = refl
     by_list (w ∷ ws) h = absurd (false_true (h w (head_in w ws)).may)
       where

@@ -14,7 +14,7 @@ use Rattle.action_reads.specs.Filled.{at_next}
 use Rattle.found_states.specs.Walks.{HoldsOf}
 use Rattle.why_branches.specs.declared.sparing.Sparing.{Sparing}
 use Rattle.why_branches.specs.Traces.{Trace, added, here, passed}
-use Rattle.why_branches.specs.Branches.{Alters, Branches, Goes, stood}
+use Rattle.why_branches.specs.Branches.{Goes, Tests, Turns, stood}
 use Rattle.why_branches.specs.Firsts.{Firsts, HasSoMany}
 use Rattle.why_branches.specs.Founds.{FoundOf, TestsFound}
 use Rattle.why_branches.specs.Told.{KnowsAll}
@@ -28,8 +28,8 @@ module _ (g : Setting) (sp : Sparing) (k : ℕ) (room : 1 ≤ k) (d : ℕ) (c : 
   Test = (c, changed_of (place_of a) v)
 
   -- the branches of A are those of which the whole goes on
-  pub first_found : (zs : List Trace) → FoundOf g sp k d c e p zs → Firsts k (Goes (Branches g sp d) d (c, e) (here p) (passed p)) (map (added (stood d (c, e)) (here p)) zs)
-  first_found zs b = goes_on (Branches g sp d) d k (c, e) (here p) p zs b.firsts
+  pub first_found : (zs : List Trace) → FoundOf g sp k d c e p zs → Firsts k (Goes (Turns g sp d) d (c, e) (here p) (passed p)) (map (added (stood d (c, e)) (here p)) zs)
+  first_found zs b = goes_on (Turns g sp d) d k (c, e) (here p) p zs b.firsts
 
   both_hold : (t : Values) → HoldsOf g (suc d) c a t → HoldsOf g d c e t × HoldsOf g d c (changed_of (place_of a) v) t
   both_hold t h =
@@ -50,7 +50,7 @@ module _ (g : Setting) (sp : Sparing) (k : ℕ) (room : 1 ≤ k) (d : ℕ) (c : 
       let same : length (map (added (stood d (c, e)) (here p)) zs) ≡ length zs = map_length (added (stood d (c, e)) (here p)) zs in
       let one : 1 ≤ length zs = b.some in
       of_form g sp k room d c a p known now (changing e v) i ys (record {
-        firsts = then_more (Alters g d) d k (Goes (Branches g sp d) d (c, e) (here p) (passed p)) Test (map (added (stood d (c, e)) (here p)) zs) ys (first_found zs b) s.each;
+        firsts = then_more (Tests g d) d k (Goes (Turns g sp d) d (c, e) (here p) (passed p)) Test (map (added (stood d (c, e)) (here p)) zs) ys (first_found zs b) s.each;
         some = grown s.each.grows (omega (arith, same, one));
         covers = turn_covers k p (HoldsOf g d c e) (HoldsOf g d c (changed_of (place_of a) v)) (HoldsOf g (suc d) c a) (map (added (stood d (c, e)) (here p)) zs) ys both_hold s.each.grows
             (covering_map (added (stood d (c, e)) (here p)) (λ x. refl) k p (HoldsOf g d c e) zs b.covers) s.covers;

@@ -21,8 +21,8 @@ use Rattle.found_states.specs.Parts.{Parts}
 use Rattle.found_states.specs.Walks.{HoldsOf}
 use Rattle.why_branches.specs.PassedOver.{called}
 use Rattle.why_branches.specs.declared.sparing.Sparing.{Sparing}
-use Rattle.why_branches.specs.Traces.{Earlier, End, Stood, Trace, added, chosen, ended, faulted, here, passed, stops}
-use Rattle.why_branches.specs.Branches.{Branches, Chooses, Chosen, FormBranches, Goes, Members, OneBranches, Onward, OpenedBranches, is_choice, stood}
+use Rattle.why_branches.specs.Traces.{Earlier, End, Stood, Trace, added, after_spared, chosen, ended, faulted, here, passed, stops}
+use Rattle.why_branches.specs.Branches.{Branches, Chooses, Chosen, FormBranches, Goes, Members, OneBranches, Onward, OpenedBranches, Turns, is_choice, stood}
 use Rattle.why_branches.specs.Firsts.{Covers, Firsts, HasSoMany}
 use Rattle.why_branches.specs.Founds.{After, AllHold, AnyHolds, ArmsFound, EachFound, Found, FoundOf, MembersFound, Of, Sets, TurnsFound}
 use Rattle.why_branches.specs.Told.{KnowsAll}
@@ -116,48 +116,48 @@ AllEarlier ps y = (x : Trace) → Contains ps x → Earlier x y
 
 module _ (g : Setting) (sp : Sparing) (d k : ℕ) (e : Context × Term) where
   pub none_gone : EachFound g sp d k e [] []
-  none_gone = record { each = each_none (Branches g sp d) d k e; covers = cover_none k (HoldsOf g d e.0 e.1) }
+  none_gone = record { each = each_none (Turns g sp d) d k e; covers = cover_none k (HoldsOf g d e.0 e.1) }
 
   pub gone_on : (ps : List Trace) (y : Trace) (ys zs : List Trace) → AllEarlier ps y → length ys < k → EachFound g sp d k e ps ys → After g sp d (k - length ys) e y zs → EachFound g sp d k e (ps ++ y ∷ []) (ys ++ zs)
   gone_on ps y ys zs h s a b = record {
-    each = each_more (Branches g sp d) d k e ps y ys zs h s a.each b.firsts b.some;
+    each = each_more (Turns g sp d) d k e ps y ys zs h s a.each b.firsts b.some;
     covers = cover_more k (HoldsOf g d e.0 e.1) ps y ys zs a.covers b.covers;
   }
 
   -- what comes of a branch that goes on, and of one that does not
-  pub after_passed : (y : Trace) (q : Places) (zs : List Trace) → y.end ≡ passed q → FoundOf g sp k d e.0 e.1 q zs → After g sp d k e y (map (added (stood d e) y) zs)
+  pub after_passed : (y : Trace) (q : Places) (zs : List Trace) → y.end ≡ passed q → FoundOf g (after_spared y.spared sp) k d e.0 e.1 q zs → After g sp d k e y (map (added (stood d e) y) zs)
   after_passed y q zs i b =
       let same : length (map (added (stood d e) y) zs) ≡ length zs = map_length (added (stood d e) y) zs in
       let one : 1 ≤ length zs = b.some in record {
-        firsts = subst (λ (n : End). Firsts k (Goes (Branches g sp d) d e y n) (map (added (stood d e) y) zs)) (sym i) (goes_on (Branches g sp d) d k e y q zs b.firsts);
+        firsts = subst (λ (n : End). Firsts k (Goes (Turns g sp d) d e y n) (map (added (stood d e) y) zs)) (sym i) (goes_on (Turns g sp d) d k e y q zs b.firsts);
         some = omega (arith, same, one);
         covers = λ t c m. covering_map (added (stood d e) y) (λ x. refl) k q (HoldsOf g d e.0 e.1) zs b.covers t (subst (λ (n : End). Covers n t) i c) m;
       }
 
   pub after_ended : (y : Trace) (q : Places) (u : Stood) (w : Why) → y.end ≡ ended q u w → 1 ≤ k → After g sp d k e y (y ∷ [])
   after_ended y q u w i l = record {
-    firsts = subst (λ (n : End). Firsts k (Goes (Branches g sp d) d e y n) (y ∷ [])) (sym i) (goes_no_more (Branches g sp d) d k e y q u w l);
+    firsts = subst (λ (n : End). Firsts k (Goes (Turns g sp d) d e y n) (y ∷ [])) (sym i) (goes_no_more (Turns g sp d) d k e y q u w l);
     some = omega arith;
     covers = λ t c m. covers_still k y t c;
   }
 
   pub gone_full : (ps : List Trace) (y : Trace) (ys : List Trace) → AllEarlier ps y → k ≤ length ys → EachFound g sp d k e ps ys → EachFound g sp d k e (ps ++ y ∷ []) ys
   gone_full ps y ys h s a = record {
-    each = each_full (Branches g sp d) d k e ps y ys h s a.each;
+    each = each_full (Turns g sp d) d k e ps y ys h s a.each;
     covers = cover_full k (HoldsOf g d e.0 e.1) (ps ++ y ∷ []) ys s;
   }
 
 module _ (g : Setting) (sp : Sparing) (d k : ℕ) (p : Places) where
   pub turns_begin : 1 ≤ k → TurnsFound g sp d k p [] (here p ∷ [])
   turns_begin r = record {
-    firsts = firsts_one k (Onward (Branches g sp d) d [] (here p)) (here p) r refl (λ x h. h);
+    firsts = firsts_one k (Onward (Turns g sp d) d [] (here p)) (here p) r refl (λ x h. h);
     some = omega arith;
     covers = λ t l m. inl (here p, head_in (here p) [], l);
   }
 
   pub turns_go_on : (es : Parts) (e : Context × Term) (xs ys : List Trace) → 1 ≤ k → TurnsFound g sp d k p es xs → EachFound g sp d k e xs ys → TurnsFound g sp d k p (es ++ e ∷ []) ys
   turns_go_on es e xs ys r a b = record {
-    firsts = turn_more (Branches g sp d) d k es e (here p) xs ys a.firsts b.each;
+    firsts = turn_more (Turns g sp d) d k es e (here p) xs ys a.firsts b.each;
     some = grown b.each.grows a.some;
     covers = turn_covers k p (AllHold g d es) (HoldsOf g d e.0 e.1) (AllHold g d (es ++ e ∷ [])) xs ys (split es) b.each.grows a.covers b.covers;
   }
@@ -177,14 +177,14 @@ module _ (g : Setting) (sp : Sparing) (k : ℕ) (room : 1 ≤ k) (d : ℕ) (c : 
   Fact = HoldsOf g (suc d) c a
 
   abbrev pub OpenedBy : Form → Trace → Type 0
-  OpenedBy f x = (r : Result Opened Fault) × OpensFrom g d c p (place_of a) f r × OpenedBranches (Branches g (called f sp) d) d (is_choice f) p (stood (suc d) (c, a)) r x
+  OpenedBy f x = (r : Result Opened Fault) × OpensFrom g d c p (place_of a) f r × OpenedBranches (Turns g (called f sp) d) d (is_choice f) p (stood (suc d) (c, a)) r x
 
   module _ (f : Form) (i : form g (length c.slots) a ≡ f) (r : Result Opened Fault) (h : OpensFrom g d c p (place_of a) f r) where
-    opened_so : (x : Trace) → OpenedBranches (Branches g (called f sp) d) d (is_choice f) p (stood (suc d) (c, a)) r x → OpenedBy f x
+    opened_so : (x : Trace) → OpenedBranches (Turns g (called f sp) d) d (is_choice f) p (stood (suc d) (c, a)) r x → OpenedBy f x
     opened_so x m = (r, h, m)
 
-    so_opened : (x : Trace) → OpenedBy f x → OpenedBranches (Branches g (called f sp) d) d (is_choice f) p (stood (suc d) (c, a)) r x
-    so_opened x m = subst (λ (q : Result Opened Fault). OpenedBranches (Branches g (called f sp) d) d (is_choice f) p (stood (suc d) (c, a)) q x) (one_opening g d c a p now f i m.0 r m.1 h) m.2
+    so_opened : (x : Trace) → OpenedBy f x → OpenedBranches (Turns g (called f sp) d) d (is_choice f) p (stood (suc d) (c, a)) r x
+    so_opened x m = subst (λ (q : Result Opened Fault). OpenedBranches (Turns g (called f sp) d) d (is_choice f) p (stood (suc d) (c, a)) q x) (one_opening g d c a p now f i m.0 r m.1 h) m.2
 
   module _ (f : Form) (i : form g (length c.slots) a ≡ f) where
     back : (o : Opened) → OpensFrom g d c p (place_of a) f (Ok o) → (t : Values) → Completes p t → HoldsOf g (suc d) c a t → OpenedHolds (λ b e. HoldsOf g d b e t) o
@@ -194,7 +194,7 @@ module _ (g : Setting) (sp : Sparing) (k : ℕ) (room : 1 ≤ k) (d : ℕ) (c : 
     opened_refused e h = found_one k p (OpenedBy f) Fact (faulted p (stood (suc d) (c, a)) e) room (opened_so f i (Err e) h _ refl) (λ x m. so_opened f i (Err e) h x m) (λ t l m. (tt, l))
 
     pub opened_all : (es : Parts) → OpensFrom g d c p (place_of a) f (Ok (all_of es)) → (xs : List Trace) → TurnsFound g (called f sp) d k p es xs → Found k p (OpenedBy f) Fact xs
-    opened_all es h xs b = found_same k p (Onward (Branches g (called f sp) d) d es (here p)) (OpenedBy f) (AllHold g d es) Fact xs
+    opened_all es h xs b = found_same k p (Onward (Turns g (called f sp) d) d es (here p)) (OpenedBy f) (AllHold g d es) Fact xs
         (opened_so f i (Ok (all_of es)) h) (so_opened f i (Ok (all_of es)) h) (λ t l m. place_by_all (λ e. HoldsOf g d e.0 e.1 t) es (back (all_of es) h t l m)) (record { firsts = b.firsts; some = b.some; covers = b.covers })
 
     pub opened_choice : is_choice f ≡ true → (es : Parts) → OpensFrom g d c p (place_of a) f (Ok (one_of es)) → (xs : List Trace) → 1 ≤ length es → ArmsFound g (called f sp) d k p es xs → Found k p (OpenedBy f) Fact xs

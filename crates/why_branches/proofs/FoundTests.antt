@@ -16,7 +16,7 @@ use Rattle.found_states.proofs.Placed.{truth_fine}
 use Rattle.found_states.proofs.Simple.{finds_false}
 use Rattle.tla_values.specs.Ascending.{head_in, none_in}
 use Rattle.why_branches.specs.Traces.{Earlier, End, Stood, Trace, added, ended, passed}
-use Rattle.why_branches.specs.Branches.{Altered, Alters, Goes, stood}
+use Rattle.why_branches.specs.Branches.{Altered, Alters, Goes, Tests, stood}
 use Rattle.why_branches.specs.Firsts.{Covers, Firsts}
 use Rattle.why_branches.specs.Founds.{AfterTest, TestsFound}
 use Rattle.why_branches.specs.Told.{KnowsAll}
@@ -27,24 +27,24 @@ use Rattle.why_branches.proofs.Turns.{cover_full, cover_more, cover_none, covers
 
 module _ (g : Setting) (d k : ℕ) (e : Context × Term) where
   pub tests_none : TestsFound g d k e [] []
-  tests_none = record { each = each_none (Alters g d) d k e; covers = cover_none k (HoldsOf g d e.0 e.1) }
+  tests_none = record { each = each_none (Tests g d) d k e; covers = cover_none k (HoldsOf g d e.0 e.1) }
 
   pub tests_more : (ps : List Trace) (y : Trace) (ys zs : List Trace) → ((x : Trace) → Contains ps x → Earlier x y) → length ys < k → TestsFound g d k e ps ys → AfterTest g d (k - length ys) e y zs
       → TestsFound g d k e (ps ++ y ∷ []) (ys ++ zs)
   tests_more ps y ys zs h s w b = record {
-    each = each_more (Alters g d) d k e ps y ys zs h s w.each b.firsts b.some;
+    each = each_more (Tests g d) d k e ps y ys zs h s w.each b.firsts b.some;
     covers = cover_more k (HoldsOf g d e.0 e.1) ps y ys zs w.covers b.covers;
   }
 
   pub tests_full : (ps : List Trace) (y : Trace) (ys : List Trace) → ((x : Trace) → Contains ps x → Earlier x y) → k ≤ length ys → TestsFound g d k e ps ys → TestsFound g d k e (ps ++ y ∷ []) ys
   tests_full ps y ys h s w = record {
-    each = each_full (Alters g d) d k e ps y ys h s w.each;
+    each = each_full (Tests g d) d k e ps y ys h s w.each;
     covers = cover_full k (HoldsOf g d e.0 e.1) (ps ++ y ∷ []) ys s;
   }
 
   pub after_ended_test : (y : Trace) (q : Places) (s : Stood) (w : Why) → 1 ≤ k → y.end ≡ ended q s w → AfterTest g d k e y (y ∷ [])
   after_ended_test y q s w l j = record {
-    firsts = subst (λ (n : End). Firsts k (Goes (Alters g d) d e y n) (y ∷ [])) (sym j) (goes_no_more (Alters g d) d k e y q s w l);
+    firsts = subst (λ (n : End). Firsts k (Goes (Tests g d) d e y n) (y ∷ [])) (sym j) (goes_no_more (Tests g d) d k e y q s w l);
     some = omega arith;
     covers = λ t c h. covers_still k y t c;
   }
@@ -68,7 +68,7 @@ module _ (g : Setting) (d k : ℕ) (e : Context × Term) where
     pub after_passed_test : 1 ≤ k → (y : Trace) → y.end ≡ passed q → (r : Result Bool Fault) → TruthOf (Evaluates g.table d) (at_next g.which e.0 q) e.1 r → (z : Trace) → Altered q (stood d e) r z
         → AfterTest g d k e y (added (stood d e) y z ∷ [])
     after_passed_test l y j r h z m = record {
-      firsts = subst (λ (n : End). Firsts k (Goes (Alters g d) d e y n) (added (stood d e) y z ∷ [])) (sym j) (goes_on (Alters g d) d k e y q (z ∷ []) (one_test l r h z m));
+      firsts = subst (λ (n : End). Firsts k (Goes (Tests g d) d e y n) (added (stood d e) y z ∷ [])) (sym j) (goes_on (Tests g d) d k e y q (z ∷ []) (one_test l r h z m));
       some = omega arith;
       covers = λ t c b. inl (added (stood d e) y z, head_in (added (stood d e) y z) [], altered_covers r h z m t (subst (λ (n : End). Covers n t) j c) b);
     }

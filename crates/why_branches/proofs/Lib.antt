@@ -14,4 +14,4 @@ pub mod FoundParts
 pub mod FoundTests
 pub mod FoundChanges
 pub mod Cutting
-pub mod NearOnes
+pub mod OnePlace

@@ -15,8 +15,8 @@ use Rattle.found_states.specs.Walks.{HoldsOf}
 use Rattle.found_states.proofs.Lists.{all_by_place, any_of, in_cases, of_any, one_in}
 use Rattle.found_states.proofs.Finding.{completes_less, within_itself, within_trans}
 use Rattle.why_branches.specs.declared.sparing.Sparing.{Sparing}
-use Rattle.why_branches.specs.Traces.{End, SparedPart, Stood, Trace, added, chosen, ended, faulted, gone, here, passed, stops}
-use Rattle.why_branches.specs.Branches.{Branches, Goes, OneBranches, Onward, OpenedBranches, stood}
+use Rattle.why_branches.specs.Traces.{End, SparedPart, Stood, Trace, added, after_spared, chosen, ended, faulted, gone, here, passed, stops}
+use Rattle.why_branches.specs.Branches.{Branches, Goes, OneBranches, Onward, OpenedBranches, Turns, stood}
 use Rattle.why_branches.specs.Firsts.{IsFault}
 use Rattle.why_branches.specs.Repaired.{HoldsButOf}
 use Rattle.why_branches.specs.Told.{EndRepairs, EndSays, IsSpared, KnowsAll, Says, filled_at}
@@ -29,6 +29,10 @@ use Rattle.why_branches.proofs.Elements.{get_in}
 -- what is told of the branches of parts, where this may be passed over, is told of them as of those of the whole
 abbrev pub Saying : Setting → Sparing → Sparing → ℕ → Type 0
 Saying g sp inner d = (c : Context) (a : Term) (p : Places) (x : Trace) → KnowsAll g p c a → Branches g inner d c a p x → Says g sp.at c a d p x
+
+-- and so behind parts that were passed over
+abbrev pub SayingOn : Setting → Sparing → Sparing → ℕ → Type 0
+SayingOn g sp inner d = (ws : List SparedPart) → Saying g sp (after_spared ws inner) d
 
 -- nothing in two lists together
 pub none_of : (us ws : List SparedPart) → us ++ ws ≡ [] → (us ≡ []) × (ws ≡ [])
@@ -75,11 +79,11 @@ module _ (g : Setting) (sp : Sparing) where
     pub long : length (filled_at x) ≡ length (filled_at y)
     pub more : IsWithin (filled_at y) (filled_at x)
 
-  module _ (inner : Sparing) (d : ℕ) (says : Saying g sp inner d) (p : Places) where
-    onward_ended : (es : Parts) (y : Trace) (q : Places) (s : Stood) (w : Why) → y.end ≡ ended q s w → (x : Trace) → Onward (Branches g inner d) d es y x → x ≡ y
+  module _ (inner : Sparing) (d : ℕ) (says : SayingOn g sp inner d) (p : Places) where
+    onward_ended : (es : Parts) (y : Trace) (q : Places) (s : Stood) (w : Why) → y.end ≡ ended q s w → (x : Trace) → Onward (Turns g inner d) d es y x → x ≡ y
     onward_ended [] y q s w i x h = h
     onward_ended (e ∷ es) y q s w i x h =
-        let k : h.0 ≡ y = subst (λ (n : End). Goes (Branches g inner d) d e y n h.0) i h.1 in
+        let k : h.0 ≡ y = subst (λ (n : End). Goes (Turns g inner d) d e y n h.0) i h.1 in
         onward_ended es h.0 q s w (ap (λ (z : Trace). z.end) k ∙ i) x h.2 ∙ k
 
     -- one part more
@@ -151,11 +155,11 @@ module _ (g : Setting) (sp : Sparing) where
     pub know_on : (e : Context × Term) (y : Trace) (q : Places) → y.end ≡ passed q → OnWay p y → KnowsAll g p e.0 e.1 → KnowsAll g q e.0 e.1
     know_on e y q i h w t k = w t (completes_less p q t (subst (λ (n : End). length (filled_at n) ≡ length p) i h.long) (subst (λ (n : End). IsWithin p (filled_at n)) i h.more) k)
 
-    by_end : (e : Context × Term) (es : Parts) (y x : Trace) → OnWay p y → KnowsAll g p e.0 e.1 → Onward (Branches g inner d) d (e ∷ es) y x → ((z : Trace) → OnWay p z → Onward (Branches g inner d) d es z x → Reached es z x)
+    by_end : (e : Context × Term) (es : Parts) (y x : Trace) → OnWay p y → KnowsAll g p e.0 e.1 → Onward (Turns g inner d) d (e ∷ es) y x → ((z : Trace) → OnWay p z → Onward (Turns g inner d) d es z x → Reached es z x)
         → (n : End) → y.end ≡ n → Reached (e ∷ es) y x
     by_end e es y x h w i on (passed q) j =
-        let b = subst (λ (n : End). Goes (Branches g inner d) d e y n i.0) j i.1 in
-        let s = says e.0 e.1 q b.0 (know_on e y q j h w) b.1 in
+        let b = subst (λ (n : End). Goes (Turns g inner d) d e y n i.0) j i.1 in
+        let s = says y.spared e.0 e.1 q b.0 (know_on e y q j h w) b.1 in
         let way = subst (λ (z : Trace). OnWay p z) (sym b.2) (way_on e y q j h b.0 s) in
         let r = on i.0 way i.2 in
         let same : i.0.end ≡ b.0.end = ap (λ (z : Trace). z.end) b.2 in
@@ -179,7 +183,7 @@ module _ (g : Setting) (sp : Sparing) where
           but = but_ended (e ∷ es) x.end q s v (ap (λ (z : Trace). z.end) k ∙ j);
         }
 
-    pub onward_says : (es : Parts) (y x : Trace) → AllByRecursion (λ e. KnowsAll g p e.0 e.1) es → OnWay p y → Onward (Branches g inner d) d es y x → Reached es y x
+    pub onward_says : (es : Parts) (y x : Trace) → AllByRecursion (λ e. KnowsAll g p e.0 e.1) es → OnWay p y → Onward (Turns g inner d) d es y x → Reached es y x
     onward_says [] y x w h i = record {
       way = subst (λ (z : Trace). OnWay p z) (sym i) h;
       further = subst (λ (z : Trace). Further y.end z.end) (sym i) (further_itself y.end);
@@ -204,7 +208,7 @@ module _ (g : Setting) (sp : Sparing) where
       PartsKnow (all_of es) = AllByRecursion (λ e. KnowsAll g p e.0 e.1) es
       PartsKnow (one_of es) = (e : Context × Term) → Contains es e → KnowsAll g p e.0 e.1
 
-      all_says : (es : Parts) → Opening (all_of es) → PartsKnow (all_of es) → (x : Trace) → Onward (Branches g inner d) d es (here p) x → Says g sp.at c a (suc d) p x
+      all_says : (es : Parts) → Opening (all_of es) → PartsKnow (all_of es) → (x : Trace) → Onward (Turns g inner d) d es (here p) x → Says g sp.at c a (suc d) p x
       all_says es o w x h = let r = onward_says es (here p) x w starts h in record {
         long = r.way.long;
         more = r.way.more;
@@ -224,7 +228,7 @@ module _ (g : Setting) (sp : Sparing) where
 
       -- one of them, as it is
       part_says : (es : Parts) → Opening (one_of es) → PartsKnow (one_of es) → (e : Context × Term) → Contains es e → (x : Trace) → Branches g inner d e.0 e.1 p x → Says g sp.at c a (suc d) p x
-      part_says es o w e m x b = let s = says e.0 e.1 p x (w e m) b in record {
+      part_says es o w e m x b = let s = says [] e.0 e.1 p x (w e m) b in record {
         long = s.long;
         more = s.more;
         before = s.before;
@@ -251,7 +255,7 @@ module _ (g : Setting) (sp : Sparing) where
       one_says true (e ∷ es) o w x h = says_same g sp c a (suc d) p x (chosen h.0 h.1.2.0) h.1.2.2
           (chosen_says h.0 h.1.2.0 (part_says (e ∷ es) o w h.1.0 (get_in (e ∷ es) h.0 h.1.0 h.1.1) h.1.2.0 h.1.2.1))
 
-      pub opened_says : (b : Bool) (r : Result Opened Fault) → ((o : Opened) → r ≡ Ok o → Opening o × PartsKnow o) → (x : Trace) → OpenedBranches (Branches g inner d) d b p (stood (suc d) (c, a)) r x → Says g sp.at c a (suc d) p x
+      pub opened_says : (b : Bool) (r : Result Opened Fault) → ((o : Opened) → r ≡ Ok o → Opening o × PartsKnow o) → (x : Trace) → OpenedBranches (Turns g inner d) d b p (stood (suc d) (c, a)) r x → Says g sp.at c a (suc d) p x
       opened_says b (Ok (all_of es)) o x h = let w = o (all_of es) refl in all_says es w.0 w.1 x h
       opened_says b (Ok (one_of es)) o x h = let w = o (one_of es) refl in one_says b es w.0 w.1 x h
       opened_says b (Err f) o x h = says_same g sp c a (suc d) p x (faulted p (stood (suc d) (c, a)) f) h (says_faulted g sp c a (suc d) p (stood (suc d) (c, a)) f)

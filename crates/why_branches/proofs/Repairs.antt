@@ -1,6 +1,6 @@
 -- What holds where the parts at one place are taken to hold.
 use Rattle.std.proofs.Common.{◌≡◌, inl, inr, sym, subst, ℕ, zero, suc, List, [], ◌∷◌, length, map}
-use Rattle.std.specs.Prelude.{true, false, Option, None, Some, Ok}
+use Rattle.std.specs.Prelude.{Bool, true, false, Option, None, Some, Ok, if◌then◌else◌}
 use Rattle.std.specs.List.{AllByRecursion}
 use Rattle.trace_base.specs.declared.place.Place.{Place}
 use Rattle.tla_values.specs.Data.{Val}
@@ -17,7 +17,9 @@ use Rattle.found_states.proofs.Lists.{all_by_place, any_of, of_any, place_by_all
 use Rattle.found_states.proofs.Opened.{opened_held}
 use Rattle.found_states.proofs.Openings.{all_placed, opens_at, placed}
 use Rattle.found_states.proofs.Placed.{at_slots}
-use Rattle.why_branches.specs.PassedOver.{may_spare}
+use Rattle.why_branches.specs.declared.sparing.Passing.{Passing}
+use Rattle.why_branches.specs.declared.sparing.Passing.TheVariants as passing
+use Rattle.why_branches.specs.PassedOver.{behind_one, is_unchanged, may_spare, same_place}
 use Rattle.why_branches.specs.Repaired.{HoldsBut, HoldsButOf, is_single}
 use Rattle.why_branches.proofs.Elements.{in_map}
 
@@ -48,21 +50,45 @@ module _ (g : Setting) (P Q : Relation) (h : (c : Context) (a : Term) → P c a 
 
 -- what holds, holds so too; and where no place is named, the other way round
 
-pub held_but : (g : Setting) (at : Option Place) (d : ℕ) (c : Context) (a : Term) → Holds g d c a → HoldsBut g at d c a
+pub held_but : (g : Setting) (at : Passing) (d : ℕ) (c : Context) (a : Term) → Holds g d c a → HoldsBut g at d c a
 held_but g at zero c a h = h
 held_but g at (suc d) c a h = inr (form_so g (Holds g d) (HoldsBut g at d) (λ b e k. held_but g at d b e k) d c a (form g (length c.slots) a) h)
 
-pub but_nothing : (g : Setting) (d : ℕ) (c : Context) (a : Term) → HoldsBut g None d c a → Holds g d c a
+pub but_nothing : (g : Setting) (d : ℕ) (c : Context) (a : Term) → HoldsBut g passing.Nothing d c a → Holds g d c a
 but_nothing g zero c a h = h
 but_nothing g (suc d) c a (inl h) = absurd (false_true h.1)
   where
     false_true : false ≡ true → ⊥
     false_true e = cc
-but_nothing g (suc d) c a (inr h) = form_so g (HoldsBut g None d) (Holds g d) (λ b e k. but_nothing g d b e k) d c a (form g (length c.slots) a) h
+but_nothing g (suc d) c a (inr h) = form_so g (HoldsBut g passing.Nothing d) (Holds g d) (λ b e k. but_nothing g d b e k) d c a (form g (length c.slots) a) h
+
+-- where what may be passed over the one time may be the other time too
+
+abbrev pub Less : Passing → Passing → Type 0
+Less a b = (e : Term) → may_spare a e ≡ true → may_spare b e ≡ true
+
+pub less_but : (g : Setting) (a b : Passing) → Less a b → (d : ℕ) (c : Context) (e : Term) → HoldsBut g a d c e → HoldsBut g b d c e
+less_but g a b l zero c e h = h
+less_but g a b l (suc d) c e (inl h) = inl (h.0, l e h.1)
+less_but g a b l (suc d) c e (inr h) = inr (form_so g (HoldsBut g a d) (HoldsBut g b d) (λ c f k. less_but g a b l d c f k) d c e (form g (length c.slots) e) h)
+
+-- what may be passed over at a place may be passed over anywhere
+pub spared_one : (at : Place) (e : Term) → may_spare (passing.At at) e ≡ true → may_spare passing.OnePlace e ≡ true
+spared_one at e h = by_test (same_place at (place_of e)) (is_unchanged e) h
+  where
+    by_test : (o u : Bool) → (if o then (if u then false else true) else false) ≡ true → (if u then false else true) ≡ true
+    by_test true u k = k
+    by_test false u k = cc
+
+pub one_less : (o : Option Place) (at : Passing) → Less (behind_one o at) at
+one_less o passing.Nothing e h = h
+one_less o (passing.At at) e h = h
+one_less None passing.OnePlace e h = h
+one_less (Some at) passing.OnePlace e h = spared_one at e h
 
 -- of a whole state
 
-module _ (g : Setting) (at : Option Place) (d : ℕ) (t : Values) where
+module _ (g : Setting) (at : Passing) (d : ℕ) (t : Values) where
   abbrev There : Context × Term → Context × Term
   There = placed g.which (map Some t)
 

@@ -7,7 +7,7 @@ use Rattle.tla_terms.specs.Terms.{Term}
 use Rattle.tla_eval.specs.Contexts.{Context, Places}
 use Rattle.found_states.specs.Parts.{Parts}
 use Rattle.why_branches.specs.Traces.{Earlier, End, Stood, Trace, added, ended, passed}
-use Rattle.why_branches.specs.Branches.{Branching, Goes, Onward, stood}
+use Rattle.why_branches.specs.Branches.{Goes, Onward, Turning, stood}
 use Rattle.why_branches.specs.Firsts.{CoverOn, CoveredBy, Covering, Covers, Each, Firsts, HasSoMany, Reaches}
 use Rattle.why_branches.specs.declared.why.Why.{Why}
 use Rattle.why_branches.proofs.Elements.{in_map, map_length, append_length}
@@ -16,7 +16,7 @@ use Rattle.why_branches.proofs.FirstBranches.{firsts_none, firsts_one, firsts_ma
 use Rattle.found_states.proofs.Lists.{in_cases, in_left, in_right, one_in}
 use Rattle.tla_values.specs.Ascending.{head_in, none_in}
 
-module _ (part : Branching) (d : ℕ) where
+module _ (part : Turning) (d : ℕ) where
   -- one part more
   pub onward_more : (es : Parts) (e : Context × Term) (y z x : Trace) → Onward part d es y z → Goes part d e z z.end x → Onward part d (es ++ e ∷ []) y x
   onward_more [] e y z x h g = (x, subst (λ (w : Trace). Goes part d e w w.end x) h g, refl)
@@ -40,8 +40,8 @@ module _ (part : Branching) (d : ℕ) where
   goes_in_order e y z x w h g i = goes_after e z z.end w x.choices i (goes_before e y y.end x z.choices g h)
 
   -- what comes of one branch
-  pub goes_on : (k : ℕ) (e : Context × Term) (y : Trace) (q : Places) (zs : List Trace) → Firsts k (part e.0 e.1 q) zs → Firsts k (Goes part d e y (passed q)) (map (added (stood d e) y) zs)
-  goes_on k e y q zs a = firsts_map k (part e.0 e.1 q) (Goes part d e y (passed q)) (added (stood d e) y) zs
+  pub goes_on : (k : ℕ) (e : Context × Term) (y : Trace) (q : Places) (zs : List Trace) → Firsts k (part y.spared e.0 e.1 q) zs → Firsts k (Goes part d e y (passed q)) (map (added (stood d e) y) zs)
+  goes_on k e y q zs a = firsts_map k (part y.spared e.0 e.1 q) (Goes part d e y (passed q)) (added (stood d e) y) zs
       (λ x z h. before_behind y.choices x.choices z.choices h) (λ x p. (x, p, refl)) (λ x g. g) a
 
   pub goes_no_more : (k : ℕ) (e : Context × Term) (y : Trace) (q : Places) (s : Stood) (w : Why) → 1 ≤ k → Firsts k (Goes part d e y (ended q s w)) (y ∷ [])

@@ -10,7 +10,7 @@ use Rattle.action_reads.specs.Filled.{Completes}
 use Rattle.found_states.specs.Parts.{Parts}
 use Rattle.found_states.specs.Walks.{HoldsOf}
 use Rattle.why_branches.specs.Traces.{Trace, here}
-use Rattle.why_branches.specs.Branches.{Alters, Branches, ByNumber, Goes, Onward}
+use Rattle.why_branches.specs.Branches.{Branches, ByNumber, Goes, Onward, Tests, Turns}
 use Rattle.why_branches.specs.declared.sparing.Sparing.{Sparing}
 use Rattle.why_branches.specs.Firsts.{CoverOn, CoveredBy, Covering, Covers, Each, Firsts}
 
@@ -46,26 +46,26 @@ pub record ArmsFound (g : Setting) (sp : Sparing) (d k : ℕ) (p : Places) (es :
   pub some : 1 ≤ length es → 1 ≤ length xs
 
 pub record EachFound (g : Setting) (sp : Sparing) (d k : ℕ) (e : Context × Term) (ps ys : List Trace) : Type 0 where
-  pub each : Each k (Branches g sp d) d e ps ys
+  pub each : Each k (Turns g sp d) d e ps ys
   pub covers : CoverOn k (HoldsOf g d e.0 e.1) ps ys
 
 -- what comes of one branch with one part more
 pub record After (g : Setting) (sp : Sparing) (d k : ℕ) (e : Context × Term) (y : Trace) (zs : List Trace) : Type 0 where
-  pub firsts : Firsts k (Goes (Branches g sp d) d e y y.end) zs
+  pub firsts : Firsts k (Goes (Turns g sp d) d e y y.end) zs
   pub some : 1 ≤ length zs
   pub covers : (t : Values) → Covers y.end t → HoldsOf g d e.0 e.1 t → CoveredBy zs t ⊎ (k ≤ length zs)
 
 pub record TurnsFound (g : Setting) (sp : Sparing) (d k : ℕ) (p : Places) (es : Parts) (xs : List Trace) : Type 0 where
-  pub firsts : Firsts k (Onward (Branches g sp d) d es (here p)) xs
+  pub firsts : Firsts k (Onward (Turns g sp d) d es (here p)) xs
   pub some : 1 ≤ length xs
   pub covers : Covering k p (AllHold g d es) xs
 
 -- what comes of one branch by a test, and of each of several
 pub record AfterTest (g : Setting) (d k : ℕ) (e : Context × Term) (y : Trace) (zs : List Trace) : Type 0 where
-  pub firsts : Firsts k (Goes (Alters g d) d e y y.end) zs
+  pub firsts : Firsts k (Goes (Tests g d) d e y y.end) zs
   pub some : 1 ≤ length zs
   pub covers : (t : Values) → Covers y.end t → HoldsOf g d e.0 e.1 t → CoveredBy zs t ⊎ (k ≤ length zs)
 
 pub record TestsFound (g : Setting) (d k : ℕ) (e : Context × Term) (ps ys : List Trace) : Type 0 where
-  pub each : Each k (Alters g d) d e ps ys
+  pub each : Each k (Tests g d) d e ps ys
   pub covers : CoverOn k (HoldsOf g d e.0 e.1) ps ys

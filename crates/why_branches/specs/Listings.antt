@@ -20,9 +20,9 @@ use Rattle.found_states.specs.Grounds.{OpensFrom}
 use Rattle.found_states.specs.Laws.{form_of}
 use Rattle.found_states.specs.Parts.{Parts}
 use Rattle.why_branches.specs.PassedOver.{called}
-use Rattle.why_branches.specs.Traces.{Earlier, Stood, Trace, added, chosen, ended, fails, faulted, here, passed, stops}
+use Rattle.why_branches.specs.Traces.{Earlier, Stood, Trace, added, after_spared, chosen, ended, fails, faulted, here, passed, stops}
 use Rattle.why_branches.specs.declared.sparing.Sparing.{Sparing}
-use Rattle.why_branches.specs.Branches.{Altered, is_choice, stood, Branches, Onward}
+use Rattle.why_branches.specs.Branches.{Altered, is_choice, stood, Onward, Turns}
 use Rattle.why_branches.specs.Firsts.{Firsts}
 use Rattle.why_branches.specs.Founds.{After, AfterTest, ArmsFound, EachFound, FoundOf, MembersFound, TestsFound, TurnsFound}
 use Rattle.why_branches.specs.Told.{KnowsAll}
@@ -98,7 +98,7 @@ PartsAreListed = (g : Setting) (sp : Sparing) (d k : ℕ) (e : Context × Term) 
     EachFound g sp d k e [] []
     × ((ps : List Trace) (y : Trace) (ys zs : List Trace) → AreEarlier ps y → length ys < k → EachFound g sp d k e ps ys → After g sp d (k - length ys) e y zs → EachFound g sp d k e (ps ++ y ∷ []) (ys ++ zs))
     × ((ps : List Trace) (y : Trace) (ys : List Trace) → AreEarlier ps y → k ≤ length ys → EachFound g sp d k e ps ys → EachFound g sp d k e (ps ++ y ∷ []) ys)
-    × ((y : Trace) (q : Places) (zs : List Trace) → y.end ≡ passed q → FoundOf g sp k d e.0 e.1 q zs → After g sp d k e y (map (added (stood d e) y) zs))
+    × ((y : Trace) (q : Places) (zs : List Trace) → y.end ≡ passed q → FoundOf g (after_spared y.spared sp) k d e.0 e.1 q zs → After g sp d k e y (map (added (stood d e) y) zs))
     × ((y : Trace) (q : Places) (s : Stood) (w : Why) → y.end ≡ ended q s w → 1 ≤ k → After g sp d k e y (y ∷ []))
 
 -- and so, part for part, of all of them
@@ -135,7 +135,7 @@ ChangesAreListed = OfActions (λ g sp k d c a p. (e v : Term) (zs ys : List Trac
 -- more than m, these are all.
 abbrev pub OneMoreTells : Type 0
 OneMoreTells = (g : Setting) (sp : Sparing) (d m : ℕ) (es : Parts) (p : Places) →
-    ((ys : List Trace) (x : Trace) → length ys ≡ m → Firsts (suc m) (Onward (Branches g sp d) d es (here p)) (ys ++ x ∷ [])
-    → Firsts m (Onward (Branches g sp d) d es (here p)) ys × Onward (Branches g sp d) d es (here p) x × AreEarlier ys x)
-    × ((xs : List Trace) → length xs ≤ m → Firsts (suc m) (Onward (Branches g sp d) d es (here p)) xs
-    → Firsts m (Onward (Branches g sp d) d es (here p)) xs × ((x : Trace) → Onward (Branches g sp d) d es (here p) x → AreEarlier xs x → ⊥))
+    ((ys : List Trace) (x : Trace) → length ys ≡ m → Firsts (suc m) (Onward (Turns g sp d) d es (here p)) (ys ++ x ∷ [])
+    → Firsts m (Onward (Turns g sp d) d es (here p)) ys × Onward (Turns g sp d) d es (here p) x × AreEarlier ys x)
+    × ((xs : List Trace) → length xs ≤ m → Firsts (suc m) (Onward (Turns g sp d) d es (here p)) xs
+    → Firsts m (Onward (Turns g sp d) d es (here p)) xs × ((x : Trace) → Onward (Turns g sp d) d es (here p) x → AreEarlier xs x → ⊥))

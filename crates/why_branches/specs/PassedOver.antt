@@ -1,11 +1,13 @@
--- Which parts may be passed over where they do not hold: those at one place. An UNCHANGED is not passed over, since it stands for as many parts as it
--- names variables.
+-- Which parts may be passed over where they do not hold: those at one place, which may be told or be that of the first such part. An UNCHANGED is not
+-- passed over, since it stands for as many parts as it names variables.
 use Rattle.std.specs.Prelude.{Bool, true, false, ◌==◌, ◌&&◌, Option, None, Some, if◌then◌else◌}
 use Rattle.trace_base.specs.declared.place.Place.{Place}
 use Rattle.tla_ast.specs.declared.operators.PrefixOperator.TheVariants as prefix
 use Rattle.tla_terms.specs.Terms as term
 use Rattle.tla_terms.specs.Terms.{Meaning, Term, meaning_of, place_of}
 use Rattle.tla_actions.specs.Forms.{Form, call}
+use Rattle.why_branches.specs.declared.sparing.Passing.{Passing}
+use Rattle.why_branches.specs.declared.sparing.Passing.TheVariants as passing
 use Rattle.why_branches.specs.declared.sparing.Sparing.{Sparing}
 
 abbrev pub same_place : Place → Place → Bool
@@ -19,14 +21,22 @@ keeps m = false
 abbrev pub is_unchanged : Term → Bool
 is_unchanged e = keeps (meaning_of e)
 
--- where no place is named, nothing is passed over
-abbrev pub may_spare : Option Place → Term → Bool
-may_spare None e = false
-may_spare (Some at) e = if same_place at (place_of e) then (if is_unchanged e then false else true) else false
+-- where the place is that of the first such part, each part may be the first
+abbrev pub may_spare : Passing → Term → Bool
+may_spare passing.Nothing e = false
+may_spare (passing.At at) e = if same_place at (place_of e) then (if is_unchanged e then false else true) else false
+may_spare passing.OnePlace e = if is_unchanged e then false else true
+
+-- behind a part at this place that was passed over
+abbrev pub behind_one : Option Place → Passing → Passing
+behind_one o passing.Nothing = passing.Nothing
+behind_one o (passing.At at) = passing.At at
+behind_one None passing.OnePlace = passing.OnePlace
+behind_one (Some at) passing.OnePlace = passing.At at
 
 -- nothing is passed over, and no definition is called
 abbrev pub nothing : Sparing
-nothing = record { at = None; call = None }
+nothing = record { at = passing.Nothing; call = None }
 
 -- further in, in what a form opens to
 abbrev pub called : Form → Sparing → Sparing

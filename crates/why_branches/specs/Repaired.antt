@@ -1,12 +1,13 @@
 -- What an action says where the parts at one place are taken to hold.
-use Rattle.std.specs.Prelude.{◌≡◌, ◌⊎◌, ℕ, zero, suc, Bool, true, false, length, map, Option, None, Some}
-use Rattle.trace_base.specs.declared.place.Place.{Place}
+use Rattle.std.specs.Prelude.{◌≡◌, ◌⊎◌, ℕ, zero, suc, Bool, true, false, length, map, Some}
 use Rattle.tla_core.specs.States.{Values}
 use Rattle.tla_terms.specs.Terms.{Term}
 use Rattle.tla_eval.specs.Contexts.{Context}
 use Rattle.tla_actions.specs.Forms.{Form, Setting, assign, choose, form, test}
 use Rattle.tla_actions.specs.Holds.{FormHolds, Holds, Relation}
 use Rattle.action_reads.specs.Filled.{at_next}
+use Rattle.why_branches.specs.declared.sparing.Passing.{Passing}
+use Rattle.why_branches.specs.declared.sparing.Passing.TheVariants as passing
 use Rattle.why_branches.specs.PassedOver.{may_spare}
 
 -- a test, or what says the value of a variable
@@ -17,13 +18,13 @@ is_single (choose n e) = true
 is_single f = false
 
 -- The action holds of the two states where each single part that may be passed over is taken to hold.
-abbrev pub HoldsBut : Setting → Option Place → ℕ → Relation
+abbrev pub HoldsBut : Setting → Passing → ℕ → Relation
 HoldsBut g at zero c a = ⊥
 HoldsBut g at (suc d) c a = ((is_single (form g (length c.slots) a) ≡ true) × (may_spare at a ≡ true)) ⊎ FormHolds g d (HoldsBut g at d) c a (form g (length c.slots) a)
 
-abbrev pub HoldsButOf : Setting → Option Place → ℕ → Context → Term → Values → Type 0
+abbrev pub HoldsButOf : Setting → Passing → ℕ → Context → Term → Values → Type 0
 HoldsButOf g at d c a t = HoldsBut g at d (at_next g.which c (map Some t)) a
 
--- Where no place is named, that is that it holds.
+-- Where nothing may be passed over, that is that it holds.
 abbrev pub ButNothing : Type 0
-ButNothing = (g : Setting) (d : ℕ) (c : Context) (a : Term) → HoldsBut g None d c a → Holds g d c a
+ButNothing = (g : Setting) (d : ℕ) (c : Context) (a : Term) → HoldsBut g passing.Nothing d c a → Holds g d c a

@@ -1,6 +1,5 @@
 -- What is told of a branch: which parts hold, and which do not, at each state that extends what is filled where it ends.
-use Rattle.std.specs.Prelude.{◌≡◌, ℕ, true, List, [], length, map, Contains, Option, None, Some}
-use Rattle.trace_base.specs.declared.place.Place.{Place}
+use Rattle.std.specs.Prelude.{◌≡◌, ◌↔◌, ℕ, true, List, [], ◌∷◌, length, map, Contains, None, Some}
 use Rattle.tla_core.specs.States.{Values}
 use Rattle.tla_terms.specs.Terms.{Term, place_of}
 use Rattle.tla_eval.specs.Contexts.{Context, Places}
@@ -8,14 +7,16 @@ use Rattle.tla_eval.specs.Laws.{IsWithin, ReadsValues}
 use Rattle.tla_actions.specs.Forms.{Setting}
 use Rattle.action_reads.specs.Filled.{Completes, at_next}
 use Rattle.found_states.specs.Walks.{HoldsOf}
-use Rattle.why_branches.specs.PassedOver.{may_spare, nothing}
+use Rattle.why_branches.specs.declared.sparing.Passing.{Passing}
+use Rattle.why_branches.specs.declared.sparing.Passing.TheVariants as passing
+use Rattle.why_branches.specs.PassedOver.{behind_one, may_spare, nothing}
 use Rattle.why_branches.specs.Repaired.{HoldsButOf}
 use Rattle.why_branches.specs.Traces.{End, SparedPart, Stood, Trace, ended, passed, here}
 use Rattle.why_branches.specs.declared.sparing.Sparing.{Sparing}
 use Rattle.why_branches.specs.declared.why.WhyKind.{WhyKind}
 use Rattle.why_branches.specs.declared.why.WhyKind.TheVariants as why
 use Rattle.why_branches.specs.Firsts.{IsFault}
-use Rattle.why_branches.specs.Branches.{Branches, Onward}
+use Rattle.why_branches.specs.Branches.{Branches, Onward, Turns}
 use Rattle.std.specs.List.{AllByRecursion}
 use Rattle.found_states.specs.Parts.{Parts}
 
@@ -30,7 +31,7 @@ EndSays g c a d ws (passed q) t = ws ≡ [] → Completes q t → HoldsOf g d c 
 EndSays g c a d ws (ended q s w) t = Completes q t → (IsFault w.reason → ⊥) → HoldsOf g s.depth s.at s.term t → ⊥
 
 -- And where it was gone through: if what was passed over held, so would the action.
-abbrev pub EndRepairs : Setting → Option Place → Context → Term → ℕ → End → Values → Type 0
+abbrev pub EndRepairs : Setting → Passing → Context → Term → ℕ → End → Values → Type 0
 EndRepairs g at c a d (passed q) t = Completes q t → HoldsButOf g at d c a t
 EndRepairs g at c a d (ended q s w) t = Unit {0}
 
@@ -42,7 +43,7 @@ IsPassable (why.NotIn x) = Unit {0}
 IsPassable k = ⊥
 
 -- It stands where parts may be passed over, and holds at no state that extends what is filled then.
-pub record IsSpared (g : Setting) (at : Option Place) (q : Places) (w : SparedPart) : Type 0 where
+pub record IsSpared (g : Setting) (at : Passing) (q : Places) (w : SparedPart) : Type 0 where
   pub may : may_spare at w.part.term ≡ true
   pub stands : w.told.why.at ≡ Some (place_of w.part.term)
   pub passable : IsPassable w.told.why.reason
@@ -51,7 +52,7 @@ pub record IsSpared (g : Setting) (at : Option Place) (q : Places) (w : SparedPa
 
 -- What a branch has filled extends the places, the parts before its end hold at each state that extends that, and those that were passed over at none;
 -- if these held, and it was gone through, the action would hold.
-pub record Says (g : Setting) (at : Option Place) (c : Context) (a : Term) (d : ℕ) (p : Places) (x : Trace) : Type 0 where
+pub record Says (g : Setting) (at : Passing) (c : Context) (a : Term) (d : ℕ) (p : Places) (x : Trace) : Type 0 where
   pub long : length (filled_at x.end) ≡ length p
   pub more : IsWithin p (filled_at x.end)
   pub before : (s : Stood) → Contains x.before s → (t : Values) → Completes (filled_at x.end) t → HoldsOf g s.depth s.at s.term t
@@ -73,11 +74,11 @@ abbrev pub EndSaysAll : Setting → ℕ → Parts → List SparedPart → End �
 EndSaysAll g d es ws (passed q) t = ws ≡ [] → Completes q t → AllByRecursion (λ e. HoldsOf g d e.0 e.1 t) es
 EndSaysAll g d es ws (ended q s w) t = Completes q t → (IsFault w.reason → ⊥) → HoldsOf g s.depth s.at s.term t → ⊥
 
-abbrev pub EndRepairsAll : Setting → Option Place → ℕ → Parts → End → Values → Type 0
+abbrev pub EndRepairsAll : Setting → Passing → ℕ → Parts → End → Values → Type 0
 EndRepairsAll g at d es (passed q) t = Completes q t → AllByRecursion (λ e. HoldsButOf g at d e.0 e.1 t) es
 EndRepairsAll g at d es (ended q s w) t = Unit {0}
 
-pub record SaysAll (g : Setting) (at : Option Place) (d : ℕ) (es : Parts) (p : Places) (x : Trace) : Type 0 where
+pub record SaysAll (g : Setting) (at : Passing) (d : ℕ) (es : Parts) (p : Places) (x : Trace) : Type 0 where
   pub long : length (filled_at x.end) ≡ length p
   pub more : IsWithin p (filled_at x.end)
   pub before : (s : Stood) → Contains x.before s → (t : Values) → Completes (filled_at x.end) t → HoldsOf g s.depth s.at s.term t
@@ -86,18 +87,32 @@ pub record SaysAll (g : Setting) (at : Option Place) (d : ℕ) (es : Parts) (p :
   pub repaired : (t : Values) → EndRepairsAll g at d es x.end t
 
 abbrev pub PartsSay : Type 0
-PartsSay = (g : Setting) (sp : Sparing) (d : ℕ) (es : Parts) (p : Places) (x : Trace) → AllByRecursion (λ e. KnowsAll g p e.0 e.1) es → Onward (Branches g sp d) d es (here p) x → SaysAll g sp.at d es p x
+PartsSay = (g : Setting) (sp : Sparing) (d : ℕ) (es : Parts) (p : Places) (x : Trace) → AllByRecursion (λ e. KnowsAll g p e.0 e.1) es → Onward (Turns g sp d) d es (here p) x → SaysAll g sp.at d es p x
 
 -- Where nothing may be passed over, nothing is.
 abbrev pub NothingIsSpared : Type 0
-NothingIsSpared = (g : Setting) (d : ℕ) (es : Parts) (p : Places) (x : Trace) → AllByRecursion (λ e. KnowsAll g p e.0 e.1) es → Onward (Branches g nothing d) d es (here p) x → x.spared ≡ []
+NothingIsSpared = (g : Setting) (d : ℕ) (es : Parts) (p : Places) (x : Trace) → AllByRecursion (λ e. KnowsAll g p e.0 e.1) es → Onward (Turns g nothing d) d es (here p) x → x.spared ≡ []
 
--- it ends in a part at the place, which might be passed over
-abbrev pub EndsAt : Place → End → Type 0
-EndsAt at (passed q) = ⊥
-EndsAt at (ended q s w) = (w.at ≡ Some at) × IsPassable w.reason
+abbrev pub IsPassed : End → Type 0
+IsPassed (passed q) = Unit {0}
+IsPassed (ended q s w) = ⊥
 
--- Where a branch goes through all parts and passes over some at a place, one that passes over nothing ends at that place: so no other place need be tried.
-abbrev pub NearOnesEnd : Type 0
-NearOnesEnd = (g : Setting) (at : Place) (d : ℕ) (es : Parts) (p : Places) (x : Trace) → Onward (Branches g (record { at = Some at; call = None }) d) d es (here p) x → (x.spared ≡ [] → ⊥)
-    → (y : Trace) × Onward (Branches g nothing d) d es (here p) y × EndsAt at y.end
+-- it is told at which place parts may be passed over, or that none may be
+abbrev pub IsNamed : Passing → Type 0
+IsNamed passing.Nothing = Unit {0}
+IsNamed (passing.At at) = Unit {0}
+IsNamed passing.OnePlace = ⊥
+
+-- what may be passed over where these parts were: anything where there are none, and else the parts at the place of the first
+abbrev pub Fits : List SparedPart → Passing → Type 0
+Fits [] at = Unit {0}
+Fits (w ∷ ws) at = at ≡ behind_one w.told.why.at passing.OnePlace
+
+abbrev pub sparing_of : Passing → Sparing
+sparing_of at = record { at = at; call = None }
+
+-- The branches that go through all parts where those at one place may be passed over, whichever that is, are those that do where none may be, and for each
+-- place those that do where the parts there may be: so all of them are found at once.
+abbrev pub OnePlaceIsEach : Type 0
+OnePlaceIsEach = (g : Setting) (at : Passing) → IsNamed at → (d : ℕ) (es : Parts) (p : Places) (x : Trace) → IsPassed x.end
+    → Onward (Turns g (sparing_of at) d) d es (here p) x ↔ (Onward (Turns g (sparing_of passing.OnePlace) d) d es (here p) x × Fits x.spared at)

@@ -8,5 +8,5 @@ mod why;
 
 pub use listing::{cut_law, leaf_lists, opening_lists, part_lists};
 pub use reasons::{near_law, reason_law};
-pub use sparing::{Slots, Spared, Sparing};
+pub use sparing::{Passing, Slots, Spared, Sparing};
 pub use why::{Ended, Why, WhyKind};

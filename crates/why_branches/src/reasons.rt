@@ -1,5 +1,5 @@
 ghost use Rattle.why_branches.specs.Repaired.{ButNothing};
-ghost use Rattle.why_branches.specs.Told.{BranchesSay, NearOnesEnd, NothingIsSpared, PartsSay};
+ghost use Rattle.why_branches.specs.Told.{BranchesSay, NothingIsSpared, OnePlaceIsEach, PartsSay};
 
 /// What is told of each branch of an action, and of parts that must all hold: each part before the named one holds at every state that extends what is
 /// filled then, one that was passed over at none, and the named part at none, unless it ended by a fault; where all was gone through and nothing passed
@@ -11,7 +11,8 @@ pub fn reason_law()
     ensures holds { ButNothing }
 {}
 
-/// Where a branch goes through all parts and passes over some at a place, one that passes over nothing ends at that place.
+/// The branches that go through all parts where those at one place may be passed over, whichever that is, are those that do where none may be, and for
+/// each place those that do where the parts there may be.
 pub fn near_law()
-    ensures { NearOnesEnd }
+    ensures { OnePlaceIsEach }
 {}

@@ -9,11 +9,21 @@ use tla_terms::DefId;
 use tla_values::Value;
 use trace_base::{NoMemory, Place};
 
-/// What may be passed over where it does not hold: a part at the place, if one is named. And the definition in whose body the walk is, if it is in
-/// one, the innermost.
+/// Which parts may be passed over where they do not hold.
+#[derive(Clone, Copy, Drop)]
+pub enum Passing {
+    /// None.
+    Nothing,
+    /// Those at the place.
+    At(Place),
+    /// Those at one place: that of the first that does not hold.
+    OnePlace,
+}
+
+/// Which parts may be passed over; and the definition in whose body the walk is, if it is in one, the innermost.
 #[derive(Clone, Copy, Drop)]
 pub struct Sparing {
-    pub at: Option<Place>,
+    pub at: Passing,
     pub call: Option<DefId>,
 }
 

@@ -24,7 +24,7 @@ use Rattle.found_states.proofs.Lists.{all_by_place, all_from, in_left, of_map}
 use Rattle.ready_specs.specs.Ready.{IsReadyLine, IsReadySpec}
 use Rattle.why_branches.specs.Choices.{Choices}
 use Rattle.why_branches.specs.Traces.{End, SparedPart, Trace, ended, here, passed}
-use Rattle.why_branches.specs.Branches.{Branches, Onward}
+use Rattle.why_branches.specs.Branches.{Onward, Turns}
 use Rattle.why_branches.specs.Firsts.{Covers, Firsts, IsFault}
 use Rattle.why_branches.specs.Founds.{TurnsFound}
 use Rattle.why_branches.specs.Told.{filled_at}
@@ -161,7 +161,7 @@ module _ (law : OrderlyActionsAreGrounded) (grows : WholeStays) (g : Spec) (read
 
 module _ (g : Spec) (line : Line) (s : Values) (state : IsState (length g.variables) s) (p : Places) (a : AreUpdated line.updates s p) (exact : LeadsThere line.updates s p) (es : Parts) (i : AreBoth g (act_of line.event) s es) where
   abbrev Way : Trace → Type 0
-  Way x = Onward (Branches (setting which.Action g) nothing max_evaluations) max_evaluations es (here p) x
+  Way x = Onward (Turns (setting which.Action g) nothing max_evaluations) max_evaluations es (here p) x
 
   -- a branch that lacks what is seen, and what is filled then has the state
   abbrev Reached : Values → Type 0
@@ -174,8 +174,8 @@ module _ (g : Spec) (line : Line) (s : Values) (state : IsState (length g.variab
   on_way x h =
       let q : h.0 ≡ p = one_updated line.updates s p a exact h.0 h.1 in
       let f : h.2.0 ≡ es = same_parts g (act_of line.event) s es h.2.0 i h.2.1 in
-      subst (λ (z : Places). Onward (Branches (setting which.Action g) nothing max_evaluations) max_evaluations es (here z) x) q
-      (subst (λ (us : Parts). Onward (Branches (setting which.Action g) nothing max_evaluations) max_evaluations us (here h.0) x) f h.2.2)
+      subst (λ (z : Places). Onward (Turns (setting which.Action g) nothing max_evaluations) max_evaluations es (here z) x) q
+      (subst (λ (us : Parts). Onward (Turns (setting which.Action g) nothing max_evaluations) max_evaluations us (here h.0) x) f h.2.2)
 
   line_firsts : (k : ℕ) (xs : List Trace) → Firsts k Way xs → Firsts k (GoesThrough g line s) xs
   line_firsts k xs f = record { ordered = f.ordered; few = f.few; are = λ x m. through x (f.are x m); rest = λ x h. f.rest x (on_way x h) }

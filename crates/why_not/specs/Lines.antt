@@ -16,7 +16,7 @@ use Rattle.found_states.specs.Parts.{Parts}
 use Rattle.why_branches.specs.Choices.{Choices}
 use Rattle.why_branches.specs.Traces.{Trace, here}
 use Rattle.why_branches.specs.PassedOver.{nothing}
-use Rattle.why_branches.specs.Branches.{Branches, Onward}
+use Rattle.why_branches.specs.Branches.{Onward, Turns}
 use Rattle.why_branches.specs.Told.{filled_at}
 use Rattle.why_branches.specs.declared.sparing.Sparing.{Sparing}
 use Rattle.why_branches.specs.declared.why.Ended.{Ended}
@@ -38,7 +38,7 @@ AreBoth g (Some a) s es = (o : Operator) × (slice_get g.operators a.operator �
 -- a branch through both, from what the updates have filled, where some parts may be passed over
 abbrev pub GoesThroughBut : Sparing → Spec → Line → Values → Trace → Type 0
 GoesThroughBut sp g line s x =
-    (p : Places) × AreUpdated line.updates s p × ((es : Parts) × AreBoth g (act_of line.event) s es × Onward (Branches (setting which.Action g) sp max_evaluations) max_evaluations es (here p) x)
+    (p : Places) × AreUpdated line.updates s p × ((es : Parts) × AreBoth g (act_of line.event) s es × Onward (Turns (setting which.Action g) sp max_evaluations) max_evaluations es (here p) x)
 
 -- and where none may
 abbrev pub GoesThrough : Spec → Line → Values → Trace → Type 0

@@ -20,7 +20,7 @@ use tla_core::{Partial, State};
 use tla_terms::Spec;
 use trace_base::NoMemory;
 use walk_grounds::orderly_law;
-use why_branches::{Ended, Sparing};
+use why_branches::{Ended, Passing, Sparing};
 
 /// Why the branches of the line from the state end, in their order and at most `most` of them, and whether there are more. No step of the line goes
 /// from the state.
@@ -72,7 +72,7 @@ fn first_whys(
     orderly_law();
     whole_law();
     let nothing = Sparing {
-        at: None,
+        at: Passing::Nothing,
         call: None,
     };
     let room = most as usize + 1;

@@ -13,7 +13,7 @@ use Rattle.tla_eval.specs.Contexts.{Places}
 use Rattle.tla_eval.specs.Sets.{list_at}
 use Rattle.step_filling.specs.Fillings.{IsEmpty}
 use Rattle.tla_terms.specs.Terms.{Term, place_of}
-use Rattle.why_branches.specs.PassedOver.{may_spare}
+use Rattle.why_branches.specs.PassedOver.{behind_one, may_spare}
 use Rattle.why_branches.specs.Traces.{End, SparedPart, Trace, ended, passed, why_at}
 use Rattle.why_branches.specs.declared.sparing.Spared.{Spared}
 use Rattle.why_branches.specs.declared.sparing.Sparing.{Sparing}
@@ -45,6 +45,11 @@ abbrev pub with_first : Option Spared → Ended → Ended
 with_first None n = n
 with_first (Some w) (Passed q o) = Passed q (Some w)
 with_first (Some w) (Ends v) = Ends v
+
+-- what may be passed over behind a branch in which this was passed over first, if anything was
+abbrev pub after_first : Option Spared → Sparing → Sparing
+after_first None sp = sp
+after_first (Some w) sp = record { at = behind_one w.why.at sp.at; call = sp.call }
 
 -- Of a part that does not hold, with these slots and the value that is wanted, if there is one: it is passed over where it may be, and else ends there.
 abbrev pub fail_end : Sparing → Places → List Val → Term → WhyKind → Option Val → Ended

@@ -4,9 +4,10 @@ ghost use Rattle.std.specs.Prelude.{◌≡◌, IfOk, None, Some, if◌then◌els
 ghost use Rattle.tla_terms.specs.TermViews.{node_view};
 ghost use Rattle.tla_terms.specs.Terms.{Prefix, Term};
 ghost use Rattle.action_rows.specs.Rows.{part_term};
-ghost use Rattle.why_branches.specs.PassedOver.{is_unchanged, keeps, may_spare, same_place};
+ghost use Rattle.why_branches.specs.PassedOver.{behind_one, is_unchanged, keeps, may_spare, same_place};
+ghost use Rattle.why_branches.specs.declared.sparing.Passing.TheVariants.{At, OnePlace};
 ghost use Rattle.why_branches.specs.declared.why.Ended.TheVariants.{Passed};
-ghost use Rattle.why_walk.specs.Ends.{fail_end, with_first};
+ghost use Rattle.why_walk.specs.Ends.{after_first, fail_end, with_first};
 
 use crate::ends::ends_at;
 use action_rows::{Part, part_place};
@@ -16,7 +17,7 @@ use tla_core::Partial;
 use tla_terms::{Term, TermNode};
 use tla_values::Value;
 use trace_base::{NoMemory, Place};
-use why_branches::{Ended, Slots, Spared, Sparing, Why, WhyKind};
+use why_branches::{Ended, Passing, Slots, Spared, Sparing, Why, WhyKind};
 
 /// It is gone through where the part holds, and else it fails.
 pub fn held_end(
@@ -71,13 +72,14 @@ fn may_spare(sparing: Sparing, part: Part<'_>) -> bool
     ensures { result ≡ may_spare sparing.at (part_term part.entry) }
 {
     match sparing.at {
-        None => false,
-        Some(at) => spares_at(at, part),
+        Passing::Nothing => false,
+        Passing::At(at) => spares_at(at, part),
+        Passing::OnePlace => !is_unchanged(part),
     }
 }
 
 fn spares_at(at: Place, part: Part<'_>) -> bool
-    ensures { result ≡ may_spare (Some at) (part_term part.entry) }
+    ensures { result ≡ may_spare (At at) (part_term part.entry) }
 {
     if same_place(at, part_place(part)) {
         return !is_unchanged(part);
@@ -151,6 +153,40 @@ fn operator_keeps(operator: PrefixOperator) -> bool
     match operator {
         PrefixOperator::Unchanged => true,
         _ => false,
+    }
+}
+
+/// What may be passed over behind a branch in which this was passed over first, if anything was.
+pub fn after_first(sparing: Sparing, spared: &Option<Spared>) -> Sparing
+    ensures { result ≡ after_first spared.now sparing }
+{
+    match spared {
+        None => sparing,
+        Some(first) => Sparing {
+            at: behind_one(first.why.at, sparing.at),
+            call: sparing.call,
+        },
+    }
+}
+
+/// The same behind a part at this place.
+fn behind_one(at: Option<Place>, passing: Passing) -> Passing
+    ensures { result ≡ behind_one at passing }
+{
+    match passing {
+        Passing::Nothing => Passing::Nothing,
+        Passing::At(there) => Passing::At(there),
+        Passing::OnePlace => settled(at),
+    }
+}
+
+/// The place that it is then, where those at one place may be passed over.
+fn settled(at: Option<Place>) -> Passing
+    ensures { result ≡ behind_one at OnePlace }
+{
+    match at {
+        None => Passing::OnePlace,
+        Some(there) => Passing::At(there),
     }
 }
 

@@ -14,7 +14,7 @@ ghost use Rattle.why_walk.specs.Walking.{AllGrounded, AllListed, AnyGrounded, An
 
 use crate::changes::altered_ends;
 use crate::ends::{append, ends_at, fault_end, one_end, or_no_member};
-use crate::failing::behind;
+use crate::failing::{after_first, behind};
 use crate::lists::outermost;
 use crate::single::{walk_assign, walk_choose, walk_keep, walk_test};
 use action_rows::{Part, Row, Stage, part_place, plain_parts, row_of, unchanged_parts};
@@ -418,7 +418,8 @@ fn walk_end(
 {
     match end {
         Ended::Passed(places, spared) => {
-            let ends = walk_part(alloc, stage, slots, sparing, depth, room, places, part)?;
+            let open = after_first(sparing, &spared);
+            let ends = walk_part(alloc, stage, slots, open, depth, room, places, part)?;
             behind(alloc, ends, spared)
         }
         Ended::Ends(why) => one_end(alloc, Ended::Ends(why)),

@@ -11,7 +11,7 @@ use Rattle.why_not.proofs.Updated.{updated_is}
 use Rattle.near_lines.specs.Tells.{IsNearLine}
 use Rattle.near_lines.proofs.FirstTexts.{adds_none}
 use Rattle.near_lines.proofs.Nearing.{stuck_lines, stuck_reached}
-use Rattle.near_lines.proofs.Placing.{none_of, some_of}
+use Rattle.near_lines.proofs.Known.{none_of, some_of}
 use Rattle.near_lines.proofs.asking.keep_entry.Goals as goal
 
 pub keep_from-requires-clause-updated : goal.keep_from-requires-clause-updated

@@ -10,7 +10,7 @@ use Rattle.near_lines.specs.Repairs.{AreReached}
 use Rattle.near_lines.specs.Tells.{IsNearLine}
 use Rattle.near_lines.proofs.FirstTexts.{adds_few}
 use Rattle.near_lines.proofs.Loops.{one_ends, one_starts, one_step}
-use Rattle.near_lines.proofs.Placing.{on_any_ok}
+use Rattle.near_lines.proofs.Known.{on_any_ok}
 use Rattle.near_lines.proofs.Telling.{near_is}
 use Rattle.near_lines.proofs.asking.near_lines.Goals as goal
 

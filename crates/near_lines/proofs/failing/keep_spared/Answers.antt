@@ -1,20 +1,19 @@
-use Rattle.std.proofs.Common.{◌≡◌, ◌∙◌, List, Some, arith, false, subst, sym}
+use Rattle.std.proofs.Common.{◌≡◌, ◌∙◌, List, arith, false, subst, sym}
 use Rattle.std.specs.Prelude.{All}
 use Rattle.path_updates.specs.declared.update.See.{See}
 use Rattle.run_texts.specs.Answers.{named}
-use Rattle.why_branches.specs.declared.why.Ended.TheVariants.{Passed}
 use Rattle.why_not.specs.Lines.{StandsIn}
 use Rattle.why_not.proofs.Updated.{true_false}
 use Rattle.near_lines.specs.Adding.{FailedSays}
 use Rattle.near_lines.proofs.FirstTexts.{adds_none, adds_one}
-use Rattle.near_lines.proofs.Placing.{on_ok}
+use Rattle.near_lines.proofs.Known.{on_ok}
 use Rattle.near_lines.proofs.failing.keep_spared.Goals as goal
 
 pub returns-then-not-all_stand_in : goal.returns-then-not-all_stand_in
 returns-then-not-all_stand_in c =
     let q = c.args.places.now in
     let no : c.all_stand_in.result ≡ false = grind arith in
-    adds_none c.args.room (FailedSays c.args.subject.spec.now c.args.subject.line.now (named c.args.subject.labels.now) (Passed q (Some c.args.spared.now))) c.args.texts.now.keys c.requires
+    adds_none c.args.room (FailedSays c.args.subject.spec.now c.args.subject.line.now (named c.args.subject.labels.now) q c.args.spared.now) c.args.texts.now.keys c.requires
     (λ t h. true_false c.all_stand_in.result (c.all_stand_in.ensures.1 (subst (λ (ss : List See). All (StandsIn q) ss) (sym c.items.ensures) h.0)) no)
 
 pub returns : goal.returns
@@ -22,6 +21,6 @@ returns c =
     let q = c.args.places.now in
     let all = subst (λ (ss : List See). All (StandsIn q) ss) c.items.ensures (c.all_stand_in.ensures.0 (grind arith)) in
     on_ok c.keep.result _ _
-    (λ e. adds_one c.args.room (FailedSays c.args.subject.spec.now c.args.subject.line.now (named c.args.subject.labels.now) (Passed q (Some c.args.spared.now))) c.args.texts.now.keys c.keep.new.texts.keys c.in_ok-text.text e
+    (λ e. adds_one c.args.room (FailedSays c.args.subject.spec.now c.args.subject.line.now (named c.args.subject.labels.now) q c.args.spared.now) c.args.texts.now.keys c.keep.new.texts.keys c.in_ok-text.text e
     (all, c.in_ok-text.ensures) (λ u h. h.1 ∙ sym c.in_ok-text.ensures))
     c.keep.ensures

@@ -5,7 +5,7 @@ use Rattle.near_lines.specs.Adding.{LackingSays}
 use Rattle.near_lines.specs.Near.{LacksAlone}
 use Rattle.near_lines.proofs.FirstTexts.{adds_none, adds_one}
 use Rattle.near_lines.proofs.LackingOnes.{lacking_text}
-use Rattle.near_lines.proofs.Placing.{on_ok}
+use Rattle.near_lines.proofs.Known.{on_ok}
 use Rattle.near_lines.proofs.lacking.keep_lacking.Goals as goal
 
 pub returns-in-None : goal.returns-in-None

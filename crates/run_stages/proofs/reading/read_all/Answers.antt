@@ -1,8 +1,9 @@
 use Rattle.std.proofs.Common.{rules, ◌≡◌, ◌≤◌, ◌++◌, ◌∙◌, ℕ, List, [], IfErr, Option, Ok, Err, sym, subst, arith}
 use Rattle.trace_base.specs.Device.{File}
 use Rattle.tla_actions.specs.declared.fault.FormFault.{FormFault}
-use Rattle.tla_levels.specs.Resolved.{Resolved}
 use Rattle.tla_levels.specs.declared.fault.ResolveFault.{ResolveFault}
+use Rattle.specification_names.specs.Resolving.{ResolvedBy}
+use Rattle.specification_names.proofs.Readings.{resolved_with}
 use Rattle.spec_forms.specs.Forms.{IsFirstFault}
 use Rattle.run_texts.specs.Forms.{form_refusal}
 use Rattle.run_texts.specs.Resolved.{names_refusal}
@@ -25,8 +26,8 @@ returns-in_err-spec-clause-stopped g c =
     let p = c.in_ok-program.program in
     let k = c.in_ok-config.config in
     let reaches = subst (λ (h : Option (List File)). Reaches h c.args.job.now (configured p k)) c.load_program.ensures.same c.in_ok-config.ensures.accepted in
-    let q : IfErr c.from_residual-in_err-spec.result (RefusedWith (λ report. (f : ResolveFault) × Resolved p k c.args.job.now.silent (Err f) × (report ≡ names_refusal (all_files p k) f))) = search rules in
-    err_mapped (RefusedWith (λ report. (f : ResolveFault) × Resolved p k c.args.job.now.silent (Err f) × (report ≡ names_refusal (all_files p k) f)))
+    let q : IfErr c.from_residual-in_err-spec.result (RefusedWith (λ report. (f : ResolveFault) × ResolvedBy c.args.job.now.wide p k c.args.job.now.silent (Err f) × (report ≡ names_refusal (all_files p k) f))) = search rules in
+    err_mapped (RefusedWith (λ report. (f : ResolveFault) × ResolvedBy c.args.job.now.wide p k c.args.job.now.silent (Err f) × (report ≡ names_refusal (all_files p k) f)))
     (StopsBy holds (g.F.Files.faults c.args.files.now) (g.F.Files.faults c.read_config.new.files) c.args.job.now) c.from_residual-in_err-spec.result
     (λ stop h. names_stop holds (g.F.Files.faults c.args.files.now) (g.F.Files.faults c.read_config.new.files) c.args.job.now p k stop reaches h) q
 
@@ -71,7 +72,8 @@ resolve_spec-requires-clause-form g c =
 pub test_forms-requires : goal.test_forms-requires
 test_forms-requires g c =
     let well = formed (g.F.Files.holds c.load_program.new.files) c.args.job.now c.in_ok-program.program c.in_ok-config.config c.load_laws.ensures.well_formed c.in_ok-config.ensures.accepted in
-    c.resolved_laws.ensures.in_order c.in_ok-program.program c.in_ok-config.config c.args.job.now.silent c.in_ok-spec.spec well c.in_ok-spec.ensures.accepted
+    let with = resolved_with c.args.job.now.wide c.in_ok-program.program c.in_ok-config.config c.args.job.now.silent c.in_ok-spec.spec c.in_ok-spec.ensures.accepted in
+    c.resolved_laws.ensures.in_order c.in_ok-program.program with.config c.args.job.now.silent c.in_ok-spec.spec well with.is
 
 pub returns-clause-ready : goal.returns-clause-ready
 returns-clause-ready g c =
@@ -80,7 +82,8 @@ returns-clause-ready g c =
     let k = c.in_ok-config.config in
     let s = c.in_ok-spec.spec in
     let well = formed (g.F.Files.holds c.load_program.new.files) c.args.job.now p k c.load_laws.ensures.well_formed c.in_ok-config.ensures.accepted in
-    let is = c.resolved_laws.ensures.in_order p k c.args.job.now.silent s well c.in_ok-spec.ensures.accepted in
+    let with = resolved_with c.args.job.now.wide p k c.args.job.now.silent s c.in_ok-spec.ensures.accepted in
+    let is = c.resolved_laws.ensures.in_order p with.config c.args.job.now.silent s well with.is in
     let read = c.in_ok-log.ensures.accepted in
     let files = files_ready holds c.args.job.now p k s read.read [] c.logs_are_ready.ensures.files is read.reaches in
     let log = c.logs_are_ready.ensures.together s read.read.found c.in_ok-log.log is files read.merged c.known_values.ensures in

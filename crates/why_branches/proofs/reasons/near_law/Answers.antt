@@ -1,5 +1,5 @@
-use Rattle.why_branches.proofs.NearOnes.{near_ones_end}
+use Rattle.why_branches.proofs.OnePlace.{one_place_is_each}
 use Rattle.why_branches.proofs.reasons.near_law.Goals as goal
 
 pub returns : goal.returns
-returns c = near_ones_end
+returns c = one_place_is_each

@@ -29,6 +29,7 @@ use Rattle.action_rows.specs.declared.row.Row.{Row}
 use Rattle.action_walk.proofs.Loops.{ahead_at, ahead_first, ahead_next, ahead_over, apart, within}
 use Rattle.action_walk.proofs.Taken.{in_scene, on_stage}
 use Rattle.why_branches.specs.declared.why.Ended.{Ended}
+use Rattle.why_branches.specs.declared.sparing.Sparing.{Sparing}
 use Rattle.why_walk.specs.Ends.{OrNoMember}
 use Rattle.why_walk.specs.Walking.{AnyGrounded, AnyListed, EndGrounded, EndsAltered, EndsRead, IsAfter, IsForm, IsListed, WhyGrounded, parts_of, under}
 use Rattle.why_walk.proofs.Changing.{angled_grounds, angled_row, ends_read}
@@ -829,7 +830,8 @@ walk_end-returns-in_ok-ends-in-Passed t c =
     let d = c.args.depth in
     let e : Context × Term = (ctx, part_term c.args.part) in
     ok_then c.behind.result _ _ (λ x h. subst (λ (n : Ended). IsAfter g c.args.sparing k d e n x.items) (sym c.in-Passed.is)
-    (after_place g c.args.sparing k d ctx (part_term c.args.part) c.in-Passed.places c.in-Passed.spared c.in_ok-ends-in-Passed.ends.items x.items h c.in_ok-ends-in-Passed.ensures)) c.behind.ensures
+    (after_place g c.args.sparing k d ctx (part_term c.args.part) c.in-Passed.places c.in-Passed.spared c.in_ok-ends-in-Passed.ends.items x.items h
+    (subst (λ (sp : Sparing). IsListed g sp k d ctx (part_term c.args.part) c.in-Passed.places c.in_ok-ends-in-Passed.ends.items) c.after_first-open.ensures c.in_ok-ends-in-Passed.ensures))) c.behind.ensures
 
 pub walk_end-returns-in-Ends : goal.walk_end-returns-in-Ends
 walk_end-returns-in-Ends t c =
