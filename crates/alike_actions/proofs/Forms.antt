@@ -1,5 +1,5 @@
 -- Alike terms are taken apart alike.
-use Rattle.std.proofs.Common.{◌≡◌, refl, subst, List, [], ◌∷◌}
+use Rattle.std.proofs.Common.{◌≡◌, ◌∙◌, ap, refl, subst, List, [], ◌∷◌}
 use Rattle.std.specs.Prelude.{ℕ, Bool, true, false, map, length, Option, Some, None, if◌then◌else◌}
 use Rattle.std.specs.List.{AllZip}
 use Rattle.trace_base.specs.declared.place.Place.{Place}
@@ -58,7 +58,8 @@ module _ (ops all : Table) where
 
   primed_target : (at q : Place) (l k : Level) (m n : Meaning) (ss rs : Steps) (s r : Step) → AlikeMeanings AreOne ops all m n → AlikeSteps AreOne ops all ss rs → AlikeStep AreOne ops all s r
       → target which.Action (Placed at l (term.Postfix (Placed q k m) ss s)) ≡ target which.Action (Placed at l (term.Postfix (Placed q k n) rs r))
-  primed_target at q l k _ _ ss rs s r (variable_alike x) t a = primed_variable at q l k x ss rs s r t a
+  primed_target at q l k _ _ ss rs s r (variable_alike x y e) t a =
+      primed_variable at q l k x ss rs s r t a ∙ ap (λ (z : ℕ). target which.Action (Placed at l (term.Postfix (Placed q k (term.Variable z)) rs r))) e
   primed_target at q l k m n ss rs s r h t a = refl
 
   postfix_target : (at : Place) (l : Level) (e f : Term) (ss rs : Steps) (s r : Step) → Alike AreOne ops all e f → AlikeSteps AreOne ops all ss rs → AlikeStep AreOne ops all s r
@@ -66,7 +67,7 @@ module _ (ops all : Table) where
   postfix_target at l _ _ ss rs s r (placed_alike q k m n h) t a = primed_target at q l k m n ss rs s r h t a
 
   init_target : (at : Place) (l : Level) (m n : Meaning) → AlikeMeanings AreOne ops all m n → target which.Init (Placed at l m) ≡ target which.Init (Placed at l n)
-  init_target at l _ _ (variable_alike x) = refl
+  init_target at l _ _ (variable_alike x y e) = ap (λ (z : ℕ). target which.Init (Placed at l (term.Variable z))) e
   init_target at l m n h = refl
 
   action_target : (at : Place) (l : Level) (m n : Meaning) → AlikeMeanings AreOne ops all m n → target which.Action (Placed at l m) ≡ target which.Action (Placed at l n)
@@ -84,9 +85,10 @@ module _ (ops all : Table) where
 
   unchanged_meaning : (at : Place) (n : ℕ) (p : Place) (l : Level) (m k : Meaning) → AlikeMeanings AreOne ops all m k
       → AlikeForms ops all (unchanged_form at (n, Placed p l m)) (unchanged_form at (n, Placed p l k))
-  unchanged_meaning at n p l _ _ (variable_alike x) =
-      assign_forms x (Placed at levels.State (term.Variable x)) (Placed at levels.State (term.Variable x))
-      (placed_alike at levels.State (term.Variable x) (term.Variable x) (variable_alike x))
+  unchanged_meaning at n p l _ _ (variable_alike x y e) =
+      subst (λ (z : ℕ). AlikeForms ops all (assign x (Placed at levels.State (term.Variable x))) (assign z (Placed at levels.State (term.Variable z)))) e
+      (assign_forms x (Placed at levels.State (term.Variable x)) (Placed at levels.State (term.Variable x))
+      (placed_alike at levels.State (term.Variable x) (term.Variable x) (variable_alike x x refl)))
   unchanged_meaning at n p l _ _ (tuple_alike ts us t) =
       narrowed_forms n (map (unchanged_of at) (terms_list ts)) (map (unchanged_of at) (terms_list us))
       (map_zip (Alike AreOne ops all) (Alike AreOne ops all) (unchanged_of at) (unchanged_of at) (unchanged_alike_of ops all at) (terms_list ts) (terms_list us) (terms_zip ops all ts us t))

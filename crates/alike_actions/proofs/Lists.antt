@@ -6,9 +6,10 @@ use Rattle.tla_terms.specs.Terms.{Term, Operands, Step, Steps, Bounds, Fields, C
 use Rattle.term_parts.specs.Parts.{operand_list, set_list, value_list, arm_list}
 use Rattle.tla_eval.specs.Contexts.{Table}
 use Rattle.tla_actions.specs.Reads.{body_of, step_terms, path_terms}
-use Rattle.alike_terms.specs.Alike.{Alike, AlikeOperands, first_alike, next_alike, AlikeStep, prime_alike, index_alike, field_alike, AlikeSteps, AlikeBounds, no_bounds_alike, more_bounds_alike, AlikeFields, no_fields_alike, more_fields_alike, AlikeChanges, AlikeArms, no_arms_alike, more_arms_alike, AlikeRows, rows_alike}
+use Rattle.alike_terms.specs.Alike.{Alike, AlikeOperands, first_alike, next_alike, AlikeStep, prime_alike, index_alike, field_alike, AlikeSteps, AlikeBounds, no_bounds_alike, more_bounds_alike, AlikeFields, no_fields_alike, more_fields_alike, AlikeChanges, AlikeArms, no_arms_alike, more_arms_alike, AlikeRows}
 use Rattle.alike_terms.specs.Laws.{AreOne}
 use Rattle.alike_terms.proofs.Zips.{zip_append}
+use Rattle.alike_terms.proofs.Opened.{rows_open}
 use Rattle.alike_outcomes.specs.Alikes.{AreAlikeLists, AreAlikeSteps, AreAlikeChanges}
 use Rattle.alike_outcomes.proofs.AlikeLists.{terms_zip, steps_zip, changes_zip}
 use Rattle.alike_actions.proofs.Zipping.{flat_zipped}
@@ -53,5 +54,6 @@ module _ (ops all : Table) where
       (λ c d a. more (path_terms c.0) (path_terms d.0) c.1 d.1 (path_terms_zip c.0 d.0 a.0) a.1) (changes_list cs) (changes_list ds) (changes_zip ops all cs ds t)
 
   pub body_zip : (k j : ℕ) → AlikeRows AreOne ops all k j → AreTerms (body_of (slice_get ops k)) (body_of (slice_get all j))
-  body_zip _ _ (rows_alike k j o p h1 h2 h3 h4 h5 h6 h7) =
-      subst (λ x. AreTerms (body_of x) (body_of (slice_get all j))) (sym h1) (subst (λ y. AreTerms (o.body ∷ []) (body_of y)) (sym h2) (h7, tt))
+  body_zip k j row =
+      let r = rows_open AreOne ops all k j row in
+      subst (λ x. AreTerms (body_of x) (body_of (slice_get all j))) (sym r.here) (subst (λ y. AreTerms (r.left.body ∷ []) (body_of y)) (sym r.there) (r.same.body, tt))

@@ -18,10 +18,11 @@ use Rattle.tla_eval.specs.Unchanged.{TruthOf, changed_of}
 use Rattle.eval_laws.proofs.Keeping.{Keeps, keeps_first, keeps_then}
 use Rattle.tla_actions.specs.Forms.{Form, test, assign, choose}
 use Rattle.tla_actions.specs.Holds.{Relation, Opened, all_of, one_of, Chosen, Opens, OpenedHolds}
-use Rattle.alike_terms.specs.Alike.{Alike, placed_alike, AlikeBounds, AlikeRows, rows_alike}
+use Rattle.alike_terms.specs.Alike.{Alike, placed_alike, AlikeBounds, AlikeRows}
 use Rattle.alike_terms.specs.Laws.{AreOne}
 use Rattle.alike_terms.proofs.Zips.{some_same}
 use Rattle.alike_terms.proofs.Inverted.{same_place}
+use Rattle.alike_terms.proofs.Opened.{rows_open}
 use Rattle.alike_outcomes.specs.Alikes.{AreAlikeLists, AreAlikeBeside, AreAlikeArms}
 use Rattle.alike_outcomes.proofs.AlikeLists.{map_zip, bounds_zip}
 use Rattle.alike_actions.proofs.Zipping.{all_zipped, any_zipped}
@@ -135,10 +136,12 @@ module _ (ops all : Table) where
 
   entered : (k j : ℕ) (c : Context) (vs : List Val) → AlikeRows AreOne ops all k j
       → Matches (AlikeOpened ops all) (WithDefinition ops k (λ u. Gives (body_in c vs u))) (WithDefinition all j (λ u. Gives (body_in c vs u)))
-  entered _ _ c vs (rows_alike k j o p h1 h2 h3 h4 h5 h6 h7) = record {
-    value = λ x w. (body_in c vs p, entered_value k c vs o p h1 h4 h7 x w, (p, h2, refl));
-    fault = λ f w. absurd (entered_fault k c vs f w);
-  }
+  entered k j c vs row =
+      let r = rows_open AreOne ops all k j row in
+      record {
+        value = λ x w. (body_in c vs r.right, entered_value k c vs r.left r.right r.here r.same.outer r.same.body x w, (r.right, r.there, refl));
+        fault = λ f w. absurd (entered_fault k c vs f w);
+      }
 
 -- what alike forms open to
 module _ (ops all : Table) (d : ℕ) (keeps : EvaluateAlike ops all (Evaluates ops d) (Evaluates all d)) where

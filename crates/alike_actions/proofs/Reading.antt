@@ -40,7 +40,7 @@ module _ (ops all : Table) where
 
   meaning_reads : (of to : Part → VariableSet) → ((p q : Part) → AlikeParts AreOne ops all p q → of p ≡ to q) → (b : Bool) (m n : Meaning) → AlikeMeanings AreOne ops all m n
       → reads_meaning of ops b m ≡ reads_meaning to all b n
-  meaning_reads of to same b _ _ (variable_alike x) = refl
+  meaning_reads of to same b _ _ (variable_alike x y q) = ap (λ (z : ℕ). reads_meaning of ops b (term.Variable z)) q
   meaning_reads of to same b m n h = read_same of to same (parts_in ops b m) (parts_in all b n) (parts_in_zip b m n h)
 
   level_reads : (k : ℕ) → ((p q : Part) → AlikeParts AreOne ops all p q → reads ops k p.primed p.term ≡ reads all k q.primed q.term) → (b : Bool) (at : Place) (l : Level) (m n : Meaning)

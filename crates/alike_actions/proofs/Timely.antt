@@ -69,7 +69,7 @@ module _ (ops all : Table) (ea eb : Faults) (same : FaultsSame ops all ea eb) (u
 
   unchanged_meaning : (B : VariableSet) (at : Place) (e f : Term) → Alike AreOne ops all e f → (n j : ℕ) (p : Place) (l : Level) (m k : Meaning) → AlikeMeanings AreOne ops all m k
       → early_unchanged ea ua B at e (n, Placed p l m) ≡ early_unchanged eb ub B at f (j, Placed p l k)
-  unchanged_meaning B at e f a n j p l _ _ (variable_alike x) = refl
+  unchanged_meaning B at e f a n j p l _ _ (variable_alike x y q) = ap (λ (z : ℕ). early_unchanged ea ua B at e (n, Placed p l (term.Variable z))) q
   unchanged_meaning B at e f a n j p l _ _ (tuple_alike ts us t) =
       first_same ops all ea eb same (map (unchanged_of at) (terms_list ts)) (map (unchanged_of at) (terms_list us))
       (map_zip (Alike AreOne ops all) (Alike AreOne ops all) (unchanged_of at) (unchanged_of at) (unchanged_alike_of ops all at) (terms_list ts) (terms_list us) (terms_zip ops all ts us t))
@@ -99,7 +99,7 @@ module _ (ops all : Table) (ea eb : Faults) (same : FaultsSame ops all ea eb) (u
     prefix_same B at o e f a = terms_same at (term.Prefix o e) (term.Prefix o f) (prefix_alike o e f a)
 
     meaning_same : (B : VariableSet) (at : Place) (m n : Meaning) → AlikeMeanings AreOne ops all m n → early_meaning here ea ua B at m ≡ early_meaning there eb ub B at n
-    meaning_same B at _ _ (variable_alike x) = refl
+    meaning_same B at _ _ (variable_alike x y q) = ap (λ (z : ℕ). early_meaning here ea ua B at (term.Variable z)) q
     meaning_same B at _ _ (postfix_alike e f ss rs s r a t d) = steps_same e f (term.MoreSteps ss at s) (term.MoreSteps rs at r) a (more_steps_alike ss rs at s r t d)
     meaning_same B at _ _ (prefix_alike o e f a) = prefix_same B at o e f a
     meaning_same B at _ _ (angle_alike e f s t a d) = ap₂ or_else (same e f a) (none_fixed at s t d)

@@ -5,8 +5,9 @@ use Rattle.tla_terms.specs.declared.level.Level.TheVariants.{Action}
 use Rattle.tla_terms.specs.declared.operator.Operator.{Operator}
 use Rattle.tla_terms.specs.declared.spec.Spec.{Spec}
 use Rattle.term_parts.specs.Limits.{is_above}
-use Rattle.alike_terms.specs.Alike.{AlikeRows, Alike, rows_alike}
+use Rattle.alike_terms.specs.Alike.{AlikeRows, Alike}
 use Rattle.alike_terms.specs.Laws.{AreOne}
+use Rattle.alike_terms.proofs.Inverted.{row_is}
 use Rattle.spec_laws.specs.IsSpec.{IsSpec}
 use Rattle.one_outcome.specs.Outcome.{AreAlike}
 use Rattle.tla_actions.specs.declared.which.Which.TheVariants as which
@@ -35,9 +36,9 @@ none_is_some a e = cc
 
 -- the definition that stands at the other number
 found_beside : (ops all : List Operator) (k j : ℕ) (o : Operator) → AlikeRows AreOne ops all k j → slice_get ops k ≡ Some o → (p : Operator) × (slice_get all j ≡ Some p) × Beside ops all k j o p
-found_beside ops all _ _ o (rows_alike k j q p here there name outer params level body) is =
-    let same : q ≡ o = some_is q o (sym here ∙ is) in
-    (p, there, subst (λ (x : Operator). Beside ops all k j x p) same (record { name = name; params = params; level = level; body = body }))
+found_beside ops all k j o row is =
+    let r = row_is AreOne ops all k j o row is in
+    (r.0, r.1, record { name = r.2.name; params = r.2.params; level = r.2.level; body = r.2.body })
 
 -- no one name is told of two numbers
 one_told : (s : Spec) (name : List ℕ) (k j n m : ℕ) → IsSpec s → IsTold s name k n → IsTold s name j m → (k ≡ j) × (n ≡ m)

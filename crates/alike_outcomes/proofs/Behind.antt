@@ -8,9 +8,10 @@ use Rattle.tla_terms.specs.declared.operator.Operator.{Operator}
 use Rattle.tla_terms.specs.Terms as term
 use Rattle.tla_terms.specs.Terms.{Term, Meaning, Terms, Placed}
 use Rattle.term_parts.specs.Slots.{Mentions, used}
-use Rattle.alike_terms.specs.Alike.{AlikeMeanings, AlikeTerms, AlikeRows, rows_alike}
+use Rattle.alike_terms.specs.Alike.{AlikeMeanings, AlikeTerms, AlikeRows}
 use Rattle.alike_terms.specs.Laws.{AreOne}
 use Rattle.alike_terms.proofs.Inverted.{alike_is, use_is, none_is}
+use Rattle.alike_terms.proofs.Opened.{rows_open}
 use Rattle.tla_eval.specs.Contexts.{Table}
 use Rattle.tla_eval.specs.Unchanged.{behind}
 use Rattle.alike_outcomes.specs.Alikes.{AreOrdered, AreAlikeTerms, AreFoundAlike}
@@ -71,15 +72,16 @@ module _ (ops all : Table) (here : AreOrdered ops) (there : AreOrdered all) wher
 
   follow_rows : (n i : ℕ) → Finds n i → (m : ℕ) (at : Place) (k j : ℕ) → AlikeRows AreOne ops all k j → k < suc n → j < suc i
       → AreFoundAlike ops all (behind ops (suc n) m (name_at at k)) (behind all (suc i) m (name_at at j))
-  follow_rows n i finds m at _ _ (rows_alike k j o p q r name outer params level body) s t =
+  follow_rows n i finds m at k j row s t =
+      let w = rows_open AreOne ops all k j row in
       let found : (ops : Table) → Option Operator → ℕ → ℕ → ℕ × Term = λ ops x n k. elim x [
         | None ↦ (m, name_at at k)
         | Some o ↦ behind ops n (min o.outer m) o.body
       ] in
-      subst (λ (x : Option Operator). AreFoundAlike ops all (found ops x n k) (found all (slice_get all j) i j)) (sym q)
-      (subst (λ (x : Option Operator). AreFoundAlike ops all (behind ops n (min o.outer m) o.body) (found all x i j)) (sym r)
-      (subst (λ (x : ℕ). AreFoundAlike ops all (behind ops n (min o.outer m) o.body) (behind all i (min x m) p.body)) outer
-      (finds (min o.outer m) o.body p.body body (body_suffices ops here k n o q s) (body_suffices all there j i p r t))))
+      subst (λ (x : Option Operator). AreFoundAlike ops all (found ops x n k) (found all (slice_get all j) i j)) (sym w.here)
+      (subst (λ (x : Option Operator). AreFoundAlike ops all (behind ops n (min w.left.outer m) w.left.body) (found all x i j)) (sym w.there)
+      (subst (λ (x : ℕ). AreFoundAlike ops all (behind ops n (min w.left.outer m) w.left.body) (behind all i (min x m) w.right.body)) w.same.outer
+      (finds (min w.left.outer m) w.left.body w.right.body w.same.body (body_suffices ops here k n w.left w.here s) (body_suffices all there j i w.right w.there t))))
 
   follow_names : (n i : ℕ) → FindsNext n i → (m : ℕ) (e f : Term) (at : Place) (k j : ℕ) → e ≡ name_at at k → f ≡ name_at at j → AlikeRows AreOne ops all k j → k < n → j < i
       → AreFoundAlike ops all (behind ops n m e) (behind all i m f)
@@ -115,10 +117,8 @@ module _ (ops all : Table) (here : AreOrdered ops) (there : AreOrdered all) wher
 all_suffice : (ops all : Table) (e f : Term) → AreAlikeTerms ops all e f → Suffices (length ops) e
 all_suffice ops all e f a at k q =
     let w : (j : ℕ) × (f ≡ name_at at j) × AlikeRows AreOne ops all k j = alike_name ops all at k f (subst (λ (g : Term). AreAlikeTerms ops all g f) q a) in
-    in_table k w.0 w.2
-  where
-    in_table : (k j : ℕ) → AlikeRows AreOne ops all k j → k < length ops
-    in_table _ _ (rows_alike k j o p q r name outer params level body) = slice_get_within ops k o q
+    let r = rows_open AreOne ops all k w.0 w.2 in
+    slice_get_within ops k r.left r.here
 
 pub behind_alike : BehindAlike
 behind_alike ops all here there m e f a =

@@ -26,7 +26,7 @@ use Rattle.alike_terms.specs.Laws.{AreOne, AlikeOperators}
 use Rattle.alike_terms.proofs.Inverted.{same_place, row_is}
 use Rattle.eval_sets.specs.DescribedSets.{Described, SeqOf}
 use Rattle.tla_eval.specs.Outcomes.{Outcome, Gives, Fails, Then, Each, AllTrue, Operated, place_in, truth_at}
-use Rattle.tla_eval.specs.Contexts.{Context, Table, Evaluate, Describe, WithDefinition, bind, within, primed, enter}
+use Rattle.tla_eval.specs.Contexts.{Context, Table, Evaluate, Describe, IsKnown, WithDefinition, bind, within, primed, enter}
 use Rattle.tla_eval.specs.Operations.{InfixAnswers, PrefixAnswers, StandardAnswers}
 use Rattle.tla_eval.specs.Sets.{set_at, MeansSet, ListedAt, first_operand, other_operands, PartDescribed, ProductDescribed, FieldDescribed, RecordsDescribed, IntervalDescribed, Joined, ChainDescribed}
 use Rattle.tla_eval.specs.Binders.{members_at, MembersOf, BoundValues, FirstThat, Passing}
@@ -277,7 +277,7 @@ module _ (ops all : Table) (found_alike : FindsAlike ops all) (ev ew : Evaluate)
 
   means_unchanged_same : (c : Context) (at : Place) (e f : Term) → AreAlikeTerms ops all e f → (d : Context) (p : Place) (l : Level) (m n : Meaning) → AlikeMeanings AreOne ops all m n
       → Keeps (MeansUnchanged ev c at e d (Placed p l m)) (MeansUnchanged ew c at f d (Placed p l n))
-  means_unchanged_same c at e f a d p l _ _ (variable_alike x) = stays_same c at (Placed at levels.State (term.Variable x)) (Placed at levels.State (term.Variable x)) (placed_alike at levels.State (term.Variable x) (term.Variable x) (variable_alike x))
+  means_unchanged_same c at e f a d p l _ _ (variable_alike x y q) = stays_same c at (Placed at levels.State (term.Variable x)) (Placed at levels.State (term.Variable y)) (placed_alike at levels.State (term.Variable x) (term.Variable y) (variable_alike x y q))
   means_unchanged_same c at e f a d p l _ _ (tuple_alike ts us t) = unchanged_parts_same d at ts us t
   means_unchanged_same c at e f a d p l m n b = stays_same c at e f a
 
@@ -459,7 +459,7 @@ module _ (ops all : Table) (found_alike : FindsAlike ops all) (ev ew : Evaluate)
   pub meaning_same : (c : Context) (at : Place) (m n : Meaning) → AlikeMeanings AreOne ops all m n → Keeps (MeaningEvaluates ops ev de c at m) (MeaningEvaluates all ew dw c at n)
   meaning_same c at _ _ (known_alike v w s) = λ r k. subst (λ (u : Val). r ≡ Ok u) s k
   meaning_same c at _ _ (named_alike s) = λ r k. k
-  meaning_same c at _ _ (variable_alike x) = λ r k. k
+  meaning_same c at _ _ (variable_alike x y q) = λ r k. subst (λ (z : ℕ). IsKnown c.now z r) q k
   meaning_same c at _ _ (slot_alike i) = λ r k. k
   meaning_same c at _ _ (use_alike k j ts us r t) = use_same c k j r ts us t at
   meaning_same c at _ _ (standard_alike o ts us t) = standard_same o c ts us t at

@@ -1,5 +1,5 @@
 -- Operators and Next hold and fail over the one specification as over the other.
-use Rattle.std.proofs.Common.{◌≡◌, ap, inl, inr, refl, subst, sym, ◌∙◌, List, [], length}
+use Rattle.std.proofs.Common.{◌≡◌, ap, inl, inr, refl, subst, List, [], length}
 use Rattle.std.specs.Prelude.{ℕ, Option, Some, None, slice_get}
 use Rattle.tla_values.specs.Data.{Val}
 use Rattle.tla_core.specs.States.{Values}
@@ -19,9 +19,9 @@ use Rattle.line_steps.specs.Asks.{HasNoEvent, act_of}
 use Rattle.line_steps.specs.Steps.{FaultFirst, FaultSilent, IsInitial, Silent, silent_act}
 use Rattle.action_truth.specs.Truths.{everything}
 use Rattle.spec_pairs.specs.Filling.{BothFailThere}
-use Rattle.alike_terms.specs.Alike.{Alike, AlikeRows, rows_alike}
+use Rattle.alike_terms.specs.Alike.{Alike, AlikeRows}
 use Rattle.alike_terms.specs.Laws.{AreOne}
-use Rattle.alike_terms.proofs.Zips.{some_same}
+use Rattle.alike_terms.proofs.Inverted.{row_is}
 use Rattle.one_outcome.specs.Outcome.{AreAlike, AlikeSilent, none_silent, both_silent}
 use Rattle.alike_actions.specs.AlikeSettings.{AreAlikeSettings}
 use Rattle.alike_actions.specs.Laws.{FailsAlike, FixesAlike, HoldsAlike}
@@ -53,8 +53,7 @@ module _ (ops all : List Operator) where
   silent_acts _ _ (both_silent k j r) = both_act k.0 j.0 [] r
 
   found_bodies : (k j : ℕ) (o : Operator) → AlikeRows AreOne ops all k j → slice_get ops k ≡ Some o → AreFoundBodies ops all k j o.body
-  found_bodies _ _ o (rows_alike k j p q at_k at_j name outer params level bodies) e =
-      record { found = q; at = at_j; bodies = subst (λ (x : Operator). Alike AreOne ops all x.body q.body) (some_same (sym at_k ∙ e)) bodies }
+  found_bodies k j o row e = let r = row_is AreOne ops all k j o row e in record { found = r.0; at = r.1; bodies = r.2.body }
 
 -- what is asked for of two specifications
 pub record AreOver (s t : Spec) : Type 0 where

@@ -1,7 +1,9 @@
 -- The laws, of values that are compared or are not.
-use Rattle.std.proofs.Common.{refl, arith, ◌<◌}
+use Rattle.std.proofs.Common.{refl, zero, arith, ◌<◌}
 use Rattle.std.specs.Prelude.{Bool, true, false}
 use Rattle.tla_values.specs.Data.{Val}
+use Rattle.alike_terms.specs.Alike.{AlikeRows}
+use Rattle.alike_terms.proofs.Opened.{rows_close}
 use Rattle.alike_tables.specs.Laws.{SameIf, MeaningsAreAlike, TablesAreAlike, TreesAreAlike}
 use Rattle.alike_tables.proofs.Meanings.{tree_alike}
 use Rattle.alike_tables.proofs.Tabled.{meant_alike, tables_alike}
@@ -12,7 +14,7 @@ itself false v = tt
 
 pub meanings_are_alike : MeaningsAreAlike
 meanings_are_alike b ops all n names others smaller are scope outer t e f s below g h =
-    tree_alike (SameIf b) ops all (λ k. k < n) names others (λ k o q lt j m. let less : j < k = smaller k o q j m in omega (arith, less, lt)) are (itself b) scope outer t e f s (λ j m. below j m) g h
+    tree_alike (SameIf b) ops all (AlikeRows (SameIf b) ops all) (λ k j r. r zero) (rows_close (SameIf b) ops all) (λ k. k < n) names others (λ k o q lt j m. let less : j < k = smaller k o q j m in omega (arith, less, lt)) are (itself b) scope outer t e f s (λ j m. below j m) g h
 
 pub tables_are_alike : TablesAreAlike
 tables_are_alike b p c values others number renumber ops all are first second i d k j at e f =

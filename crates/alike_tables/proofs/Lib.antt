@@ -1,3 +1,5 @@
+pub mod BothWays
+pub mod Heads
 pub mod Lawful
 pub mod Levelled
 pub mod Meanings

@@ -27,8 +27,8 @@ use Rattle.tla_scopes.specs.Scopes.{bind, bind_bounds, slots, at_sign}
 use Rattle.tla_names.specs.Means.{Uses, Stands, Means, MeansEach, MeansOperands, MeansStep, MeansSteps, MeansBounds, MeansFields, MeansChanges, MeansArms, Defines, junction, chain, operands_list, builtin_set, local_operator}
 use Rattle.spec_laws.specs.Everywhere.{Everywhere, Inside, InTerms, InOperands, InStep, InSteps, InBounds, InFields, InChanges, InArms}
 use Rattle.spec_laws.proofs.Throughout.{throughout}
-use Rattle.alike_terms.specs.Alike.{Alike, AlikeMeanings, AlikeTerms, AlikeOperands, AlikeStep, AlikeSteps, AlikeBounds, AlikeFields, AlikeChanges, AlikeArms, AlikeRows, AlikeNumbers, placed_alike, known_alike, named_alike, variable_alike, slot_alike, use_alike, standard_alike, parenthesized_alike, scoped_alike, all_alike, any_alike, prefix_alike, infix_alike, postfix_alike, set_alike, filter_alike, map_alike, tuple_alike, function_alike, function_set_alike, record_alike, record_set_alike, except_alike, quantified_alike, choose_alike, if_alike, case_alike, case_other_alike, box_alike, angle_alike, fairness_alike, no_terms_alike, more_terms_alike, first_alike, next_alike, prime_alike, index_alike, field_alike, no_steps_alike, more_steps_alike, no_bounds_alike, more_bounds_alike, no_fields_alike, more_fields_alike, no_changes_alike, more_changes_alike, no_arms_alike, more_arms_alike, rows_alike, no_numbers_alike, more_numbers_alike}
-use Rattle.alike_tables.specs.Places.{AlikeMeant, slot_meant, variable_meant, known_meant, set_meant, standard_meant, definition_meant, AlikeLocals, AreAlikeNames, AlikeWhere, AreMentioned, BodiesStay}
+use Rattle.alike_terms.specs.Alike.{AlikeBy, AlikeMeaningsBy, AlikeTermsBy, AlikeOperandsBy, AlikeStepBy, AlikeStepsBy, AlikeBoundsBy, AlikeFieldsBy, AlikeChangesBy, AlikeArmsBy, AlikeNumbersBy, placed_alike, known_alike, named_alike, variable_alike, slot_alike, use_alike, standard_alike, parenthesized_alike, scoped_alike, all_alike, any_alike, prefix_alike, infix_alike, postfix_alike, set_alike, filter_alike, map_alike, tuple_alike, function_alike, function_set_alike, record_alike, record_set_alike, except_alike, quantified_alike, choose_alike, if_alike, case_alike, case_other_alike, box_alike, angle_alike, fairness_alike, no_terms_alike, more_terms_alike, first_alike, next_alike, prime_alike, index_alike, field_alike, no_steps_alike, more_steps_alike, no_bounds_alike, more_bounds_alike, no_fields_alike, more_fields_alike, no_changes_alike, more_changes_alike, no_arms_alike, more_arms_alike, no_numbers_alike, more_numbers_alike, RowsBy, SameHeads, IsOneVariable}
+use Rattle.alike_tables.specs.Places.{AlikeMeant, slot_meant, variable_meant, known_meant, set_meant, standard_meant, definition_meant, AlikeLocals, AreAlikeNames, AreMentioned, BodiesStay}
 use Rattle.alike_tables.proofs.Levelled.{meaning_level, term_level}
 use Rattle.alike_tables.proofs.Placed.{meaning_alike, slots_alike, one_bound, one_defined, all_bound, bounds_bound}
 
@@ -81,9 +81,11 @@ all_rows : (Q : ℕ → Type 0) (i : ℕ) (e : Term) → AreMentioned Q e → Ev
 all_rows Q i e h =
     throughout (AreMentioned Q) (Rows Q) (λ at l m g p c k w. g k (mentioned_in_part at l m p k c w)) (own_rows Q) i e h
 
-module _ (Same : Val → Val → Type 0) (ops all : List Operator) (Q : ℕ → Type 0) (names others : List Entry) (stay : BodiesStay ops Q) (are : AreAlikeNames Same (AlikeWhere Same ops all Q) names others) (itself : (v : Val) → Same v v) where
+-- Definitions stand for each other by any relation that asks for the same heads, and that holds of two rows where their bodies are alike by it: what a LET
+-- defines is such by its body.
+module _ (Same : Val → Val → Type 0) (ops all : List Operator) (R : ℕ → ℕ → Type 0) (heads : (k j : ℕ) → R k j → SameHeads ops all k j) (close : (k j : ℕ) → RowsBy Same IsOneVariable R ops all k j → R k j) (Q : ℕ → Type 0) (names others : List Entry) (stay : BodiesStay ops Q) (are : AreAlikeNames Same (λ k j. Q k → R k j) names others) (itself : (v : Val) → Same v v) where
   abbrev Row : ℕ → ℕ → Type 0
-  Row k j = AlikeWhere Same ops all Q k j
+  Row k j = Q k → R k j
 
   abbrev Whole : ℕ → Term → Type 0
   Whole i e = Everywhere (Rows Q) i e
@@ -93,13 +95,13 @@ module _ (Same : Val → Val → Type 0) (ops all : List Operator) (Q : ℕ → 
 
   -- one row
 
-  at_row : (t : Tree) (m w : Meaning) (e f : Term) → Stands names ops t m e → Stands others all t w f → AlikeMeanings Same ops all m w → Alike Same ops all e f
+  at_row : (t : Tree) (m w : Meaning) (e f : Term) → Stands names ops t m e → Stands others all t w f → AlikeMeaningsBy Same IsOneVariable R m w → AlikeBy Same IsOneVariable R e f
   at_row t m w e f p q h =
-      let l : level_for ops m ≡ level_for all w = meaning_level Same ops all m w h in
-      let r : Alike Same ops all (Placed (place_of t) (level_for all w) m) (Placed (place_of t) (level_for all w) w) = placed_alike (place_of t) (level_for all w) m w h in
-      let s : Alike Same ops all (Placed (place_of t) (level_for ops m) m) (Placed (place_of t) (level_for all w) w) =
-      subst (λ (x : Level). Alike Same ops all (Placed (place_of t) x m) (Placed (place_of t) (level_for all w) w)) (sym l) r in
-      subst (λ (x : Term). Alike Same ops all e x) (sym q) (subst (λ (x : Term). Alike Same ops all x (Placed (place_of t) (level_for all w) w)) (sym p) s)
+      let l : level_for ops m ≡ level_for all w = meaning_level Same ops all R heads m w h in
+      let r : AlikeBy Same IsOneVariable R (Placed (place_of t) (level_for all w) m) (Placed (place_of t) (level_for all w) w) = placed_alike (place_of t) (level_for all w) m w h in
+      let s : AlikeBy Same IsOneVariable R (Placed (place_of t) (level_for ops m) m) (Placed (place_of t) (level_for all w) w) =
+      subst (λ (x : Level). AlikeBy Same IsOneVariable R (Placed (place_of t) x m) (Placed (place_of t) (level_for all w) w)) (sym l) r in
+      subst (λ (x : Term). AlikeBy Same IsOneVariable R e x) (sym q) (subst (λ (x : Term). AlikeBy Same IsOneVariable R x (Placed (place_of t) (level_for all w) w)) (sym p) s)
 
   inside : (i : ℕ) (t : Tree) (m : Meaning) (e : Term) → Stands names ops t m e → Whole i e → Within i m
   inside i t m e q h = (subst (λ (x : Term). Whole i x) q h).1
@@ -107,15 +109,15 @@ module _ (Same : Val → Val → Type 0) (ops all : List Operator) (Q : ℕ → 
   own : (i : ℕ) (t : Tree) (m : Meaning) (e : Term) → Stands names ops t m e → Whole i e → Own Q m
   own i t m e q h = (subst (λ (x : Term). Whole i x) q h).0
 
-  used_alike : (i : ℕ) (v w : Meant) (ts us : Terms) → AlikeMeant Same Row v w → Own Q (scopes.used v ts) → Within i (scopes.used v ts) → (InTerms (Rows Q) i ts → AlikeTerms Same ops all ts us) → AlikeMeanings Same ops all (scopes.used v ts) (scopes.used w us)
+  used_alike : (i : ℕ) (v w : Meant) (ts us : Terms) → AlikeMeant Same Row v w → Own Q (scopes.used v ts) → Within i (scopes.used v ts) → (InTerms (Rows Q) i ts → AlikeTermsBy Same IsOneVariable R ts us) → AlikeMeaningsBy Same IsOneVariable R (scopes.used v ts) (scopes.used w us)
   used_alike i _ _ ts us (slot_meant j) o b h = slot_alike j
-  used_alike i _ _ ts us (variable_meant x) o b h = variable_alike x.0
+  used_alike i _ _ ts us (variable_meant x) o b h = variable_alike x.0 x.0 refl
   used_alike i _ _ ts us (known_meant v w s) o b h = known_alike v w s
   used_alike i _ _ ts us (set_meant s) o b h = named_alike s
   used_alike i _ _ ts us (standard_meant s) o b h = standard_alike s ts us (h b)
   used_alike i _ _ ts us (definition_meant k j r) o b h = use_alike k.0 j.0 ts us (r o) (h b)
 
-  of_use : (i : ℕ) (sc tc : List Local) (t : Tree) (x : List ℕ) (ts us : Terms) (m w : Meaning) (e f : Term) → AlikeLocals Row sc tc → Whole i e → Uses names sc x ts m → Uses others tc x us w → Stands names ops t m e → Stands others all t w f → (InTerms (Rows Q) i ts → AlikeTerms Same ops all ts us) → Alike Same ops all e f
+  of_use : (i : ℕ) (sc tc : List Local) (t : Tree) (x : List ℕ) (ts us : Terms) (m w : Meaning) (e f : Term) → AlikeLocals Row sc tc → Whole i e → Uses names sc x ts m → Uses others tc x us w → Stands names ops t m e → Stands others all t w f → (InTerms (Rows Q) i ts → AlikeTermsBy Same IsOneVariable R ts us) → AlikeBy Same IsOneVariable R e f
   of_use i sc tc t x ts us m w e f s b u v p q h =
       let here : AlikeMeant Same Row u.0.meant v.0.meant = meaning_alike Same Row names others sc tc x u.0 v.0 are s u.1 v.1 in
       let p2 : Stands names ops t (scopes.used u.0.meant ts) e = subst (λ (y : Meaning). Stands names ops t y e) u.2 p in
@@ -127,7 +129,7 @@ module _ (Same : Val → Val → Type 0) (ops all : List Operator) (Q : ℕ → 
   junction_inside i bullet.And ts h = h
   junction_inside i bullet.Or ts h = h
 
-  junction_alike : (b : Bullet) (ts us : Terms) → AlikeTerms Same ops all ts us → AlikeMeanings Same ops all (junction b ts) (junction b us)
+  junction_alike : (b : Bullet) (ts us : Terms) → AlikeTermsBy Same IsOneVariable R ts us → AlikeMeaningsBy Same IsOneVariable R (junction b ts) (junction b us)
   junction_alike bullet.And ts us h = all_alike ts us h
   junction_alike bullet.Or ts us h = any_alike ts us h
 
@@ -140,17 +142,17 @@ module _ (Same : Val → Val → Type 0) (ops all : List Operator) (Q : ℕ → 
   chain_inside i infix_operator.Or os e h = (operands_inside i os h.0, h.1)
   chain_inside i o os e h = h
 
-  operands_terms : (os ps : term.Operands) → AlikeOperands Same ops all os ps → AlikeTerms Same ops all (operands_list os) (operands_list ps)
+  operands_terms : (os ps : term.Operands) → AlikeOperandsBy Same IsOneVariable R os ps → AlikeTermsBy Same IsOneVariable R (operands_list os) (operands_list ps)
   operands_terms _ _ (first_alike e f h) = more_terms_alike term.NoTerms term.NoTerms e f no_terms_alike h
   operands_terms _ _ (next_alike os ps at e f h k) = more_terms_alike (operands_list os) (operands_list ps) e f (operands_terms os ps h) k
 
-  chain_alike : (o : InfixOperator) (os ps : term.Operands) (e f : Term) → AlikeOperands Same ops all os ps → Alike Same ops all e f → AlikeMeanings Same ops all (chain o os e) (chain o ps f)
+  chain_alike : (o : InfixOperator) (os ps : term.Operands) (e f : Term) → AlikeOperandsBy Same IsOneVariable R os ps → AlikeBy Same IsOneVariable R e f → AlikeMeaningsBy Same IsOneVariable R (chain o os e) (chain o ps f)
   chain_alike infix_operator.And os ps e f h k = all_alike (term.MoreTerms (operands_list os) e) (term.MoreTerms (operands_list ps) f) (more_terms_alike (operands_list os) (operands_list ps) e f (operands_terms os ps h) k)
   chain_alike infix_operator.Or os ps e f h k = any_alike (term.MoreTerms (operands_list os) e) (term.MoreTerms (operands_list ps) f) (more_terms_alike (operands_list os) (operands_list ps) e f (operands_terms os ps h) k)
   chain_alike o os ps e f h k = infix_alike o os ps e f h k
 
   -- the definitions of two lists that end with one are alike
-  numbers_push : (ks js : List ℕ) (k j : ℕ) → AlikeRows Same ops all k j → AlikeNumbers Same ops all ks js → AlikeNumbers Same ops all (ks ++ k ∷ []) (js ++ j ∷ [])
+  numbers_push : (ks js : List ℕ) (k j : ℕ) → R k j → AlikeNumbersBy Same IsOneVariable R ks js → AlikeNumbersBy Same IsOneVariable R (ks ++ k ∷ []) (js ++ j ∷ [])
   numbers_push _ _ k j r no_numbers_alike = more_numbers_alike k j [] [] r no_numbers_alike
   numbers_push _ _ k j r (more_numbers_alike a b ks js s h) = more_numbers_alike a b (ks ++ k ∷ []) (js ++ j ∷ []) s (numbers_push ks js k j r h)
 
@@ -161,13 +163,19 @@ module _ (Same : Val → Val → Type 0) (ops all : List Operator) (Q : ℕ → 
   body_whole : (k : ℕ) (o : Operator) → Q k → slice_get ops k ≡ Some o → Whole 0 o.body
   body_whole k o h e = all_rows Q 0 o.body (stay k o e h)
 
-  local_alike : (mid tid : List Local) (k j : ℕ) (count : ℕ) (x y : Term) → AlikeLocals Row mid tid → slice_get ops k ≡ Some (local_operator (slots mid) count x) → slice_get all j ≡ Some (local_operator (slots tid) count y) → Alike Same ops all x y → AlikeRows Same ops all k j
+  local_alike : (mid tid : List Local) (k j : ℕ) (count : ℕ) (x y : Term) → AlikeLocals Row mid tid → slice_get ops k ≡ Some (local_operator (slots mid) count x) → slice_get all j ≡ Some (local_operator (slots tid) count y) → AlikeBy Same IsOneVariable R x y → R k j
   local_alike mid tid k j count x y s p q h =
-      rows_alike k j (local_operator (slots mid) count x) (local_operator (slots tid) count y) p q refl (slots_alike Row mid tid s) refl (term_level Same ops all x y h) h
+      close k j record {
+        left = local_operator (slots mid) count x;
+        right = local_operator (slots tid) count y;
+        here = p;
+        there = q;
+        same = record { name = refl; outer = slots_alike Row mid tid s; params = refl; level = term_level Same ops all R heads x y h; body = h };
+      }
 
   -- what a LET defines
   record HasDefined (ks js : List ℕ) (sc tc : List Local) : Type 0 where
-    rows : AlikeNumbers Same ops all ks js
+    rows : AlikeNumbersBy Same IsOneVariable R ks js
     places : AlikeLocals Row sc tc
 
   earlier_such : (ks before : List ℕ) (k : ℕ) → ks ≡ before ++ k ∷ [] → Such ks → Such before
@@ -178,21 +186,21 @@ module _ (Same : Val → Val → Type 0) (ops all : List Operator) (Q : ℕ → 
 
   no_more : (sc tc : List Local) (ks js : List ℕ) (inner outer : List Local) → AlikeLocals Row sc tc → ks ≡ [] → js ≡ [] → inner ≡ sc → outer ≡ tc → HasDefined ks js inner outer
   no_more sc tc ks js inner outer s p q u v = record {
-    rows = subst (λ (l : List ℕ). AlikeNumbers Same ops all ks l) (sym q) (subst (λ (l : List ℕ). AlikeNumbers Same ops all l []) (sym p) no_numbers_alike);
+    rows = subst (λ (l : List ℕ). AlikeNumbersBy Same IsOneVariable R ks l) (sym q) (subst (λ (l : List ℕ). AlikeNumbersBy Same IsOneVariable R l []) (sym p) no_numbers_alike);
     places = subst (λ (l : List Local). AlikeLocals Row inner l) (sym v) (subst (λ (l : List Local). AlikeLocals Row l tc) (sym u) s);
   }
 
-  one_more : (ks js : List ℕ) (inner outer : List Local) (m : List ℕ) (count : ℕ) (before after : List ℕ) (mid tid : List Local) (k j : DefId) → HasDefined before after mid tid → AlikeRows Same ops all k.0 j.0 → ks ≡ before ++ k.0 ∷ [] → js ≡ after ++ j.0 ∷ [] → inner ≡ mid ++ Defined m k count ∷ [] → outer ≡ tid ++ Defined m j count ∷ [] → HasDefined ks js inner outer
+  one_more : (ks js : List ℕ) (inner outer : List Local) (m : List ℕ) (count : ℕ) (before after : List ℕ) (mid tid : List Local) (k j : DefId) → HasDefined before after mid tid → R k.0 j.0 → ks ≡ before ++ k.0 ∷ [] → js ≡ after ++ j.0 ∷ [] → inner ≡ mid ++ Defined m k count ∷ [] → outer ≡ tid ++ Defined m j count ∷ [] → HasDefined ks js inner outer
   one_more ks js inner outer m count before after mid tid k j d r p q u v = record {
-    rows = subst (λ (l : List ℕ). AlikeNumbers Same ops all ks l) (sym q) (subst (λ (l : List ℕ). AlikeNumbers Same ops all l (after ++ j.0 ∷ [])) (sym p) (numbers_push before after k.0 j.0 r d.rows));
+    rows = subst (λ (l : List ℕ). AlikeNumbersBy Same IsOneVariable R ks l) (sym q) (subst (λ (l : List ℕ). AlikeNumbersBy Same IsOneVariable R l (after ++ j.0 ∷ [])) (sym p) (numbers_push before after k.0 j.0 r d.rows));
     places = subst (λ (l : List Local). AlikeLocals Row inner l) (sym v) (subst (λ (l : List Local). AlikeLocals Row l (tid ++ Defined m j count ∷ [])) (sym u) (one_defined Row mid tid m k j count (λ lt. r) d.places));
   }
 
-  known_same : (v : Val) → AlikeMeanings Same ops all (term.Known v) (term.Known v)
+  known_same : (v : Val) → AlikeMeaningsBy Same IsOneVariable R (term.Known v) (term.Known v)
   known_same v = known_alike v v (itself v)
 
   mutual
-    alike : (i : ℕ) (sc tc : List Local) (t : Tree) (e f : Term) → AlikeLocals Row sc tc → Whole i e → Means names ops sc t e → Means others all tc t f → Alike Same ops all e f
+    alike : (i : ℕ) (sc tc : List Local) (t : Tree) (e f : Term) → AlikeLocals Row sc tc → Whole i e → Means names ops sc t e → Means others all tc t f → AlikeBy Same IsOneVariable R e f
     alike i sc tc (tree.Number at z) e f s b g h = at_row (tree.Number at z) (term.Known (integer z)) (term.Known (integer z)) e f g h (known_same (integer z))
     alike i sc tc (tree.Str at x) e f s b g h = at_row (tree.Str at x) (term.Known (string x)) (term.Known (string x)) e f g h (known_same (string x))
     alike i sc tc (tree.Truth at x) e f s b g h = at_row (tree.Truth at x) (term.Known (truth x)) (term.Known (truth x)) e f g h (known_same (truth x))
@@ -292,72 +300,72 @@ module _ (Same : Val → Val → Type 0) (ops all : List Operator) (Q : ℕ → 
         at_row (tree.Fairness at a c) (term.Fairness g.0 g.1) (term.Fairness h.0 h.1) e f g.4 h.4
         (fairness_alike g.0 h.0 g.1 h.1 (alike i sc tc a g.0 h.0 s r.0 g.2 h.2) (alike i sc tc c g.1 h.1 s r.1 g.3 h.3))
 
-    each : (i : ℕ) (sc tc : List Local) (t : tree.Trees) (e f : Terms) → AlikeLocals Row sc tc → InTerms (Rows Q) i e → MeansEach names ops sc t e → MeansEach others all tc t f → AlikeTerms Same ops all e f
+    each : (i : ℕ) (sc tc : List Local) (t : tree.Trees) (e f : Terms) → AlikeLocals Row sc tc → InTerms (Rows Q) i e → MeansEach names ops sc t e → MeansEach others all tc t f → AlikeTermsBy Same IsOneVariable R e f
     each i sc tc tree.NoTrees e f s b g h =
-        subst (λ (x : Terms). AlikeTerms Same ops all e x) (sym h) (subst (λ (x : Terms). AlikeTerms Same ops all x term.NoTerms) (sym g) no_terms_alike)
+        subst (λ (x : Terms). AlikeTermsBy Same IsOneVariable R e x) (sym h) (subst (λ (x : Terms). AlikeTermsBy Same IsOneVariable R x term.NoTerms) (sym g) no_terms_alike)
     each i sc tc (tree.MoreTrees es a) e f s b g h =
         let r : InTerms (Rows Q) i (term.MoreTerms g.0 g.1) = subst (λ (x : Terms). InTerms (Rows Q) i x) g.2 b in
-        subst (λ (x : Terms). AlikeTerms Same ops all e x) (sym h.2) (subst (λ (x : Terms). AlikeTerms Same ops all x (term.MoreTerms h.0 h.1)) (sym g.2) (more_terms_alike g.0 h.0 g.1 h.1 (each i sc tc es g.0 h.0 s r.0 g.3 h.3) (alike i sc tc a g.1 h.1 s r.1 g.4 h.4)))
+        subst (λ (x : Terms). AlikeTermsBy Same IsOneVariable R e x) (sym h.2) (subst (λ (x : Terms). AlikeTermsBy Same IsOneVariable R x (term.MoreTerms h.0 h.1)) (sym g.2) (more_terms_alike g.0 h.0 g.1 h.1 (each i sc tc es g.0 h.0 s r.0 g.3 h.3) (alike i sc tc a g.1 h.1 s r.1 g.4 h.4)))
 
-    operands : (i : ℕ) (sc tc : List Local) (t : tree.Operands) (e f : term.Operands) → AlikeLocals Row sc tc → InOperands (Rows Q) i e → MeansOperands names ops sc t e → MeansOperands others all tc t f → AlikeOperands Same ops all e f
+    operands : (i : ℕ) (sc tc : List Local) (t : tree.Operands) (e f : term.Operands) → AlikeLocals Row sc tc → InOperands (Rows Q) i e → MeansOperands names ops sc t e → MeansOperands others all tc t f → AlikeOperandsBy Same IsOneVariable R e f
     operands i sc tc (tree.First a) e f s b g h =
         let r : InOperands (Rows Q) i (term.First g.0) = subst (λ (x : term.Operands). InOperands (Rows Q) i x) g.1 b in
-        subst (λ (x : term.Operands). AlikeOperands Same ops all e x) (sym h.1) (subst (λ (x : term.Operands). AlikeOperands Same ops all x (term.First h.0)) (sym g.1) (first_alike g.0 h.0 (alike i sc tc a g.0 h.0 s r g.2 h.2)))
+        subst (λ (x : term.Operands). AlikeOperandsBy Same IsOneVariable R e x) (sym h.1) (subst (λ (x : term.Operands). AlikeOperandsBy Same IsOneVariable R x (term.First h.0)) (sym g.1) (first_alike g.0 h.0 (alike i sc tc a g.0 h.0 s r g.2 h.2)))
     operands i sc tc (tree.Next es at a) e f s b g h =
         let r : InOperands (Rows Q) i (term.Next g.0 at g.1) = subst (λ (x : term.Operands). InOperands (Rows Q) i x) g.2 b in
-        subst (λ (x : term.Operands). AlikeOperands Same ops all e x) (sym h.2) (subst (λ (x : term.Operands). AlikeOperands Same ops all x (term.Next h.0 at h.1)) (sym g.2) (next_alike g.0 h.0 at g.1 h.1 (operands i sc tc es g.0 h.0 s r.0 g.3 h.3) (alike i sc tc a g.1 h.1 s r.1 g.4 h.4)))
+        subst (λ (x : term.Operands). AlikeOperandsBy Same IsOneVariable R e x) (sym h.2) (subst (λ (x : term.Operands). AlikeOperandsBy Same IsOneVariable R x (term.Next h.0 at h.1)) (sym g.2) (next_alike g.0 h.0 at g.1 h.1 (operands i sc tc es g.0 h.0 s r.0 g.3 h.3) (alike i sc tc a g.1 h.1 s r.1 g.4 h.4)))
 
-    step : (i : ℕ) (sc tc : List Local) (t : tree.Step) (e f : term.Step) → AlikeLocals Row sc tc → InStep (Rows Q) i e → MeansStep names ops sc t e → MeansStep others all tc t f → AlikeStep Same ops all e f
+    step : (i : ℕ) (sc tc : List Local) (t : tree.Step) (e f : term.Step) → AlikeLocals Row sc tc → InStep (Rows Q) i e → MeansStep names ops sc t e → MeansStep others all tc t f → AlikeStepBy Same IsOneVariable R e f
     step i sc tc tree.Prime e f s b g h =
-        subst (λ (x : term.Step). AlikeStep Same ops all e x) (sym h) (subst (λ (x : term.Step). AlikeStep Same ops all x term.Prime) (sym g) prime_alike)
+        subst (λ (x : term.Step). AlikeStepBy Same IsOneVariable R e x) (sym h) (subst (λ (x : term.Step). AlikeStepBy Same IsOneVariable R x term.Prime) (sym g) prime_alike)
     step i sc tc (tree.Index es) e f s b g h =
         let r : InStep (Rows Q) i (term.Index g.0) = subst (λ (x : term.Step). InStep (Rows Q) i x) g.1 b in
-        subst (λ (x : term.Step). AlikeStep Same ops all e x) (sym h.1) (subst (λ (x : term.Step). AlikeStep Same ops all x (term.Index h.0)) (sym g.1) (index_alike g.0 h.0 (each i sc tc es g.0 h.0 s r g.2 h.2)))
+        subst (λ (x : term.Step). AlikeStepBy Same IsOneVariable R e x) (sym h.1) (subst (λ (x : term.Step). AlikeStepBy Same IsOneVariable R x (term.Index h.0)) (sym g.1) (index_alike g.0 h.0 (each i sc tc es g.0 h.0 s r g.2 h.2)))
     step i sc tc (tree.Field x) e f s b g h =
-        subst (λ (y : term.Step). AlikeStep Same ops all e y) (sym h) (subst (λ (y : term.Step). AlikeStep Same ops all y (term.Field x)) (sym g) (field_alike x))
+        subst (λ (y : term.Step). AlikeStepBy Same IsOneVariable R e y) (sym h) (subst (λ (y : term.Step). AlikeStepBy Same IsOneVariable R y (term.Field x)) (sym g) (field_alike x))
 
-    steps : (i : ℕ) (sc tc : List Local) (t : tree.Steps) (e f : term.Steps) → AlikeLocals Row sc tc → InSteps (Rows Q) i e → MeansSteps names ops sc t e → MeansSteps others all tc t f → AlikeSteps Same ops all e f
+    steps : (i : ℕ) (sc tc : List Local) (t : tree.Steps) (e f : term.Steps) → AlikeLocals Row sc tc → InSteps (Rows Q) i e → MeansSteps names ops sc t e → MeansSteps others all tc t f → AlikeStepsBy Same IsOneVariable R e f
     steps i sc tc tree.NoSteps e f s b g h =
-        subst (λ (x : term.Steps). AlikeSteps Same ops all e x) (sym h) (subst (λ (x : term.Steps). AlikeSteps Same ops all x term.NoSteps) (sym g) no_steps_alike)
+        subst (λ (x : term.Steps). AlikeStepsBy Same IsOneVariable R e x) (sym h) (subst (λ (x : term.Steps). AlikeStepsBy Same IsOneVariable R x term.NoSteps) (sym g) no_steps_alike)
     steps i sc tc (tree.MoreSteps ss at c) e f s b g h =
         let r : InSteps (Rows Q) i (term.MoreSteps g.0 at g.1) = subst (λ (x : term.Steps). InSteps (Rows Q) i x) g.2 b in
-        subst (λ (x : term.Steps). AlikeSteps Same ops all e x) (sym h.2) (subst (λ (x : term.Steps). AlikeSteps Same ops all x (term.MoreSteps h.0 at h.1)) (sym g.2) (more_steps_alike g.0 h.0 at g.1 h.1 (steps i sc tc ss g.0 h.0 s r.0 g.3 h.3) (step i sc tc c g.1 h.1 s r.1 g.4 h.4)))
+        subst (λ (x : term.Steps). AlikeStepsBy Same IsOneVariable R e x) (sym h.2) (subst (λ (x : term.Steps). AlikeStepsBy Same IsOneVariable R x (term.MoreSteps h.0 at h.1)) (sym g.2) (more_steps_alike g.0 h.0 at g.1 h.1 (steps i sc tc ss g.0 h.0 s r.0 g.3 h.3) (step i sc tc c g.1 h.1 s r.1 g.4 h.4)))
 
-    bounds : (i : ℕ) (sc tc : List Local) (t : tree.Bounds) (e f : term.Bounds) → AlikeLocals Row sc tc → InBounds (Rows Q) i e → MeansBounds names ops sc t e → MeansBounds others all tc t f → AlikeBounds Same ops all e f
+    bounds : (i : ℕ) (sc tc : List Local) (t : tree.Bounds) (e f : term.Bounds) → AlikeLocals Row sc tc → InBounds (Rows Q) i e → MeansBounds names ops sc t e → MeansBounds others all tc t f → AlikeBoundsBy Same IsOneVariable R e f
     bounds i sc tc tree.NoBounds e f s b g h =
-        subst (λ (x : term.Bounds). AlikeBounds Same ops all e x) (sym h) (subst (λ (x : term.Bounds). AlikeBounds Same ops all x term.NoBounds) (sym g) no_bounds_alike)
+        subst (λ (x : term.Bounds). AlikeBoundsBy Same IsOneVariable R e x) (sym h) (subst (λ (x : term.Bounds). AlikeBoundsBy Same IsOneVariable R x term.NoBounds) (sym g) no_bounds_alike)
     bounds i sc tc (tree.MoreBounds bs ns a) e f s b g h =
         let r : InBounds (Rows Q) i (term.MoreBounds g.0 (length ns) g.1) = subst (λ (x : term.Bounds). InBounds (Rows Q) i x) g.2 b in
-        subst (λ (x : term.Bounds). AlikeBounds Same ops all e x) (sym h.2) (subst (λ (x : term.Bounds). AlikeBounds Same ops all x (term.MoreBounds h.0 (length ns) h.1)) (sym g.2) (more_bounds_alike g.0 h.0 (length ns) g.1 h.1 (bounds i sc tc bs g.0 h.0 s r.0 g.3 h.3) (alike i sc tc a g.1 h.1 s r.1 g.4 h.4)))
+        subst (λ (x : term.Bounds). AlikeBoundsBy Same IsOneVariable R e x) (sym h.2) (subst (λ (x : term.Bounds). AlikeBoundsBy Same IsOneVariable R x (term.MoreBounds h.0 (length ns) h.1)) (sym g.2) (more_bounds_alike g.0 h.0 (length ns) g.1 h.1 (bounds i sc tc bs g.0 h.0 s r.0 g.3 h.3) (alike i sc tc a g.1 h.1 s r.1 g.4 h.4)))
 
-    fields : (i : ℕ) (sc tc : List Local) (t : tree.Fields) (e f : term.Fields) → AlikeLocals Row sc tc → InFields (Rows Q) i e → MeansFields names ops sc t e → MeansFields others all tc t f → AlikeFields Same ops all e f
+    fields : (i : ℕ) (sc tc : List Local) (t : tree.Fields) (e f : term.Fields) → AlikeLocals Row sc tc → InFields (Rows Q) i e → MeansFields names ops sc t e → MeansFields others all tc t f → AlikeFieldsBy Same IsOneVariable R e f
     fields i sc tc tree.NoFields e f s b g h =
-        subst (λ (x : term.Fields). AlikeFields Same ops all e x) (sym h) (subst (λ (x : term.Fields). AlikeFields Same ops all x term.NoFields) (sym g) no_fields_alike)
+        subst (λ (x : term.Fields). AlikeFieldsBy Same IsOneVariable R e x) (sym h) (subst (λ (x : term.Fields). AlikeFieldsBy Same IsOneVariable R x term.NoFields) (sym g) no_fields_alike)
     fields i sc tc (tree.MoreFields fs m a) e f s b g h =
         let r : InFields (Rows Q) i (term.MoreFields g.0 m g.1) = subst (λ (x : term.Fields). InFields (Rows Q) i x) g.2 b in
-        subst (λ (x : term.Fields). AlikeFields Same ops all e x) (sym h.2) (subst (λ (x : term.Fields). AlikeFields Same ops all x (term.MoreFields h.0 m h.1)) (sym g.2) (more_fields_alike g.0 h.0 m g.1 h.1 (fields i sc tc fs g.0 h.0 s r.0 g.3 h.3) (alike i sc tc a g.1 h.1 s r.1 g.4 h.4)))
+        subst (λ (x : term.Fields). AlikeFieldsBy Same IsOneVariable R e x) (sym h.2) (subst (λ (x : term.Fields). AlikeFieldsBy Same IsOneVariable R x (term.MoreFields h.0 m h.1)) (sym g.2) (more_fields_alike g.0 h.0 m g.1 h.1 (fields i sc tc fs g.0 h.0 s r.0 g.3 h.3) (alike i sc tc a g.1 h.1 s r.1 g.4 h.4)))
 
-    changes : (i : ℕ) (sc tc : List Local) (t : tree.Changes) (e f : term.Changes) → AlikeLocals Row sc tc → InChanges (Rows Q) i e → MeansChanges names ops sc t e → MeansChanges others all tc t f → AlikeChanges Same ops all e f
+    changes : (i : ℕ) (sc tc : List Local) (t : tree.Changes) (e f : term.Changes) → AlikeLocals Row sc tc → InChanges (Rows Q) i e → MeansChanges names ops sc t e → MeansChanges others all tc t f → AlikeChangesBy Same IsOneVariable R e f
     changes i sc tc tree.NoChanges e f s b g h =
-        subst (λ (x : term.Changes). AlikeChanges Same ops all e x) (sym h) (subst (λ (x : term.Changes). AlikeChanges Same ops all x term.NoChanges) (sym g) no_changes_alike)
+        subst (λ (x : term.Changes). AlikeChangesBy Same IsOneVariable R e x) (sym h) (subst (λ (x : term.Changes). AlikeChangesBy Same IsOneVariable R x term.NoChanges) (sym g) no_changes_alike)
     changes i sc tc (tree.MoreChanges cs path a) e f s b g h =
         let r : InChanges (Rows Q) i (term.MoreChanges g.0 g.1 g.2) = subst (λ (x : term.Changes). InChanges (Rows Q) i x) g.3 b in
-        subst (λ (x : term.Changes). AlikeChanges Same ops all e x) (sym h.3) (subst (λ (x : term.Changes). AlikeChanges Same ops all x (term.MoreChanges h.0 h.1 h.2)) (sym g.3) (more_changes_alike g.0 h.0 g.1 h.1 g.2 h.2 (changes i sc tc cs g.0 h.0 s r.0 g.4 h.4) (steps i sc tc path g.1 h.1 s r.1 g.5 h.5) (alike (suc i) (sc ++ Bound at_sign ∷ []) (tc ++ Bound at_sign ∷ []) a g.2 h.2 (one_bound Row sc tc at_sign s) r.2 g.6 h.6)))
+        subst (λ (x : term.Changes). AlikeChangesBy Same IsOneVariable R e x) (sym h.3) (subst (λ (x : term.Changes). AlikeChangesBy Same IsOneVariable R x (term.MoreChanges h.0 h.1 h.2)) (sym g.3) (more_changes_alike g.0 h.0 g.1 h.1 g.2 h.2 (changes i sc tc cs g.0 h.0 s r.0 g.4 h.4) (steps i sc tc path g.1 h.1 s r.1 g.5 h.5) (alike (suc i) (sc ++ Bound at_sign ∷ []) (tc ++ Bound at_sign ∷ []) a g.2 h.2 (one_bound Row sc tc at_sign s) r.2 g.6 h.6)))
 
-    arms : (i : ℕ) (sc tc : List Local) (t : tree.Arms) (e f : term.Arms) → AlikeLocals Row sc tc → InArms (Rows Q) i e → MeansArms names ops sc t e → MeansArms others all tc t f → AlikeArms Same ops all e f
+    arms : (i : ℕ) (sc tc : List Local) (t : tree.Arms) (e f : term.Arms) → AlikeLocals Row sc tc → InArms (Rows Q) i e → MeansArms names ops sc t e → MeansArms others all tc t f → AlikeArmsBy Same IsOneVariable R e f
     arms i sc tc tree.NoArms e f s b g h =
-        subst (λ (x : term.Arms). AlikeArms Same ops all e x) (sym h) (subst (λ (x : term.Arms). AlikeArms Same ops all x term.NoArms) (sym g) no_arms_alike)
+        subst (λ (x : term.Arms). AlikeArmsBy Same IsOneVariable R e x) (sym h) (subst (λ (x : term.Arms). AlikeArmsBy Same IsOneVariable R x term.NoArms) (sym g) no_arms_alike)
     arms i sc tc (tree.MoreArms ms p a) e f s b g h =
         let r : InArms (Rows Q) i (term.MoreArms g.0 g.1 g.2) = subst (λ (x : term.Arms). InArms (Rows Q) i x) g.3 b in
-        subst (λ (x : term.Arms). AlikeArms Same ops all e x) (sym h.3) (subst (λ (x : term.Arms). AlikeArms Same ops all x (term.MoreArms h.0 h.1 h.2)) (sym g.3) (more_arms_alike g.0 h.0 g.1 h.1 g.2 h.2 (arms i sc tc ms g.0 h.0 s r.0 g.4 h.4) (alike i sc tc p g.1 h.1 s r.1 g.5 h.5) (alike i sc tc a g.2 h.2 s r.2 g.6 h.6)))
+        subst (λ (x : term.Arms). AlikeArmsBy Same IsOneVariable R e x) (sym h.3) (subst (λ (x : term.Arms). AlikeArmsBy Same IsOneVariable R x (term.MoreArms h.0 h.1 h.2)) (sym g.3) (more_arms_alike g.0 h.0 g.1 h.1 g.2 h.2 (arms i sc tc ms g.0 h.0 s r.0 g.4 h.4) (alike i sc tc p g.1 h.1 s r.1 g.5 h.5) (alike i sc tc a g.2 h.2 s r.2 g.6 h.6)))
 
     defines : (sc tc : List Local) (ds : tree.Definitions) (ks js : List ℕ) (inner outer : List Local) → AlikeLocals Row sc tc → Such ks → Defines names ops sc ds ks inner → Defines others all tc ds js outer → HasDefined ks js inner outer
     defines sc tc tree.NoDefinitions ks js inner outer s b g h = no_more sc tc ks js inner outer s g.0 h.0 g.1 h.1
     defines sc tc (tree.MoreDefinitions ds m at ps a) ks js inner outer s b g h =
         let d : HasDefined g.0 h.0 g.1 h.1 = defines sc tc ds g.0 h.0 g.1 h.1 s (earlier_such ks g.0 g.2.0 g.7 b) g.4 h.4 in
         let lt : Q g.2.0 = last_such ks g.0 g.2.0 g.7 b in
-        let r : Alike Same ops all g.3 h.3 = alike 0 (bind g.1 ps) (bind h.1 ps) a g.3 h.3 (all_bound Row g.1 h.1 ps d.places) (body_whole g.2.0 (local_operator (slots g.1) (length ps) g.3) lt g.6) g.5 h.5 in
+        let r : AlikeBy Same IsOneVariable R g.3 h.3 = alike 0 (bind g.1 ps) (bind h.1 ps) a g.3 h.3 (all_bound Row g.1 h.1 ps d.places) (body_whole g.2.0 (local_operator (slots g.1) (length ps) g.3) lt g.6) g.5 h.5 in
         one_more ks js inner outer m (length ps) g.0 h.0 g.1 h.1 g.2 h.2 d (local_alike g.1 h.1 g.2.0 h.2.0 (length ps) g.3 h.3 d.places g.6 h.6 r) g.7 h.7 g.8 h.8
 
-  pub tree_alike : (sc tc : List Local) (t : Tree) (e f : Term) → AlikeLocals Row sc tc → AreMentioned Q e → Means names ops sc t e → Means others all tc t f → Alike Same ops all e f
+  pub tree_alike : (sc tc : List Local) (t : Tree) (e f : Term) → AlikeLocals Row sc tc → AreMentioned Q e → Means names ops sc t e → Means others all tc t f → AlikeBy Same IsOneVariable R e f
   tree_alike sc tc t e f s b g h = alike 0 sc tc t e f s (all_rows Q 0 e b) g h

@@ -8,9 +8,10 @@ use Rattle.tla_terms.specs.declared.level.Level.{Level}
 use Rattle.tla_terms.specs.declared.operator.Operator.{Operator}
 use Rattle.tla_terms.specs.Terms.{Term, Placed, Meaning, Slot, Use, Scoped, All, Quantified, Fairness, Terms, NoTerms, MoreTerms, Bounds, place_of, level_of}
 use Rattle.term_parts.proofs.Contained.{contains_cons, contains_head, contains_tail, contains_nothing}
-use Rattle.alike_terms.specs.Alike.{Alike, placed_alike, AlikeMeanings, slot_alike, use_alike, scoped_alike, all_alike, quantified_alike, fairness_alike, AlikeTerms, no_terms_alike, more_terms_alike, AlikeRows, rows_alike, AlikeNumbers, no_numbers_alike, more_numbers_alike}
+use Rattle.alike_terms.specs.Alike.{Alike, placed_alike, AlikeMeanings, slot_alike, use_alike, scoped_alike, all_alike, quantified_alike, fairness_alike, AlikeTerms, no_terms_alike, more_terms_alike, AlikeRows, RowsBy, IsOneVariable, AlikeNumbers, no_numbers_alike, more_numbers_alike}
 use Rattle.alike_terms.specs.Laws.{AlikeOperators}
 use Rattle.alike_terms.proofs.Zips.{some_same}
+use Rattle.alike_terms.proofs.Opened.{rows_open}
 
 module _ (Same : Val → Val → Type 0) (ops all : List Operator) where
   pub same_place : (e f : Term) → Alike Same ops all e f → place_of e ≡ place_of f
@@ -52,8 +53,9 @@ module _ (Same : Val → Val → Type 0) (ops all : List Operator) where
 
   pub row_is : (k j : ℕ) (o : Operator) → AlikeRows Same ops all k j → slice_get ops k ≡ Some o
       → (p : Operator) × (slice_get all j ≡ Some p) × AlikeOperators Same ops all o p
-  row_is _ _ o (rows_alike k j x p a b n u t l body) q =
-      (p, b, subst (λ (y : Operator). AlikeOperators Same ops all y p) (some_same (sym a ∙ q)) record { name = n; outer = u; params = t; level = l; body = body })
+  row_is k j o r q =
+      let w : RowsBy Same IsOneVariable (AlikeRows Same ops all) ops all k j = rows_open Same ops all k j r in
+      (w.right, w.there, subst (λ (y : Operator). AlikeOperators Same ops all y w.right) (some_same (sym w.here ∙ q)) w.same)
 
   pub number_in : (ks js : List ℕ) (k : ℕ) → AlikeNumbers Same ops all ks js → Contains ks k → (j : ℕ) × Contains js j × AlikeRows Same ops all k j
   number_in _ _ k no_numbers_alike c = absurd (contains_nothing k c)

@@ -9,3 +9,6 @@ pub mod Fair
 pub mod Given
 pub mod Shapes
 pub mod Telling
+pub mod Growing
+pub mod Limits
+pub mod Opened

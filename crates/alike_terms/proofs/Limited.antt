@@ -97,7 +97,7 @@ module _ (Same : Val → Val → Type 0) (ops all : List Operator) where
   pub limits_same : (at : Place) (m n : Meaning) → AlikeMeanings Same ops all m n → limits at m ≡ limits at n
   limits_same at _ _ (known_alike v w s) = refl
   limits_same at _ _ (named_alike s) = refl
-  limits_same at _ _ (variable_alike x) = refl
+  limits_same at _ _ (variable_alike x y q) = refl
   limits_same at _ _ (slot_alike i) = refl
   limits_same at _ _ (use_alike k j ts us r t) = terms_same at ts us t
   limits_same at _ _ (standard_alike o ts us t) = terms_same at ts us t

@@ -95,7 +95,7 @@ module _ (Same : Val → Val → Type 0) (ops all : List Operator) where
   pub parts_zip : (b : Bool) (m n : Meaning) → AlikeMeanings Same ops all m n → AreParts (parts b m) (parts b n)
   parts_zip b _ _ (known_alike v w s) = tt
   parts_zip b _ _ (named_alike s) = tt
-  parts_zip b _ _ (variable_alike x) = tt
+  parts_zip b _ _ (variable_alike x y q) = tt
   parts_zip b _ _ (slot_alike i) = tt
   parts_zip b _ _ (use_alike k j ts us r t) = all_parts b (listed ts) (listed us) (listed_zip ts us t)
   parts_zip b _ _ (standard_alike o ts us t) = all_parts b (listed ts) (listed us) (listed_zip ts us t)

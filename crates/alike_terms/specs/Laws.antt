@@ -11,15 +11,11 @@ use Rattle.term_parts.specs.Parts.{Part, parts}
 use Rattle.term_parts.specs.Slots.{Occurs, IsPrimed}
 use Rattle.term_levels.specs.Faults.{IsFault, IsFirst, IsAssumptionFault}
 use Rattle.term_levels.specs.Shape.{IsFair, Contribution, Gives, HasShape}
-use Rattle.alike_terms.specs.Alike.{Alike, AlikeMeanings}
+use Rattle.alike_terms.specs.Alike.{Alike, AlikeMeanings, AlikeRows, AlikeOperatorsBy, IsOneVariable}
 
 -- two definitions differ by the numbers in their bodies alone
-pub record AlikeOperators (Same : Val → Val → Type 0) (ops all : List Operator) (o p : Operator) : Type 0 where
-  pub name : o.name ≡ p.name
-  pub outer : o.outer ≡ p.outer
-  pub params : o.params ≡ p.params
-  pub level : o.level ≡ p.level
-  pub body : Alike Same ops all o.body p.body
+abbrev pub AlikeOperators : (Val → Val → Type 0) → List Operator → List Operator → Operator → Operator → Type 0
+AlikeOperators Same ops all o p = AlikeOperatorsBy Same IsOneVariable (AlikeRows Same ops all) o p
 
 -- both stand under a prime, or neither does
 pub record AlikeParts (Same : Val → Val → Type 0) (ops all : List Operator) (p q : Part) : Type 0 where

@@ -1,1 +1,2 @@
+pub mod AnyReading
 pub mod Loaded

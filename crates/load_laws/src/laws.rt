@@ -1,7 +1,9 @@
+ghost use Rattle.load_laws.specs.AnyReading.{LoadedAreWellFormedBy, LoadedHaveFewFilesBy, SpellsFormed};
 ghost use Rattle.load_laws.specs.Loaded.{ConfigurationsAreSpelled, ConfigurationsHaveOneForm, LoadedAreWellFormed, LoadedHaveFewFiles, PlainHasOneForm, PlainIsSpelled};
 
 use reader_model::laws_of_extents;
 use spec_laws::form_laws;
+use tla_modules::ModuleReader;
 use wide_config::givens_are_within_limits_by;
 
 /// A program that `load` accepts is well formed: its trees are those of the grammar, no two variables have one name and no two definitions, and each
@@ -12,6 +14,15 @@ pub fn load_laws()
 {
     form_laws();
     laws_of_extents();
+}
+
+/// The same of what `load_by` accepts, where the reader's modules are well formed.
+pub fn load_by_laws<R: ModuleReader>(reader: &R)
+    requires { SpellsFormed (R.reading reader.now) }
+    ensures well_formed { LoadedAreWellFormedBy (R.reading reader.now) }
+    ensures few { LoadedHaveFewFilesBy (R.reading reader.now) }
+{
+    let _reader = reader;
 }
 
 /// What `config_by` accepts, and the configuration that stands where none is read, is as `resolve` asks for: each value is within the limits of values, and

@@ -3,4 +3,4 @@
 
 mod laws;
 
-pub use laws::{configuration_laws, load_laws};
+pub use laws::{configuration_laws, load_by_laws, load_laws};

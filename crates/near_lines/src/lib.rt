@@ -15,3 +15,4 @@ mod subject;
 mod words;
 
 pub use asking::near_lines;
+pub use words::{push_place, variable_name};

@@ -120,14 +120,15 @@ fn push_variable(
     push_values(alloc, text, spared.wanted.as_ref(), places.get(variable))
 }
 
-fn variable_name(names: &Names, variable: VarId) -> &str
+/// The name of a variable.
+pub fn variable_name(names: &Names, variable: VarId) -> &str
     ensures { result.now ≡ name_at names.now variable.0 }
 {
     name_at(names, variable.0 as usize)
 }
 
 /// Adds the place of a part, where there is one.
-fn push_place(text: &mut String, files: &Names, at: Option<Place>) -> Result<(), NoMemory>
+pub fn push_place(text: &mut String, files: &Names, at: Option<Place>) -> Result<(), NoMemory>
     ensures { OnOk result (string_bytes text.new ≡ string_bytes text.old ++ place_behind files.now at) }
 {
     match at {

@@ -16,8 +16,9 @@ use Rattle.tla_actions.specs.Outcomes.{IsOutcome, IsWholeOutcome, wholly}
 use Rattle.tla_actions.specs.Reads.{VariableSet, in_none}
 use Rattle.action_forms.specs.Laws.{HasOneFormOutcome}
 use Rattle.line_steps.specs.Says.{setting}
-use Rattle.alike_terms.specs.Alike.{AlikeRows, rows_alike}
+use Rattle.alike_terms.specs.Alike.{AlikeRows}
 use Rattle.alike_terms.specs.Laws.{AreOne}
+use Rattle.alike_terms.proofs.Inverted.{row_is}
 use Rattle.alike_actions.specs.AlikeSettings.{AreAlikeIn, AreAlikeSettings}
 use Rattle.alike_actions.specs.Laws.{OutcomesAlike, WholeAlike}
 use Rattle.one_outcome.specs.Outcome.{AlikeSilent, AreAlike, both_silent, none_silent}
@@ -58,11 +59,9 @@ module _ (known : FormsKnown) where
 
     row_there : (k j : ℕ) → AlikeRows AreOne s.operators t.operators k j → (C : VariableSet) (o : Operator) → slice_get s.operators k ≡ Some o
         → IsOutcome (setting which.Action s) o.body in_none (Ok C) → (q : Operator) × (slice_get t.operators j ≡ Some q) × IsOutcome (setting which.Action t) q.body in_none (Ok C)
-    row_there _ _ (rows_alike k j p q here there name outer params level bodies) C o is h =
-        let same : o ≡ p = some_same o p (slice_get s.operators k) (slice_get s.operators k) is here refl in
-        let body : IsOutcome (setting which.Action s) p.body in_none (Ok C) =
-        subst (λ (x : Operator). IsOutcome (setting which.Action s) x.body in_none (Ok C)) same h in
-        (q, there, known.outcomes (setting which.Action s) (setting which.Action t) (settings which.Action) p.body q.body bodies in_none (Ok C) body)
+    row_there k j row C o is h =
+        let r = row_is AreOne s.operators t.operators k j o row is in
+        (r.0, r.1, known.outcomes (setting which.Action s) (setting which.Action t) (settings which.Action) o.body r.0.body r.2.body in_none (Ok C) h)
 
     silent_there : (x y : Option DefId) → AlikeSilent s.operators t.operators x y → IfSome x (HasForm s) → IfSome y (HasForm t)
     silent_there _ _ none_silent h = tt

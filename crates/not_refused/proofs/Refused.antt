@@ -1,5 +1,6 @@
 -- Beside an accepted reading nothing is refused, and each file that is sought is there and is not too long.
 use Rattle.std.proofs.Common.{◌≡◌, ◌<◌, ℕ, List, [], ◌∷◌, length, Some, None, Ok, Err, inl, inr, sym, ◌∙◌, subst, arith}
+use Rattle.std.specs.Prelude.{Bool, true}
 use Rattle.trace_base.specs.Device.{File, IsLonger, found}
 use Rattle.trace_base.specs.declared.place.Place.{Place}
 use Rattle.trace_base.specs.declared.reading.ReadFault.{ReadFault}
@@ -10,25 +11,31 @@ use Rattle.tla_config.specs.declared.fault.ConfigKind.{ConfigKind}
 use Rattle.wide_config.specs.Wide.{ReadsBy}
 use Rattle.tla_modules.specs.declared.fault.LoadWhy.{LoadWhy}
 use Rattle.tla_modules.specs.declared.fault.LoadWhy.TheVariants.{Read, Lex, Lay, Parse, Cycle, TooMany, Twice, WrongName}
-use Rattle.tla_modules.specs.declared.so_far.SoFar.{SoFar}
-use Rattle.tla_modules.specs.Flattened.{Flattened}
-use Rattle.tla_modules.specs.Loads.{IsProgram}
+use Rattle.tla_modules.specs.declared.notes.Noted.{Noted}
+use Rattle.tla_modules.specs.declared.so_far.Gathered.{Gathered}
+use Rattle.tla_modules.specs.Flattened.{FlattenedBy, OutcomeOf}
 use Rattle.tla_modules.specs.Paths.{IsPath}
 use Rattle.tla_modules.specs.Refusals.{IsUnread, module_limit}
+use Rattle.wide_modules.specs.declared.unread.Unread.{Unread}
+use Rattle.wide_modules.specs.Laws.{NothingRepeatsWide, WideFlatteningMayStop}
+use Rattle.wide_modules.specs.Wide.{reading_by}
 use Rattle.tla_terms.specs.declared.spec.Spec.{Spec}
 use Rattle.tla_levels.specs.declared.fault.ResolveFault.{ResolveFault}
 use Rattle.specification_names.specs.Resolving.{ResolvedBy}
+use Rattle.wide_reading.specs.Answers.{NeedsPiece}
+use Rattle.wide_reading.specs.Passing.{Passes}
 use Rattle.spec_laws.specs.IsSpec.{IsSpec}
 use Rattle.one_outcome.specs.Outcome.{AreAlike}
-use Rattle.one_program.specs.Laws.{FlatteningMayStop, NoConfigurationRefused, NothingRepeats}
+use Rattle.one_program.specs.Laws.{NoConfigurationRefused}
 use Rattle.run_words.specs.declared.job.Job.{Job}
 use Rattle.run_reading.specs.Texts.{HasText, LogsRead, bytes_left, config_limit}
-use Rattle.run_reading.specs.Reaches.{IsNext, Reaches, Stage, config_next, configured, loaded, log_next, logged, module_next, resolved}
-use Rattle.run_reading.specs.Refusals.{IsOfText, IsRefusal, Rejects, in_a_log, in_a_module, in_all_modules, in_forms, in_names, in_the_configuration, is_missing, is_refused, is_too_long}
-use Rattle.one_reading.proofs.OneReading.{Given, Parts, begun_same, configured_same, form_is_one, in_order, program_of, resolved_there, same_program}
+use Rattle.run_reading.specs.Reaches.{IsNext, Reaches, Stage, config_next, configured, given, loaded, log_next, logged, module_next, resolved}
+use Rattle.run_reading.specs.Refusals.{IsOfText, IsRefusal, Rejects, in_a_log, in_a_module, in_a_piece, in_all_modules, in_forms, in_names, in_the_configuration, is_missing, is_refused, is_too_long}
+use Rattle.one_reading.proofs.OneReading.{Given, Parts, ProgramOf, begun_same, configured_same, form_is_one, given_form, given_same, in_order, passed_there, passing_parts, program_of, resolved_there, same_program}
+use Rattle.one_reading.proofs.Passing.{no_piece}
 use Rattle.one_reading.proofs.Outcomes.{one_outcome_by}
 use Rattle.one_reading.proofs.SameLogs.{one_text}
-use Rattle.one_reading.proofs.Stages.{LoadedBy, configured_by, loaded_by, logged_from, none_is_some, resolved_by, some_is}
+use Rattle.one_reading.proofs.Stages.{ConfiguredBy, LoadedBy, configured_by, given_by, loaded_by, logged_from, none_is_some, resolved_by, some_is}
 use Rattle.not_refused.proofs.Forms.{FormsKnown, forms_accepted}
 use Rattle.not_refused.proofs.LogsBeside.{log_accepted, log_there, whole_forms}
 use Rattle.not_refused.proofs.Sought.{flattening_so}
@@ -37,8 +44,8 @@ use Rattle.not_refused.proofs.Sought.{flattening_so}
 pub record Known : Type 0 where
   pub parts : Parts
   pub forms : FormsKnown
-  pub stops : FlatteningMayStop
-  pub repeats : NothingRepeats
+  pub stops : WideFlatteningMayStop
+  pub repeats : NothingRepeatsWide
   pub configuration : NoConfigurationRefused
 
 missing_no_fail : Missing ≡ Failed → ⊥
@@ -64,24 +71,27 @@ there_of files name limit text h = record {
 module _ (known : Known) (files : List File) (job : Job) where
   -- ---- modules
 
-  text_accepted : (folder name : List ℕ) (all : SoFar) (modules : List (List ℕ)) (why : LoadWhy) → Flattened (Some files) folder name (Ok all)
-      → Flattened (Some files) folder name (Err (modules, why)) → IsOfText why → ⊥
+  abbrev Flat : List ℕ → List ℕ → OutcomeOf Unread → Type 0
+  Flat folder name outcome = FlattenedBy (reading_by job.wide) (Some files) folder name outcome
+
+  text_accepted : (folder name : List ℕ) (all : Gathered Unread) (modules : List (List ℕ)) (why : LoadWhy) → Flat folder name (Ok all)
+      → Flat folder name (Err (modules, why)) → IsOfText why → ⊥
   text_accepted folder name all modules (Read file fault) h g t = t
-  text_accepted folder name all modules (Lex why at) h g t = known.stops files folder name all modules (Lex why at) h g
-  text_accepted folder name all modules (Lay at) h g t = known.stops files folder name all modules (Lay at) h g
-  text_accepted folder name all modules (Parse fault) h g t = known.stops files folder name all modules (Parse fault) h g
-  text_accepted folder name all modules (Cycle names) h g t = known.stops files folder name all modules (Cycle names) h g
-  text_accepted folder name all modules (TooMany other) h g t = known.stops files folder name all modules (TooMany other) h g
-  text_accepted folder name all modules (Twice other later earlier) h g t = known.stops files folder name all modules (Twice other later earlier) h g
-  text_accepted folder name all modules (WrongName other at) h g t = known.stops files folder name all modules (WrongName other at) h g
+  text_accepted folder name all modules (Lex why at) h g t = known.stops job.wide files folder name all modules (Lex why at) h g
+  text_accepted folder name all modules (Lay at) h g t = known.stops job.wide files folder name all modules (Lay at) h g
+  text_accepted folder name all modules (Parse fault) h g t = known.stops job.wide files folder name all modules (Parse fault) h g
+  text_accepted folder name all modules (Cycle names) h g t = known.stops job.wide files folder name all modules (Cycle names) h g
+  text_accepted folder name all modules (TooMany other) h g t = known.stops job.wide files folder name all modules (TooMany other) h g
+  text_accepted folder name all modules (Twice other later earlier) h g t = known.stops job.wide files folder name all modules (Twice other later earlier) h g
+  text_accepted folder name all modules (WrongName other at) h g t = known.stops job.wide files folder name all modules (WrongName other at) h g
 
-  module_read : (folder name : List ℕ) (all : SoFar) (modules : List (List ℕ)) (file : List ℕ) (fault : ReadFault) → Flattened (Some files) folder name (Ok all)
-      → Flattened (Some files) folder name (Err (modules, Read file Failed)) → IsUnread (Some files) file fault → fault ≡ Failed
+  module_read : (folder name : List ℕ) (all : Gathered Unread) (modules : List (List ℕ)) (file : List ℕ) (fault : ReadFault) → Flat folder name (Ok all)
+      → Flat folder name (Err (modules, Read file Failed)) → IsUnread (Some files) file fault → fault ≡ Failed
   module_read folder name all modules file fault h g u =
-      known.stops files folder name all modules (Read file fault) h (flattening_so (Some files) folder file fault u name modules g)
+      known.stops job.wide files folder name all modules (Read file fault) h (flattening_so (reading_by job.wide) (Some files) folder file fault u name modules g)
 
-  module_there : (folder name : List ℕ) (all : SoFar) (modules : List (List ℕ)) (file : List ℕ) → Flattened (Some files) folder name (Ok all)
-      → Flattened (Some files) folder name (Err (modules, Read file Failed)) → IsThere files file module_limit
+  module_there : (folder name : List ℕ) (all : Gathered Unread) (modules : List (List ℕ)) (file : List ℕ) → Flat folder name (Ok all)
+      → Flat folder name (Err (modules, Read file Failed)) → IsThere files file module_limit
   module_there folder name all modules file h g = record {
     found_there = λ e. missing_no_fail (module_read folder name all modules file Missing h g e);
     short = λ l. long_no_fail (module_read folder name all modules file TooLong h g l);
@@ -119,11 +129,14 @@ module _ (known : Known) (files : List File) (job : Job) where
     from : Reaches (Some files) job (resolved p c s)
     from = logged_from (Some files) job p c s all [] accepted
 
-    is_configured : Reaches (Some files) job (loaded p) × Given known.parts files job p c
-    is_configured = configured_by (Some files) job p c (resolved_by (Some files) job p c s from).0
+    by : ConfiguredBy (Some files) job p c
+    by = configured_by (Some files) job p c (resolved_by (Some files) job p c s from).0
 
-    is_loaded : LoadedBy (Some files) job p
-    is_loaded = loaded_by (Some files) job p is_configured.0
+    is_given : Reaches (Some files) job (loaded by.program by.unread) × Given known.parts files job by.program by.config
+    is_given = given_by (Some files) job by.program by.unread by.config by.reaches
+
+    is_loaded : LoadedBy (Some files) job by.program by.unread
+    is_loaded = loaded_by (Some files) job by.program by.unread is_given.0
 
     is_in_order : IsSpec s
     is_in_order = in_order known.parts files job p c s from
@@ -131,11 +144,21 @@ module _ (known : Known) (files : List File) (job : Job) where
     pub alike_to : (q : Program) (d : Config) (t : Spec) → Reaches (Some files) job (resolved q d t) → AreAlike s t
     alike_to q d t reaches = (begun_same known.parts files job p q c d s t from reaches).specs
 
-    is_program : (folder name : List ℕ) → IsPath job.module folder name → IsProgram (Some files) folder name p
-    is_program folder name path = program_of known.parts files job folder name p path is_loaded
+    is_program : (folder name : List ℕ) → IsPath job.module folder name → ProgramOf known.parts files job folder name by.program by.unread
+    is_program folder name path = program_of known.parts files job folder name by.program by.unread path is_loaded
 
-    one_more_program : (q : Program) → Reaches (Some files) job (loaded q) → p ≡ q
-    one_more_program q reaches = same_program known.parts files job p q is_loaded (loaded_by (Some files) job q reaches)
+    one_more_program : (q : Program) (others : List (Noted Unread)) → Reaches (Some files) job (loaded q others) → by.program ≡ q
+    one_more_program q others reaches = (same_program known.parts files job by.program q by.unread others is_loaded (loaded_by (Some files) job q others reaches)).0
+
+    -- no piece is needed that was not read
+    piece_accepted : (q : Program) (others : List (Noted Unread)) (d : Config) (index : ℕ) (root : List ℕ) → Reaches (Some files) job (given q others d) → job.wide ≡ true
+        → NeedsPiece q d job.silent others index root → ⊥
+    piece_accepted q others d index root reaches word needs =
+        let same = given_same known.parts files job q by.program others by.unread d by.config reaches by.reaches in
+        let there : Passes q d job.silent others job.wide p c =
+        passed_there known.parts files job q by.program p others by.unread d by.config c same by.passed in
+        no_piece (passing_parts known.parts) q d job.silent (given_form known.parts files job q others d reaches) others p c index root
+        (subst (λ (w : Bool). Passes q d job.silent others w p c) word there) needs
 
     log_text : (q : Program) (d : Config) (t : Spec) (read : LogsRead) (name : List ℕ) (names : List (List ℕ)) → Reaches (Some files) job (logged q d t read (name ∷ names))
         → (text : List ℕ) × HasText (Some files) name (bytes_left read) text
@@ -146,8 +169,8 @@ module _ (known : Known) (files : List File) (job : Job) where
     -- what is sought is there
     pub sought_there : (stage : Stage) (name : List ℕ) (limit : ℕ) → Reaches (Some files) job stage → IsNext (Some files) job stage name limit → IsThere files name limit
     sought_there _ _ _ reaches (module_next folder name modules file path flat) = module_there folder name (is_program folder name path).all modules file (is_program folder name path).flattened flat
-    sought_there _ _ _ reaches (config_next q name some) =
-        let has = configuration_there p c name is_configured.1 some in
+    sought_there _ _ _ reaches (config_next q others name some) =
+        let has = configuration_there by.program by.config name is_given.1 some in
         there_of files name config_limit has.0 has.1
     sought_there _ _ _ reaches (log_next q d t read name names) = let has = log_text q d t read name names reaches in there_of files name (bytes_left read) has.0 has.1
 
@@ -155,10 +178,11 @@ module _ (known : Known) (files : List File) (job : Job) where
     pub text_not_refused : (stage : Stage) (report : List ℕ) → Reaches (Some files) job stage → Rejects (Some files) job stage report → ⊥
     text_not_refused _ _ reaches (in_a_module folder name modules why path flat text) =
         text_accepted folder name (is_program folder name path).all modules why (is_program folder name path).flattened flat text
-    text_not_refused _ _ reaches (in_all_modules folder name every why path flat twice) = known.repeats files folder name p every why (is_program folder name path) flat twice
-    text_not_refused _ _ reaches (in_the_configuration q name text kind at some has reads) =
-        let same : p ≡ q = one_more_program q reaches in
-        configuration_accepted p c name text kind at is_configured.1 some has (subst (λ (x : Program). ReadsBy job.wide (length x.files) name text (Err (kind, at))) (sym same) reads)
+    text_not_refused _ _ reaches (in_all_modules folder name every why path flat twice) = known.repeats job.wide files folder name by.program by.unread every why (is_program folder name path) flat twice
+    text_not_refused _ _ reaches (in_the_configuration q others name text kind at some has reads) =
+        let same : by.program ≡ q = one_more_program q others reaches in
+        configuration_accepted by.program by.config name text kind at is_given.1 some has (subst (λ (x : Program). ReadsBy job.wide (length x.files) name text (Err (kind, at))) (sym same) reads)
+    text_not_refused _ _ reaches (in_a_piece q others d index root word needs) = piece_accepted q others d index root reaches word needs
     text_not_refused _ _ reaches (in_names q d fault is) = names_accepted p q c d s fault from reaches is
     text_not_refused _ _ reaches (in_forms q d t fault is) =
         forms_accepted known.forms s t is_in_order (in_order known.parts files job q d t reaches) (alike_to q d t reaches) fault

@@ -5,10 +5,11 @@ use Rattle.trace_base.specs.declared.reading.ReadFault.{ReadFault}
 use Rattle.trace_base.specs.declared.reading.ReadFault.TheVariants.{Failed}
 use Rattle.tla_modules.specs.declared.fault.LoadWhy.{LoadWhy}
 use Rattle.tla_modules.specs.declared.fault.LoadWhy.TheVariants.{Read, Lex, Lay, Parse, Cycle, TooMany, Twice, WrongName}
-use Rattle.tla_modules.specs.declared.so_far.SoFar.{SoFar}
-use Rattle.tla_modules.specs.Flattened.{Outcome, Meets, Follows, Visits, Flattened, closes_cycle, is_listed, was_read, one_too_many, is_visited, all_met, stopped, went_on, is_refused, stopped_below, is_whole, nothing_read, with_module}
+use Rattle.tla_modules.specs.declared.so_far.Gathered.{Gathered}
+use Rattle.tla_modules.specs.Flattened.{OutcomeOf, Meets, Follows, Visits, FlattenedBy, closes_cycle, is_listed, was_read, one_too_many, is_visited, all_met, stopped, went_on, is_refused, stopped_below, is_whole, nothing_read, with_module}
 use Rattle.tla_modules.specs.Paths.{file_of}
-use Rattle.tla_modules.specs.Refusals.{IsUnread, Misspells, Refuses, RefusesBytes, misnamed, misspelled, not_good, not_read}
+use Rattle.tla_modules.specs.Readings.{Reading}
+use Rattle.tla_modules.specs.Refusals.{IsUnread, Refuses, RefusesBytes, misnamed, misspelled, not_good, not_read}
 
 -- the refusal is that of a file that is not read
 abbrev IsOfRead : LoadWhy → Type 0
@@ -21,61 +22,61 @@ IsOfRead (TooMany name) = ⊥
 IsOfRead (Twice name later earlier) = ⊥
 IsOfRead (WrongName name at) = ⊥
 
-abbrev EndsAtRead : Outcome → Type 0
+abbrev EndsAtRead : {N : Type 0} → OutcomeOf N → Type 0
 EndsAtRead (Ok a) = ⊥
 EndsAtRead (Err e) = IsOfRead e.1
 
 read_same : (file other : List ℕ) (fault cause : ReadFault) → Read file fault ≡ Read other cause → file ≡ other
 read_same file other fault cause e = cc
 
-err_same : (d e : List (List ℕ) × LoadWhy) (o q : Outcome) → o ≡ Err d → q ≡ Err e → o ≡ q → d ≡ e
+err_same : {N : Type 0} (d e : List (List ℕ) × LoadWhy) (o q : OutcomeOf N) → o ≡ Err d → q ≡ Err e → o ≡ q → d ≡ e
 err_same d e o q a b h = cc
 
-module _ (holds : Option (List File)) (folder file : List ℕ) (fault : ReadFault) (unread : IsUnread holds file fault) where
+module _ {N : Type 0} (reading : Reading N) (holds : Option (List File)) (folder file : List ℕ) (fault : ReadFault) (unread : IsUnread holds file fault) where
   -- where its read would fail, and where it is not read so
-  abbrev fails : List (List ℕ) → Outcome
+  abbrev fails : List (List ℕ) → OutcomeOf N
   fails modules = Err (modules, Read file Failed)
 
-  abbrev stops : List (List ℕ) → Outcome
+  abbrev stops : List (List ℕ) → OutcomeOf N
   stops modules = Err (modules, Read file fault)
 
-  no_end : (o : Outcome) (modules : List (List ℕ)) → o ≡ fails modules → (EndsAtRead o → ⊥) → ⊥
+  no_end : (o : OutcomeOf N) (modules : List (List ℕ)) → o ≡ fails modules → (EndsAtRead o → ⊥) → ⊥
   no_end o modules e never = never (subst EndsAtRead (sym e) tt)
 
-  bytes_read : (number : ℕ) (bytes name : List ℕ) (why : LoadWhy) → RefusesBytes number bytes name why → why ≡ Read file Failed → ⊥
-  bytes_read number bytes name _ (misspelled why w) e = subst (Misspells number bytes) e w
-  bytes_read number bytes name _ (misnamed m s other) e = subst IsOfRead (sym e) tt
+  bytes_read : (number : ℕ) (bytes name : List ℕ) (why : LoadWhy) → RefusesBytes reading number bytes name why → why ≡ Read file Failed → ⊥
+  bytes_read number bytes name _ (misspelled why w) e = reading.of_text number bytes file Failed (subst (λ (y : LoadWhy). reading.Misspells number bytes y) e w)
+  bytes_read number bytes name _ (misnamed m notes s other) e = subst IsOfRead (sym e) tt
 
-  refuses_so : (number : ℕ) (name : List ℕ) (why : LoadWhy) → Refuses holds folder number name why → why ≡ Read file Failed → Refuses holds folder number name (Read file fault)
+  refuses_so : (number : ℕ) (name : List ℕ) (why : LoadWhy) → Refuses reading holds folder number name why → why ≡ Read file Failed → Refuses reading holds folder number name (Read file fault)
   refuses_so number name _ (not_read cause u) e =
       let same : file_of folder name ≡ file = read_same (file_of folder name) file cause Failed e in
-      subst (λ (f : List ℕ). Refuses holds folder number name (Read f fault)) same (not_read fault (subst (λ (f : List ℕ). IsUnread holds f fault) (sym same) unread))
+      subst (λ (f : List ℕ). Refuses reading holds folder number name (Read f fault)) same (not_read fault (subst (λ (f : List ℕ). IsUnread holds f fault) (sym same) unread))
   refuses_so number name _ (not_good bytes why t r) e = absurd (bytes_read number bytes name why r e)
 
   mutual
-    meets_so : (path : List (List ℕ)) (so : SoFar) (name : List ℕ) (o : Outcome) → Meets holds folder path so name o → (modules : List (List ℕ)) → o ≡ fails modules
-        → Meets holds folder path so name (stops modules)
+    meets_so : (path : List (List ℕ)) (so : Gathered N) (name : List ℕ) (o : OutcomeOf N) → Meets reading holds folder path so name o → (modules : List (List ℕ)) → o ≡ fails modules
+        → Meets reading holds folder path so name (stops modules)
     meets_so _ _ _ _ (closes_cycle path so name names c) modules e = absurd (no_end _ modules e (λ x. x))
     meets_so _ _ _ _ (is_listed path so name a s) modules e = absurd (no_end _ modules e (λ x. x))
     meets_so _ _ _ _ (was_read path so name a s r) modules e = absurd (no_end _ modules e (λ x. x))
     meets_so _ _ _ _ (one_too_many path so name a s r l) modules e = absurd (no_end _ modules e (λ x. x))
     meets_so _ _ _ _ (is_visited path so name o a s r l v) modules e = is_visited path so name (stops modules) a s r l (visits_so path so name o v modules e)
 
-    follows_so : (path : List (List ℕ)) (so : SoFar) (names : List (List ℕ)) (o : Outcome) → Follows holds folder path so names o → (modules : List (List ℕ)) → o ≡ fails modules
-        → Follows holds folder path so names (stops modules)
+    follows_so : (path : List (List ℕ)) (so : Gathered N) (names : List (List ℕ)) (o : OutcomeOf N) → Follows reading holds folder path so names o → (modules : List (List ℕ)) → o ≡ fails modules
+        → Follows reading holds folder path so names (stops modules)
     follows_so _ _ _ _ (all_met path so) modules e = absurd (no_end _ modules e (λ x. x))
     follows_so _ _ _ _ (stopped path so name names d m) modules e = stopped path so name names (modules, Read file fault) (meets_so path so name (Err d) m modules e)
     follows_so _ _ _ _ (went_on path so next name names o m f) modules e = went_on path so next name names (stops modules) m (follows_so path next names o f modules e)
 
-    visits_so : (path : List (List ℕ)) (so : SoFar) (name : List ℕ) (o : Outcome) → Visits holds folder path so name o → (modules : List (List ℕ)) → o ≡ fails modules
-        → Visits holds folder path so name (stops modules)
+    visits_so : (path : List (List ℕ)) (so : Gathered N) (name : List ℕ) (o : OutcomeOf N) → Visits reading holds folder path so name o → (modules : List (List ℕ)) → o ≡ fails modules
+        → Visits reading holds folder path so name (stops modules)
     visits_so _ _ _ _ (is_refused path so name why r) modules e =
         let same : (so.modules ++ name ∷ [], why) ≡ (modules, Read file Failed) = err_same _ _ _ _ refl refl e in
-        subst (λ (ms : List (List ℕ)). Visits holds folder path so name (stops ms)) (ap (λ x. x.0) same)
+        subst (λ (ms : List (List ℕ)). Visits reading holds folder path so name (stops ms)) (ap (λ x. x.0) same)
         (is_refused path so name (Read file fault) (refuses_so (length so.modules) name why r (ap (λ x. x.1) same)))
-    visits_so _ _ _ _ (stopped_below path so name m d i f) modules e =
-        stopped_below path so name m (modules, Read file fault) i (follows_so (path ++ name ∷ []) (with_module so name) m.extends (Err d) f modules e)
-    visits_so _ _ _ _ (is_whole path so below name m i f) modules e = absurd (no_end _ modules e (λ x. x))
+    visits_so _ _ _ _ (stopped_below path so name m notes d i f) modules e =
+        stopped_below path so name m notes (modules, Read file fault) i (follows_so (path ++ name ∷ []) (with_module so name) m.extends (Err d) f modules e)
+    visits_so _ _ _ _ (is_whole path so below name m notes i f) modules e = absurd (no_end _ modules e (λ x. x))
 
-  pub flattening_so : (name : List ℕ) (modules : List (List ℕ)) → Flattened holds folder name (fails modules) → Flattened holds folder name (stops modules)
+  pub flattening_so : (name : List ℕ) (modules : List (List ℕ)) → FlattenedBy reading holds folder name (fails modules) → FlattenedBy reading holds folder name (stops modules)
   flattening_so name modules h = visits_so [] nothing_read name (fails modules) h modules refl

@@ -3,12 +3,16 @@ ghost use Rattle.not_refused.specs.Laws.{GivenNotRefused, ReadNotRefused};
 use action_forms::form_laws;
 use alike_actions::alike_action_laws;
 use alike_logs::alike_logs_laws;
-use load_laws::{configuration_laws, load_laws};
+use load_laws::configuration_laws;
 use one_outcome::outcome_laws;
 use one_program::{no_refusal_laws, one_program_laws};
 use resolved_laws::resolved_laws;
 use sound_laws::{operator_law, sound_law};
 use state_files::state_laws;
+use wide_load_laws::wide_load_laws;
+use wide_modules::wide_program_laws;
+use wide_reading::passing_laws;
+use wide_trees::pruning_laws;
 
 /// Where files tell what they hold, a job that they give a specification and a log is not refused, nor, with the states of a file, one whose
 /// states are read.
@@ -18,8 +22,11 @@ pub fn not_refused_laws()
 {
     one_program_laws();
     no_refusal_laws();
-    load_laws();
+    wide_program_laws();
+    wide_load_laws();
     configuration_laws();
+    pruning_laws();
+    passing_laws();
     resolved_laws();
     outcome_laws();
     alike_action_laws();

@@ -25,9 +25,9 @@ use Rattle.tla_levels.specs.Givens.{constant_left, definition_left, fault_by, fi
 use Rattle.tla_levels.specs.Resolved.{IsNamed}
 use Rattle.alike_terms.specs.Alike.{Alike, AlikeRows}
 use Rattle.alike_terms.specs.Laws.{AreAny}
+use Rattle.alike_terms.proofs.Inverted.{same_level}
 use Rattle.alike_tables.specs.Places.{ValuesAre}
 use Rattle.alike_tables.proofs.ProgramNames.{there}
-use Rattle.alike_tables.proofs.Levelled.{term_level}
 use Rattle.alike_tables.proofs.Tabled.{meant_alike, tables_alike}
 
 -- values of constants, a table, and what is assumed
@@ -78,7 +78,7 @@ module _ (p : Program) (c : Config) where
       let x : IsTabled p c a.values a.number a.ops i d.0 = a.is.table.definitions i d.0 d.1 in
       let y : IsTabled p c b.values b.number b.ops i d.0 = b.is.table.definitions i d.0 d.1 in
       let h : Alike AreAny a.ops b.ops x.body y.body = there_shaped a b d.0.params d.0.body x.body y.body x.means y.means in
-      level_is a i d.0 x ∙ term_level AreAny a.ops b.ops x.body y.body h ∙ sym (level_is b i d.0 y)
+      level_is a i d.0 x ∙ same_level AreAny a.ops b.ops x.body y.body h ∙ sym (level_is b i d.0 y)
 
   -- what the configuration gives
 

@@ -3,24 +3,23 @@ use Rattle.std.proofs.Common.{◌≡◌, ◌∙◌, ℕ, List, [], ◌∷◌, �
 use Rattle.trace_base.specs.Device.{File}
 use Rattle.tla_ast.specs.declared.module.Declared.{Declared}
 use Rattle.tla_ast.specs.declared.module.Program.{Program}
-use Rattle.tla_ast.specs.Laid.{NeverBoth, OneLaid}
-use Rattle.tla_tokens.specs.Tokens.{OneOutcome}
 use Rattle.tla_modules.specs.declared.fault.LoadWhy.{LoadWhy}
 use Rattle.tla_modules.specs.declared.fault.LoadWhy.TheVariants.{Read, Lex, Lay, Parse, Cycle, TooMany, Twice, WrongName}
-use Rattle.tla_modules.specs.declared.so_far.SoFar.{SoFar}
-use Rattle.tla_modules.specs.Loads.{IsProgram, IsRefused, in_a_module, in_the_whole}
+use Rattle.tla_modules.specs.declared.notes.Noted.{Noted}
+use Rattle.tla_modules.specs.declared.so_far.Gathered.{Gathered}
+use Rattle.tla_modules.specs.Loads.{IsProgram, IsProgramBy, IsRefusedBy, in_a_module, in_the_whole}
+use Rattle.tla_modules.specs.Readings.{Reading}
+use Rattle.tla_modules.specs.Refusals.{strict}
 use Rattle.tla_modules.specs.Twice.{AreNew, Repeats, declared_as, declared_in, stands}
-use Rattle.tla_units.specs.LawsOfModules.{OneModule, ShallowNotRefused}
 use Rattle.wide_config.specs.Laws as read
-use Rattle.one_program.specs.Laws.{FlatteningMayStop, LoadingMayStop, MayStop, NoConfigurationRefused, NothingRepeats, OneFlattening}
+use Rattle.one_program.specs.AnyReading.{FlatteningMayStopBy, LoadingMayStopBy, NothingRepeatsBy}
+use Rattle.one_program.specs.Laws.{FlatteningMayStop, LoadingMayStop, MayStop, NoConfigurationRefused, NothingRepeats}
+use Rattle.one_program.specs.Readings.{IsReading}
 use Rattle.tla_modules.proofs.PathLaws.{path_same}
 use Rattle.one_program.proofs.Refused.{IsFound, IsOk, module_stop}
+use Rattle.one_program.proofs.Programs.{one_flattening_by}
 use Rattle.one_program.proofs.Spelling.{module_same}
 use Rattle.one_program.proofs.Stopping.{flattening_stops}
-
-pub flattening_may_stop : OneOutcome → OneLaid → NeverBoth → OneModule → ShallowNotRefused → FlatteningMayStop
-flattening_may_stop outcome laid never one deep files folder name all modules why h g =
-    flattening_stops (Some files) folder (module_same outcome laid one files folder) (module_stop outcome laid never one deep files folder) name all (modules, why) h g
 
 -- ---- names that are declared twice
 
@@ -41,23 +40,47 @@ no_repeat standard declared (Cycle names) n r = r
 no_repeat standard declared (TooMany name) n r = r
 no_repeat standard declared (WrongName name at) n r = r
 
-pub nothing_repeats : OneFlattening → NothingRepeats
-nothing_repeats flattening files folder name p all why h g r =
-    let same : h.all ≡ all = flattening files folder name h.all all h.flattened g in
-    no_repeat all.standard (declared_in all.units) why (subst (λ (v : SoFar). AreNew v.standard [] (declared_in v.units)) same h.names) r
+-- ---- any reading
 
--- ---- loading
+module _ {N : Type 0} (reading : Reading N) (is : IsReading reading) where
+  pub flattening_may_stop_by : FlatteningMayStopBy reading
+  flattening_may_stop_by files folder name all modules why h g =
+      flattening_stops reading (Some files) folder (module_same reading is.one files folder) (module_stop reading is files folder) name all (modules, why) h g
 
-refused_stops : FlatteningMayStop → NothingRepeats → (files : List File) (earlier later : ℕ) (folder name : List ℕ) (p : Program) (named : List (List ℕ)) (why : LoadWhy) → IsProgram (Some files) folder name p → IsRefused (Some files) earlier later folder name named why → MayStop why
-refused_stops stop new files earlier later folder name p _ _ h (in_a_module modules why flat caused) = stop files folder name h.all modules why h.flattened flat
-refused_stops stop new files earlier later folder name p _ _ h (in_the_whole all why flat r) = absurd (new files folder name p all why h flat r)
+  pub nothing_repeats_by : NothingRepeatsBy reading
+  nothing_repeats_by files folder name p notes all why h g r =
+      let same : h.all ≡ all = one_flattening_by reading is files folder name h.all all h.flattened g in
+      no_repeat all.standard (declared_in all.units) why (subst (λ (v : Gathered N). AreNew v.standard [] (declared_in v.units)) same h.names) r
 
-pub loading_may_stop : FlatteningMayStop → NothingRepeats → LoadingMayStop
-loading_may_stop stop new files before now earlier later path p named why h g =
-    let parts = path_same path h.0 g.0 h.1 g.1 h.2 g.2 in
-    let program : IsProgram (Some files) g.0 g.1 p =
-    subst (λ v. IsProgram (Some files) g.0 v p) parts.1 (subst (λ v. IsProgram (Some files) v h.1 p) parts.0 h.3) in
-    refused_stops stop new files earlier later g.0 g.1 p named why program g.3
+  refused_stops : (files : List File) (earlier later : ℕ) (folder name : List ℕ) (p : Program) (notes : List (Noted N)) (named : List (List ℕ)) (why : LoadWhy)
+      → IsProgramBy reading (Some files) folder name p notes → IsRefusedBy reading (Some files) earlier later folder name named why → MayStop why
+  refused_stops files earlier later folder name p notes _ _ h (in_a_module modules why flat caused) =
+      flattening_may_stop_by files folder name h.all modules why h.flattened flat
+  refused_stops files earlier later folder name p notes _ _ h (in_the_whole all why flat r) = absurd (nothing_repeats_by files folder name p notes all why h flat r)
+
+  pub loading_may_stop_by : LoadingMayStopBy reading
+  loading_may_stop_by files before now earlier later path l named why h g =
+      let parts = path_same path h.0 g.0 h.1 g.1 h.2 g.2 in
+      let program : IsProgramBy reading (Some files) g.0 g.1 l.program l.notes =
+      subst (λ v. IsProgramBy reading (Some files) g.0 v l.program l.notes) parts.1
+      (subst (λ v. IsProgramBy reading (Some files) v h.1 l.program l.notes) parts.0 h.3) in
+      refused_stops files earlier later g.0 g.1 l.program l.notes named why program g.3
+
+-- ---- read strictly
+
+module _ (is : IsReading strict) where
+  pub flattening_may_stop : FlatteningMayStop
+  flattening_may_stop files folder name all modules why h g = flattening_may_stop_by strict is files folder name all modules why h g
+
+  pub nothing_repeats : NothingRepeats
+  nothing_repeats files folder name p all why h g r = nothing_repeats_by strict is files folder name p [] all why h g r
+
+  pub loading_may_stop : LoadingMayStop
+  loading_may_stop files before now earlier later path p named why h g =
+      let parts = path_same path h.0 g.0 h.1 g.1 h.2 g.2 in
+      let program : IsProgram (Some files) g.0 g.1 p =
+      subst (λ v. IsProgram (Some files) g.0 v p) parts.1 (subst (λ v. IsProgram (Some files) v h.1 p) parts.0 h.3) in
+      refused_stops strict is files earlier later g.0 g.1 p [] named why program g.3
 
 pub no_configuration_refused : read.OneConfiguration → NoConfigurationRefused
 no_configuration_refused one wide file name text c why at h g = subst IsOk (one wide file name text (Ok c) (Err (why, at)) h g) tt

@@ -1,20 +1,18 @@
 -- Files that tell give one program, and a text one configuration.
-use Rattle.std.proofs.Common.{◌≡◌, ◌∙◌, ℕ, List, Some, Ok, refl, sym, ap, subst}
+use Rattle.std.proofs.Common.{◌≡◌, ◌∙◌, ℕ, List, [], Some, Ok, refl, sym, ap, subst}
 use Rattle.tla_ast.specs.declared.module.Program.{Program}
 use Rattle.tla_ast.specs.declared.module.Unit.{Unit as ModuleUnit}
-use Rattle.tla_ast.specs.Laid.{OneLaid}
-use Rattle.tla_tokens.specs.Tokens.{OneOutcome}
-use Rattle.tla_modules.specs.declared.so_far.SoFar.{SoFar}
-use Rattle.tla_modules.specs.Loads.{IsProgram, IsProgramOf}
-use Rattle.tla_units.specs.LawsOfModules.{OneModule}
+use Rattle.tla_modules.specs.declared.so_far.Gathered.{Gathered}
+use Rattle.tla_modules.specs.Loads.{IsProgram, IsProgramBy, IsProgramOf}
+use Rattle.tla_modules.specs.Readings.{Reading}
+use Rattle.tla_modules.specs.Refusals.{strict}
 use Rattle.wide_config.specs.Laws as read
+use Rattle.one_program.specs.AnyReading.{OneFlatteningBy, OneLoadingBy, OneProgramBy}
 use Rattle.one_program.specs.Laws.{OneConfiguration, OneFlattening, OneLoading, OneProgram}
+use Rattle.one_program.specs.Readings.{IsReading}
 use Rattle.one_program.proofs.Flattenings.{flattening_same}
 use Rattle.tla_modules.proofs.PathLaws.{path_same}
 use Rattle.one_program.proofs.Spelling.{module_same, ok_same}
-
-pub one_flattening : OneOutcome → OneLaid → OneModule → OneFlattening
-one_flattening outcome laid one files folder name a b h g = flattening_same (Some files) folder (module_same outcome laid one files folder) name a b h g
 
 same_program : (p q : Program) → p.files ≡ q.files → p.units ≡ q.units → p.standard ≡ q.standard → p ≡ q
 same_program p q files units standard =
@@ -23,13 +21,34 @@ same_program p q files units standard =
     let extending : List (List ℕ) → Program = λ v. record { files = q.files; units = q.units; standard = v } in
     ap filed files ∙ ap whole units ∙ ap extending standard
 
-of_same : (folder : List ℕ) (all : SoFar) (p q : Program) → IsProgramOf folder all p → IsProgramOf folder all q → p ≡ q
-of_same folder all p q h g = same_program p q (h.files ∙ sym g.files) (h.units ∙ sym g.units) (h.standard ∙ sym g.standard)
+module _ {N : Type 0} (reading : Reading N) (is : IsReading reading) where
+  pub one_flattening_by : OneFlatteningBy reading
+  one_flattening_by files folder name a b h g = flattening_same reading (Some files) folder (module_same reading is.one files folder) name a b h g
 
-pub one_program : OneFlattening → OneProgram
-one_program flattening files folder name p q h g =
-    let same : h.all ≡ g.all = flattening files folder name h.all g.all h.flattened g.flattened in
-    of_same folder g.all p q (subst (λ v. IsProgramOf folder v p) same h.program) g.program
+  of_same : (folder : List ℕ) (all : Gathered N) (p q : Program) → IsProgramOf folder all p → IsProgramOf folder all q → p ≡ q
+  of_same folder all p q h g = same_program p q (h.files ∙ sym g.files) (h.units ∙ sym g.units) (h.standard ∙ sym g.standard)
+
+  pub one_program_by : OneProgramBy reading
+  one_program_by files folder name p q notes others h g =
+      let same : h.all ≡ g.all = one_flattening_by files folder name h.all g.all h.flattened g.flattened in (
+        of_same folder g.all p q (subst (λ (v : Gathered N). IsProgramOf folder v p) same h.program) g.program,
+        h.noted ∙ ap (λ (v : Gathered N). v.notes) same ∙ sym g.noted,
+      )
+
+  pub one_loading_by : OneLoadingBy reading
+  one_loading_by files before now earlier later path l k h g =
+      let parts = path_same path h.0 g.0 h.1 g.1 h.2 g.2 in
+      one_program_by files g.0 g.1 l.program k.program l.notes k.notes
+      (subst (λ v. IsProgramBy reading (Some files) g.0 v l.program l.notes) parts.1
+      (subst (λ v. IsProgramBy reading (Some files) v h.1 l.program l.notes) parts.0 h.3)) g.3
+
+-- ---- read strictly
+
+pub one_flattening : OneFlatteningBy strict → OneFlattening
+one_flattening one files folder name a b h g = one files folder name a b h g
+
+pub one_program : OneProgramBy strict → OneProgram
+one_program one files folder name p q h g = (one files folder name p q [] [] h g).0
 
 pub one_loading : OneProgram → OneLoading
 one_loading program files before now earlier later path p q h g =

@@ -10,11 +10,13 @@ use Rattle.tla_tokens.specs.Tokens.{OneOutcome}
 use Rattle.tla_modules.specs.declared.fault.LoadWhy.{LoadWhy}
 use Rattle.tla_modules.specs.declared.fault.LoadWhy.TheVariants.{Read, Lex, Lay, Parse, Cycle, TooMany, Twice, WrongName}
 use Rattle.tla_modules.specs.Paths.{file_of}
-use Rattle.tla_modules.specs.Refusals.{IsModule, IsText, IsUnread, LaidAs, Misspells, Refuses, RefusesBytes, SpelledBy, misnamed, misspelled, module_limit, not_good, not_read}
+use Rattle.tla_modules.specs.Readings.{Reading}
+use Rattle.tla_modules.specs.Refusals.{IsModule, IsText, IsUnread, LaidAs, Misspells, Refuses, RefusesBytes, SpelledBy, misnamed, misspelled, module_limit, not_good, not_read, strict}
 use Rattle.tla_units.specs.LawsOfModules.{OneModule, ShallowNotRefused}
 use Rattle.tla_units.specs.Refusals.{ShallowWholeModule}
 use Rattle.one_program.specs.Laws.{MayStop}
-use Rattle.one_program.proofs.Spelling.{laid_same, ok_same, spelled_same, text_same}
+use Rattle.one_program.specs.Readings.{IsReading}
+use Rattle.one_program.proofs.Spelling.{laid_same, ok_same, strict_one, text_same}
 use Rattle.one_program.proofs.Texts.{refused_never}
 
 abbrev pub IsFound : {A : Type 0} → Option A → Type 0
@@ -34,30 +36,43 @@ read_stop files file bytes TooLong t u =
     absurd (omega (arith, long, t.short))
 read_stop files file bytes NoMemory t u = absurd u
 
-module _ (outcome : OneOutcome) (laid : OneLaid) (never : NeverBoth) (one : OneModule) (deep : ShallowNotRefused) where
-  left_never : (number : ℕ) (bytes : List ℕ) (m : Module) (why : LoadWhy) → SpelledBy number bytes m → Misspells number bytes why → MayStop why
-  left_never number bytes m (Lex why at) s w = subst IsOk (outcome true number bytes (Ok s.laid_as.tokens) (Err (why, at)) s.laid_as.lexed w) tt
-  left_never number bytes m (Lay at) s w =
+-- ---- the strict reading
+
+module _ (outcome : OneOutcome) (laid : OneLaid) (never : NeverBoth) (deep : ShallowNotRefused) where
+  pub spelled_never : (number : ℕ) (bytes : List ℕ) (m : Module) (why : LoadWhy) → SpelledBy number bytes m → Misspells number bytes why → ⊥
+  spelled_never number bytes m (Lex why at) s w = subst IsOk (outcome true number bytes (Ok s.laid_as.tokens) (Err (why, at)) s.laid_as.lexed w) tt
+  spelled_never number bytes m (Lay at) s w =
       let a : LaidAs number bytes s.laid = s.laid_as in
       let same : a.tokens ≡ w.0 = ok_same a.tokens w.0 (Ok a.tokens) refl (outcome true number bytes (Ok a.tokens) (Ok w.0) a.lexed w.1) in
       never w.0 s.laid at (subst (λ v. IsLaid v s.laid) same a.marked) w.2
-  left_never number bytes m (Parse fault) s w =
+  spelled_never number bytes m (Parse fault) s w =
       let same : s.laid ≡ w.0 = laid_same outcome laid number bytes s.laid w.0 s.laid_as w.1 in
       refused_never deep m w.0 fault (subst (SpellsModule m) same s.spells) (subst (λ v. ShallowWholeModule v) same s.shallow) w.2.0 w.2.1
-  left_never number bytes m (Read file fault) s w = absurd w
-  left_never number bytes m (Cycle names) s w = absurd w
-  left_never number bytes m (TooMany name) s w = absurd w
-  left_never number bytes m (Twice name later earlier) s w = absurd w
-  left_never number bytes m (WrongName name at) s w = absurd w
+  spelled_never number bytes m (Read file fault) s w = w
+  spelled_never number bytes m (Cycle names) s w = w
+  spelled_never number bytes m (TooMany name) s w = w
+  spelled_never number bytes m (Twice name later earlier) s w = w
+  spelled_never number bytes m (WrongName name at) s w = w
 
-  bytes_stop : (number : ℕ) (bytes name : List ℕ) (m : Module) (why : LoadWhy) → SpelledBy number bytes m → m.name ≡ name → RefusesBytes number bytes name why → MayStop why
-  bytes_stop number bytes name m _ s e (misspelled why w) = left_never number bytes m why s w
-  bytes_stop number bytes name m _ s e (misnamed n t other) =
-      let same : n ≡ m = spelled_same outcome laid one number bytes n m t s in
-      absurd (other (ap (λ (v : Module). v.name) same ∙ e))
+pub strict_is_reading : OneOutcome → OneLaid → NeverBoth → OneModule → ShallowNotRefused → IsReading strict
+strict_is_reading outcome laid never one deep = record {
+  one = strict_one outcome laid one;
+  never = λ number bytes m notes why s w. spelled_never outcome laid never deep number bytes m why s.0 w;
+}
 
-  pub module_stop : (files : List File) (folder : List ℕ) (number : ℕ) (name : List ℕ) (m : Module) (why : LoadWhy) → IsModule (Some files) folder number name m → Refuses (Some files) folder number name why → MayStop why
-  module_stop files folder number name m _ i (not_read fault u) = read_stop files (file_of folder name) i.bytes fault i.text u
-  module_stop files folder number name m _ i (not_good bytes why t r) =
+-- ---- any reading
+
+module _ {N : Type 0} (reading : Reading N) (is : IsReading reading) where
+  bytes_stop : (number : ℕ) (bytes name : List ℕ) (m : Module) (notes : List N) (why : LoadWhy) → reading.Spells number bytes m notes → m.name ≡ name
+      → RefusesBytes reading number bytes name why → MayStop why
+  bytes_stop number bytes name m notes _ s e (misspelled why w) = absurd (is.never number bytes m notes why s w)
+  bytes_stop number bytes name m notes _ s e (misnamed n others t other) =
+      let same = is.one number bytes n m others notes t s in
+      absurd (other (ap (λ (v : Module). v.name) same.0 ∙ e))
+
+  pub module_stop : (files : List File) (folder : List ℕ) (number : ℕ) (name : List ℕ) (m : Module) (notes : List N) (why : LoadWhy)
+      → IsModule reading (Some files) folder number name m notes → Refuses reading (Some files) folder number name why → MayStop why
+  module_stop files folder number name m notes _ i (not_read fault u) = read_stop files (file_of folder name) i.bytes fault i.text u
+  module_stop files folder number name m notes _ i (not_good bytes why t r) =
       let same : i.bytes ≡ bytes = text_same files (file_of folder name) i.bytes bytes i.text.whole t.whole in
-      bytes_stop number bytes name m why (subst (λ v. SpelledBy number v m) same i.spelled) i.named r
+      bytes_stop number bytes name m notes why (subst (λ v. reading.Spells number v m notes) same i.spelled) i.named r

@@ -6,9 +6,11 @@ use Rattle.tla_ast.specs.declared.module.Module.{Module}
 use Rattle.tla_ast.specs.Laid.{IsLaid, OneLaid}
 use Rattle.tla_ast.specs.Modules.{SpellsModule}
 use Rattle.tla_tokens.specs.Tokens.{OneOutcome}
-use Rattle.tla_modules.specs.Refusals.{IsModule, LaidAs, SpelledBy}
+use Rattle.tla_modules.specs.Readings.{Reading}
+use Rattle.tla_modules.specs.Refusals.{IsModule, LaidAs, SpelledBy, strict}
 use Rattle.tla_units.specs.LawsOfModules.{OneModule}
 use Rattle.one_program.specs.Laws.{OneText}
+use Rattle.one_program.specs.Readings.{IsOne}
 
 abbrev some_or : {A : Type 0} → A → Option A → A
 some_or a None = a
@@ -37,7 +39,12 @@ spelled_same outcome laid one number bytes m n h g =
     let same : h.laid ≡ g.laid = laid_same outcome laid number bytes h.laid g.laid h.laid_as g.laid_as in
     one g.laid m n (subst (SpellsModule m) same h.spells) g.spells
 
-pub module_same : OneOutcome → OneLaid → OneModule → (files : List File) (folder : List ℕ) (number : ℕ) (name : List ℕ) (m n : Module) → IsModule (Some files) folder number name m → IsModule (Some files) folder number name n → m ≡ n
-module_same outcome laid one files folder number name m n h g =
+pub strict_one : OneOutcome → OneLaid → OneModule → IsOne strict
+strict_one outcome laid one number bytes m n notes others h g = (spelled_same outcome laid one number bytes m n h.0 g.0, h.1 ∙ sym g.1)
+
+-- a file gives one module
+pub module_same : {N : Type 0} (reading : Reading N) → IsOne reading → (files : List File) (folder : List ℕ) (number : ℕ) (name : List ℕ) (m n : Module) (notes others : List N)
+    → IsModule reading (Some files) folder number name m notes → IsModule reading (Some files) folder number name n others → (m ≡ n) × (notes ≡ others)
+module_same reading one files folder number name m n notes others h g =
     let bytes : h.bytes ≡ g.bytes = text_same files _ h.bytes g.bytes h.text.whole g.text.whole in
-    spelled_same outcome laid one number g.bytes m n (subst (λ v. SpelledBy number v m) bytes h.spelled) g.spelled
+    one number g.bytes m n notes others (subst (λ v. reading.Spells number v m notes) bytes h.spelled) g.spelled

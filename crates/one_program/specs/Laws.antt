@@ -10,8 +10,7 @@ use Rattle.wide_config.specs.Wide.{ReadsBy}
 use Rattle.tla_modules.specs.declared.fault.LoadFault.TheVariants.{Refused}
 use Rattle.tla_modules.specs.declared.fault.LoadWhy.{LoadWhy}
 use Rattle.tla_modules.specs.declared.fault.LoadWhy.TheVariants.{Read, Lex, Lay, Parse, Cycle, TooMany, Twice, WrongName}
-use Rattle.tla_modules.specs.declared.so_far.SoFar.{SoFar}
-use Rattle.tla_modules.specs.Flattened.{Flattened}
+use Rattle.tla_modules.specs.Flattened.{Flattened, SoFar}
 use Rattle.tla_modules.specs.Loads.{IsProgram, Loads}
 use Rattle.tla_modules.specs.Paths.{IsPath}
 use Rattle.tla_modules.specs.Twice.{declared_in, Repeats}

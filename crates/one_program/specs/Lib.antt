@@ -1,1 +1,3 @@
+pub mod AnyReading
 pub mod Laws
+pub mod Readings

@@ -1,9 +1,37 @@
+ghost use Rattle.one_program.specs.AnyReading.{FlatteningMayStopBy, LoadingMayStopBy, NothingRepeatsBy, OneFlatteningBy, OneLoadingBy, OneProgramBy};
 ghost use Rattle.one_program.specs.Laws.{FlatteningMayStop, LoadingMayStop, NoConfigurationRefused, NothingRepeats, OneConfiguration, OneFlattening, OneLoading, OnePath, OneProgram, OneText};
+ghost use Rattle.one_program.specs.Readings.{IsReading};
+ghost use Rattle.tla_modules.specs.Refusals.{strict};
 
 use tla_ast::laws_of_laid;
+use tla_modules::ModuleReader;
 use tla_tokens::one_outcome;
 use tla_units::{one_module, shallow_not_refused};
 use wide_config::one_configuration_by;
+
+/// Read strictly, a text spells one module, and one that spells a module is not refused.
+pub fn strict_laws()
+    ensures { IsReading strict }
+{
+    one_outcome();
+    laws_of_laid();
+    one_module();
+    shallow_not_refused();
+}
+
+/// Where a text spells one module and is not refused beside it, files that tell give one list of modules, and one program with the same notes;
+/// and their reading is refused beside it only where a read failed.
+pub fn reader_laws<R: ModuleReader>(reader: &R)
+    requires { IsReading (R.reading reader.now) }
+    ensures flattening { OneFlatteningBy (R.reading reader.now) }
+    ensures program { OneProgramBy (R.reading reader.now) }
+    ensures loading { OneLoadingBy (R.reading reader.now) }
+    ensures may_stop { FlatteningMayStopBy (R.reading reader.now) }
+    ensures repeats { NothingRepeatsBy (R.reading reader.now) }
+    ensures loading_may_stop { LoadingMayStopBy (R.reading reader.now) }
+{
+    let _reader = reader;
+}
 
 /// A path names one folder and one main module. Files that tell have one text of each name, and give one list of modules, one program of a
 /// main module and one of a path. A text gives one configuration.
@@ -15,9 +43,7 @@ pub fn one_program_laws()
     ensures loading { OneLoading }
     ensures configuration { OneConfiguration }
 {
-    one_outcome();
-    laws_of_laid();
-    one_module();
+    strict_laws();
     one_configuration_by();
 }
 
@@ -28,9 +54,6 @@ pub fn no_refusal_laws()
     ensures loading { LoadingMayStop }
     ensures configuration { NoConfigurationRefused }
 {
-    one_outcome();
-    laws_of_laid();
-    one_module();
-    shallow_not_refused();
+    strict_laws();
     one_configuration_by();
 }

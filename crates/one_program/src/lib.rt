@@ -3,4 +3,4 @@
 
 mod laws;
 
-pub use laws::{no_refusal_laws, one_program_laws};
+pub use laws::{no_refusal_laws, one_program_laws, reader_laws, strict_laws};

@@ -1,4 +1,6 @@
 pub mod Outcomes
 pub mod Stages
+pub mod Passing
 pub mod SameLogs
 pub mod OneReading
+pub mod StrictStays

@@ -1,19 +1,28 @@
 -- Two readings of the same files come to the same.
-use Rattle.std.proofs.Common.{◌≡◌, ◌⊎◌, ℕ, List, [], length, Some, Result, Ok, inl, inr, refl, sym, ◌∙◌, subst, arith}
+use Rattle.std.proofs.Common.{◌≡◌, ◌⊎◌, ℕ, List, [], length, map, Some, Result, Ok, Err, inl, inr, refl, sym, ◌∙◌, subst, arith}
+use Rattle.std.specs.Prelude.{Bool, true}
 use Rattle.trace_base.specs.Device.{File}
 use Rattle.tla_ast.specs.declared.config.Config.{Config}
 use Rattle.tla_ast.specs.declared.module.Program.{Program}
 use Rattle.wide_config.specs.Wide.{ReadsBy}
-use Rattle.tla_modules.specs.Loads.{IsProgram}
+use Rattle.tla_modules.specs.declared.notes.Noted.{Noted}
+use Rattle.tla_modules.specs.Loads.{IsProgramBy}
 use Rattle.tla_modules.specs.Paths.{IsPath}
+use Rattle.wide_modules.specs.declared.unread.Unread.{Unread}
+use Rattle.wide_modules.specs.Laws.{OneWideProgram, told}
+use Rattle.wide_modules.specs.Wide.{reading_by}
 use Rattle.tla_core.specs.declared.state.Shown.{Shown}
 use Rattle.tla_terms.specs.declared.spec.Spec.{Spec}
 use Rattle.tla_levels.specs.Resolved.{IsOneForm}
 use Rattle.tla_levels.specs.declared.fault.ResolveFault.{ResolveFault}
 use Rattle.specification_names.specs.Resolving.{ResolvedBy}
 use Rattle.specification_names.proofs.Readings.{resolved_with}
-use Rattle.load_laws.specs.Loaded.{ConfigurationsHaveOneForm, LoadedAreWellFormed, PlainHasOneForm}
-use Rattle.resolved_laws.specs.InOrder.{ResolvedAreInOrder}
+use Rattle.load_laws.specs.AnyReading.{LoadedAreWellFormedBy}
+use Rattle.load_laws.specs.Loaded.{ConfigurationsHaveOneForm, PlainHasOneForm}
+use Rattle.resolved_laws.specs.InOrder.{IsWellFormed, ResolvedAreInOrder}
+use Rattle.wide_trees.specs.Laws.{OneAlone, OnePruned}
+use Rattle.wide_reading.specs.Laws.{PassedAreWellFormed, PassedHaveOneForm}
+use Rattle.wide_reading.specs.Passing.{Passes}
 use Rattle.spec_laws.specs.IsSpec.{IsSpec}
 use Rattle.one_outcome.specs.Laws.{HasOneOutcome}
 use Rattle.one_outcome.specs.Outcome.{AreAlike}
@@ -24,12 +33,14 @@ use Rattle.state_files.specs.declared.refusal.StateRefusal.{StateRefusal}
 use Rattle.alike_logs.specs.Laws.{FilesSayAlike, LogsAreAlike}
 use Rattle.run_words.specs.declared.job.Job.{Job}
 use Rattle.run_reading.specs.Texts.{config_limit}
-use Rattle.run_reading.specs.Reaches.{AllRead, Reaches, configured, resolved}
+use Rattle.run_reading.specs.Reaches.{AllRead, Reaches, configured, given, loaded, resolved}
 use Rattle.run_reading.specs.Given.{AllGiven, states_limit}
 use Rattle.one_reading.specs.Laws.{AreSame, GivenIsOne, ReadingIsOne}
-use Rattle.one_program.specs.Laws.{OneConfiguration, OnePath, OneProgram}
+use Rattle.one_program.specs.Laws.{OneConfiguration, OnePath}
+use Rattle.one_program.specs.Readings.{noted_by}
 use Rattle.one_reading.proofs.Outcomes.{one_outcome_by}
-use Rattle.one_reading.proofs.Stages.{LoadedBy, WithText, WithoutText, configured_by, counted, loaded_by, logged_from, none_is_some, resolved_by, some_is}
+use Rattle.one_reading.proofs.Passing.{PassingParts, one_passing, passes_same}
+use Rattle.one_reading.proofs.Stages.{ConfiguredBy, LoadedBy, WithText, WithoutText, configured_by, counted, given_by, loaded_by, logged_from, none_is_some, resolved_by, some_is}
 use Rattle.one_reading.proofs.SameLogs.{AreAlikeReads, one_text, same_logs}
 
 ok_is : (w v : List Shown) (r q : Result (List Shown) StateRefusal) → r ≡ Ok w → q ≡ Ok v → r ≡ q → w ≡ v
@@ -38,9 +49,13 @@ ok_is w v r q a b e = cc
 -- What is known of the parts of reading.
 pub record Parts : Type 0 where
   pub path : OnePath
-  pub program : OneProgram
+  pub program : OneWideProgram
   pub configuration : OneConfiguration
-  pub well_formed : LoadedAreWellFormed
+  pub well_formed : (word : Bool) → LoadedAreWellFormedBy (reading_by word)
+  pub pruned : OnePruned
+  pub alone : OneAlone
+  pub passed : PassedAreWellFormed
+  pub passed_form : PassedHaveOneForm
   pub in_order : ResolvedAreInOrder
   pub form : ConfigurationsHaveOneForm
   pub plain_form : PlainHasOneForm
@@ -49,18 +64,30 @@ pub record Parts : Type 0 where
   pub logs : LogsAreAlike
   pub states : StateFileSaysOne
 
+pub passing_parts : Parts → PassingParts
+passing_parts known = record {
+  never = λ p c silent form s fault is refused. one_outcome_by known.outcome true p c silent form (Ok s) (Err fault) is refused;
+  pruned = known.pruned;
+  alone = known.alone;
+}
+
 module _ (known : Parts) (files : List File) (job : Job) where
   abbrev Comes : Program → Config → Spec → Type 0
   Comes p c s = Reaches (Some files) job (resolved p c s)
 
-  -- a program is that of every folder and name that the path has
-  pub program_of : (folder name : List ℕ) (p : Program) → IsPath job.module folder name → LoadedBy (Some files) job p → IsProgram (Some files) folder name p
-  program_of folder name p path by =
-      let same = known.path job.module by.0 folder by.1 name by.2 path in
-      subst (λ (x : List ℕ). IsProgram (Some files) folder x p) same.1 (subst (λ (x : List ℕ). IsProgram (Some files) x by.1 p) same.0 by.3)
+  abbrev pub ProgramOf : List ℕ → List ℕ → Program → List (Noted Unread) → Type 0
+  ProgramOf folder name p unread = IsProgramBy (reading_by job.wide) (Some files) folder name p unread
 
-  pub same_program : (p q : Program) → LoadedBy (Some files) job p → LoadedBy (Some files) job q → p ≡ q
-  same_program p q a b = known.program files b.0 b.1 p q (program_of b.0 b.1 p b.2 a) b.3
+  -- a program is that of every folder and name that the path has
+  pub program_of : (folder name : List ℕ) (p : Program) (unread : List (Noted Unread)) → IsPath job.module folder name → LoadedBy (Some files) job p unread → ProgramOf folder name p unread
+  program_of folder name p unread path by =
+      let same = known.path job.module by.0 folder by.1 name by.2 path in
+      subst (λ (x : List ℕ). ProgramOf folder x p unread) same.1 (subst (λ (x : List ℕ). ProgramOf x by.1 p unread) same.0 by.3)
+
+  -- one program, and of its pieces that were not read the same is told
+  pub same_program : (p q : Program) (unread others : List (Noted Unread)) → LoadedBy (Some files) job p unread → LoadedBy (Some files) job q others
+      → (p ≡ q) × (map (noted_by told) unread ≡ map (noted_by told) others)
+  same_program p q unread others a b = known.program job.wide files b.0 b.1 p q unread others (program_of b.0 b.1 p unread b.2 a) b.3
 
   abbrev pub Given : Program → Config → Type 0
   Given p c = WithoutText (Some files) job c ⊎ WithText (Some files) job p c
@@ -83,12 +110,47 @@ module _ (known : Parts) (files : List File) (job : Job) where
   one_form p c (inl a) = subst (λ (x : Config). IsOneForm x) (sym a.1) known.plain_form
   one_form p c (inr a) = known.form job.wide (length p.files) a.0 a.1 c a.4
 
+  well_formed : (p : Program) (unread : List (Noted Unread)) → Reaches (Some files) job (loaded p unread) → IsWellFormed p
+  well_formed p unread reaches =
+      known.well_formed job.wide (Some files) 0 0 job.module (record { program = p; notes = unread }) (loaded_by (Some files) job p unread reaches)
+
+  configured_well_formed : (q : Program) (d : Config) → Reaches (Some files) job (configured q d) → IsWellFormed q
+  configured_well_formed q d reaches =
+      let by : ConfiguredBy (Some files) job q d = configured_by (Some files) job q d reaches in
+      known.passed job.wide by.program q by.config d job.silent by.unread by.passed
+      (well_formed by.program by.unread (given_by (Some files) job by.program by.unread by.config by.reaches).0)
+
   pub in_order : (p : Program) (c : Config) (s : Spec) → Comes p c s → IsSpec s
   in_order p c s reaches =
       let r = resolved_by (Some files) job p c s reaches in
-      let by = loaded_by (Some files) job p (configured_by (Some files) job p c r.0).0 in
       let with = resolved_with job.wide p c job.silent s r.1 in
-      known.in_order p with.config job.silent s (known.well_formed (Some files) 0 0 job.module p (by.0, by.1, by.2, by.3)) with.is
+      known.in_order p with.config job.silent s (configured_well_formed p c r.0) with.is
+
+  -- what the texts give: the programs, what is told of pieces that were not read, and the configurations
+  pub record AreGiven (p q : Program) (unread others : List (Noted Unread)) (c d : Config) : Type 0 where
+    pub programs : p ≡ q
+    pub pieces : map (noted_by told) unread ≡ map (noted_by told) others
+    pub configurations : c ≡ d
+
+  pub given_same : (p q : Program) (unread others : List (Noted Unread)) (c d : Config) → Reaches (Some files) job (given p unread c) → Reaches (Some files) job (given q others d)
+      → AreGiven p q unread others c d
+  given_same p q unread others c d a b =
+      let left = given_by (Some files) job p unread c a in
+      let right = given_by (Some files) job q others d b in
+      let same = same_program p q unread others (loaded_by (Some files) job p unread left.0) (loaded_by (Some files) job q others right.0) in
+      let there : Given p d = subst (λ (x : Program). Given x d) (sym same.0) right.1 in
+      record { programs = same.0; pieces = same.1; configurations = same_configuration p c d left.1 there }
+
+  pub given_form : (p : Program) (unread : List (Noted Unread)) (c : Config) → Reaches (Some files) job (given p unread c) → IsOneForm c
+  given_form p unread c reaches = one_form p c (given_by (Some files) job p unread c reaches).1
+
+  -- what is passed over of the same
+  pub passed_there : (p q r : Program) (unread others : List (Noted Unread)) (c d e : Config) → AreGiven p q unread others c d → Passes q d job.silent others job.wide r e
+      → Passes p c job.silent unread job.wide r e
+  passed_there p q r unread others c d e same h =
+      let program : Passes p d job.silent others job.wide r e = subst (λ (x : Program). Passes x d job.silent others job.wide r e) (sym same.programs) h in
+      let both : Passes p c job.silent others job.wide r e = subst (λ (x : Config). Passes p x job.silent others job.wide r e) (sym same.configurations) program in
+      passes_same p c job.silent others unread (sym same.pieces) job.wide r e both
 
   -- the programs and the configurations
   pub record AreConfigured (p q : Program) (c d : Config) : Type 0 where
@@ -97,11 +159,14 @@ module _ (known : Parts) (files : List File) (job : Job) where
 
   pub configured_same : (p q : Program) (c d : Config) → Reaches (Some files) job (configured p c) → Reaches (Some files) job (configured q d) → AreConfigured p q c d
   configured_same p q c d a b =
-      let left = configured_by (Some files) job p c a in
-      let right = configured_by (Some files) job q d b in
-      let programs : p ≡ q = same_program p q (loaded_by (Some files) job p left.0) (loaded_by (Some files) job q right.0) in
-      let given : Given p d = subst (λ (x : Program). Given x d) (sym programs) right.1 in
-      record { programs = programs; configurations = same_configuration p c d left.1 given }
+      let left : ConfiguredBy (Some files) job p c = configured_by (Some files) job p c a in
+      let right : ConfiguredBy (Some files) job q d = configured_by (Some files) job q d b in
+      let same : AreGiven left.program right.program left.unread right.unread left.config right.config =
+      given_same left.program right.program left.unread right.unread left.config right.config left.reaches right.reaches in
+      let there = passed_there left.program right.program q left.unread right.unread left.config right.config d same right.passed in
+      let one = one_passing (passing_parts known) left.program left.config job.silent (given_form left.program left.unread left.config left.reaches) left.unread
+      job.wide p q c d left.passed there in
+      record { programs = one.0; configurations = one.1 }
 
   -- what is resolved of the same
   pub resolved_there : (p q : Program) (c d : Config) (r : Result Spec ResolveFault) → AreConfigured p q c d → ResolvedBy job.wide q d job.silent r → ResolvedBy job.wide p c job.silent r
@@ -109,7 +174,9 @@ module _ (known : Parts) (files : List File) (job : Job) where
       subst (λ (x : Config). ResolvedBy job.wide p x job.silent r) (sym same.configurations) (subst (λ (x : Program). ResolvedBy job.wide x d job.silent r) (sym same.programs) h)
 
   pub form_is_one : (p : Program) (c : Config) → Reaches (Some files) job (configured p c) → IsOneForm c
-  form_is_one p c reaches = one_form p c (configured_by (Some files) job p c reaches).1
+  form_is_one p c reaches =
+      let by : ConfiguredBy (Some files) job p c = configured_by (Some files) job p c reaches in
+      known.passed_form job.wide by.program p by.config c job.silent by.unread by.passed (given_form by.program by.unread by.config by.reaches)
 
   -- the programs, the configurations and the specifications
   pub record AreBegun (p q : Program) (c d : Config) (s t : Spec) : Type 0 where

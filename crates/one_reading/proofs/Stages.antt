@@ -4,15 +4,19 @@ use Rattle.std.specs.Prelude.{drop}
 use Rattle.trace_base.specs.Device.{File}
 use Rattle.tla_ast.specs.declared.config.Config.{Config}
 use Rattle.tla_ast.specs.declared.module.Program.{Program}
-use Rattle.tla_modules.specs.Loads.{IsProgram}
+use Rattle.tla_modules.specs.declared.notes.Noted.{Noted}
+use Rattle.tla_modules.specs.Loads.{IsProgramBy}
 use Rattle.tla_modules.specs.Paths.{IsPath}
 use Rattle.wide_config.specs.Wide.{ReadsBy}
+use Rattle.wide_modules.specs.declared.unread.Unread.{Unread}
+use Rattle.wide_modules.specs.Wide.{reading_by}
 use Rattle.tla_terms.specs.declared.spec.Spec.{Spec}
 use Rattle.specification_names.specs.Resolving.{ResolvedBy}
+use Rattle.wide_reading.specs.Passing.{Passes}
 use Rattle.log_lines.specs.declared.file.FileLines.{FileLines}
 use Rattle.run_words.specs.declared.job.Job.{Job}
 use Rattle.run_reading.specs.Texts.{HasText, LogsRead, config_limit, no_logs, with_log, without_file}
-use Rattle.run_reading.specs.Reaches.{IsLog, LogSays, Reaches, configured, has_forms, loaded, loads, logged, needs_no_configuration, reads_configuration, reads_log, resolved, resolves}
+use Rattle.run_reading.specs.Reaches.{IsLog, LogSays, Reaches, configured, given, has_forms, loaded, loads, logged, needs_no_configuration, passes, reads_configuration, reads_log, resolved, resolves}
 
 pub some_is : {A : Type 0} (a b : A) → Some a ≡ Some b → a ≡ b
 some_is a b e = cc
@@ -39,11 +43,11 @@ pub one_longer : (fs : List FileLines) (f : FileLines) → length (fs ++ f ∷ [
 one_longer fs f = omega (arith, length-append fs (f ∷ []))
 
 module _ (holds : Option (List File)) (job : Job) where
-  abbrev pub LoadedBy : Program → Type 0
-  LoadedBy p = (folder : List ℕ) × (name : List ℕ) × IsPath job.module folder name × IsProgram holds folder name p
+  abbrev pub LoadedBy : Program → List (Noted Unread) → Type 0
+  LoadedBy p unread = (folder : List ℕ) × (name : List ℕ) × IsPath job.module folder name × IsProgramBy (reading_by job.wide) holds folder name p unread
 
-  pub loaded_by : (p : Program) → Reaches holds job (loaded p) → LoadedBy p
-  loaded_by _ (loads folder name p path is) = (folder, name, path, is)
+  pub loaded_by : (p : Program) (unread : List (Noted Unread)) → Reaches holds job (loaded p unread) → LoadedBy p unread
+  loaded_by _ _ (loads folder name p unread path is) = (folder, name, path, is)
 
   abbrev pub WithoutText : Config → Type 0
   WithoutText c = (job.config ≡ None) × (c ≡ without_file)
@@ -51,9 +55,20 @@ module _ (holds : Option (List File)) (job : Job) where
   abbrev pub WithText : Program → Config → Type 0
   WithText p c = (name : List ℕ) × (text : List ℕ) × (job.config ≡ Some name) × HasText holds name config_limit text × ReadsBy job.wide (length p.files) name text (Ok c)
 
-  pub configured_by : (p : Program) (c : Config) → Reaches holds job (configured p c) → Reaches holds job (loaded p) × (WithoutText c ⊎ WithText p c)
-  configured_by _ _ (needs_no_configuration p reaches none) = (reaches, inl (none, refl))
-  configured_by _ _ (reads_configuration p name text c reaches some has reads) = (reaches, inr (name, text, some, has, reads))
+  pub given_by : (p : Program) (unread : List (Noted Unread)) (c : Config) → Reaches holds job (given p unread c) → Reaches holds job (loaded p unread) × (WithoutText c ⊎ WithText p c)
+  given_by _ _ _ (needs_no_configuration p unread reaches none) = (reaches, inl (none, refl))
+  given_by _ _ _ (reads_configuration p unread name text c reaches some has reads) = (reaches, inr (name, text, some, has, reads))
+
+  -- the texts of which it is what is left
+  pub record ConfiguredBy (q : Program) (d : Config) : Type 0 where
+    pub program : Program
+    pub unread : List (Noted Unread)
+    pub config : Config
+    pub reaches : Reaches holds job (given program unread config)
+    pub passed : Passes program config job.silent unread job.wide q d
+
+  pub configured_by : (q : Program) (d : Config) → Reaches holds job (configured q d) → ConfiguredBy q d
+  configured_by _ _ (passes p q unread c d reaches is) = record { program = p; unread = unread; config = c; reaches = reaches; passed = is }
 
   pub resolved_by : (p : Program) (c : Config) (s : Spec) → Reaches holds job (resolved p c s) → Reaches holds job (configured p c) × ResolvedBy job.wide p c job.silent (Ok s)
   resolved_by _ _ _ (resolves p c s reaches is) = (reaches, is)

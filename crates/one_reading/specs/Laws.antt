@@ -1,5 +1,5 @@
--- Two readings of the same files come to the same. It is said of files that tell what they hold.
-use Rattle.std.specs.Prelude.{◌≡◌, ℕ, List, Some}
+-- Two readings of the same files come to the same. It is said of files that tell what they hold. And what is read without the word `--wide` is read so with it.
+use Rattle.std.specs.Prelude.{◌≡◌, ℕ, true, false, List, Option, Some}
 use Rattle.trace_base.specs.Device.{File}
 use Rattle.tla_ast.specs.declared.config.Config.{Config}
 use Rattle.tla_ast.specs.declared.module.Program.{Program}
@@ -33,3 +33,27 @@ abbrev pub GivenIsOne : Type 0
 GivenIsOne =
     (files : List File) (job : Job) (witness : List ℕ) (p q : Program) (c d : Config) (s t : Spec) (log other : Log) (w v : List Shown)
     → AllGiven (Some files) job witness p c s log w → AllGiven (Some files) job witness q d t other v → AreSame p q c d s t log other × (w ≡ v)
+
+-- ---- with the word `--wide`
+
+-- the same job, with the word
+abbrev pub widened : Job → Job
+widened job = record job { wide = true }
+
+-- What is read without it is read so with it: the same program and configuration, and with it what is told as not checked, the same specification and log.
+abbrev pub StrictStaysWide : Type 0
+StrictStaysWide =
+    (holds : Option (List File)) (job : Job) (p : Program) (c : Config) (s : Spec) (log : Log) → job.wide ≡ false → AllRead holds job p c s log
+    → AllRead holds (widened job) p c s log
+
+-- and the same states
+abbrev pub GivenStaysWide : Type 0
+GivenStaysWide =
+    (holds : Option (List File)) (job : Job) (witness : List ℕ) (p : Program) (c : Config) (s : Spec) (log : Log) (w : List Shown) → job.wide ≡ false
+    → AllGiven holds job witness p c s log w → AllGiven holds (widened job) witness p c s log w
+
+-- where files tell, nothing else is read with it
+abbrev pub WideIsStrict : Type 0
+WideIsStrict =
+    (files : List File) (job : Job) (p q : Program) (c d : Config) (s t : Spec) (log other : Log) → job.wide ≡ false → AllRead (Some files) job p c s log
+    → AllRead (Some files) (widened job) q d t other → AreSame p q c d s t log other

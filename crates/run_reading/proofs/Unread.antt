@@ -7,58 +7,59 @@ use Rattle.trace_base.specs.declared.reading.ReadFault.TheVariants.{Failed}
 use Rattle.tla_ast.specs.declared.module.Module.{Module}
 use Rattle.tla_modules.specs.declared.fault.LoadWhy.{LoadWhy}
 use Rattle.tla_modules.specs.declared.fault.LoadWhy.TheVariants.{Read}
-use Rattle.tla_modules.specs.declared.so_far.SoFar.{SoFar}
-use Rattle.tla_modules.specs.Refusals.{IsUnread, Misspells, RefusesBytes, Refuses, misspelled, not_good, not_read}
-use Rattle.tla_modules.specs.Flattened.{Outcome, Meets, Follows, Visits, is_visited, stopped, went_on, is_refused, stopped_below, nothing_read, Flattened}
+use Rattle.tla_modules.specs.declared.so_far.Gathered.{Gathered}
+use Rattle.tla_modules.specs.Readings.{Reading}
+use Rattle.tla_modules.specs.Refusals.{IsUnread, RefusesBytes, Refuses, misspelled, not_good, not_read}
+use Rattle.tla_modules.specs.Flattened.{OutcomeOf, Meets, Follows, Visits, is_visited, stopped, went_on, is_refused, stopped_below, nothing_read, FlattenedBy}
 
-module _ (holds : Option (List File)) (folder : List ℕ) where
-  no_bytes : (number : ℕ) (bytes name file : List ℕ) (fault : ReadFault) → RefusesBytes number bytes name (Read file fault) → ⊥
-  no_bytes number bytes name file fault (misspelled why h) = h
+module _ {N : Type 0} (reading : Reading N) (holds : Option (List File)) (folder : List ℕ) where
+  no_bytes : (number : ℕ) (bytes name file : List ℕ) (fault : ReadFault) → RefusesBytes reading number bytes name (Read file fault) → ⊥
+  no_bytes number bytes name file fault (misspelled why h) = reading.of_text number bytes file fault h
 
-  refuses_read : (number : ℕ) (name file : List ℕ) (fault : ReadFault) → Refuses holds folder number name (Read file fault) → Refuses holds folder number name (Read file Failed)
+  refuses_read : (number : ℕ) (name file : List ℕ) (fault : ReadFault) → Refuses reading holds folder number name (Read file fault) → Refuses reading holds folder number name (Read file Failed)
   refuses_read number name file fault (not_read cause unread) = not_read Failed tt
   refuses_read number name file fault (not_good bytes why text h) = absurd (no_bytes number bytes name file fault h)
 
-  refuses_cause : (number : ℕ) (name file : List ℕ) (fault : ReadFault) → Refuses holds folder number name (Read file fault) → IsUnread holds file fault
+  refuses_cause : (number : ℕ) (name file : List ℕ) (fault : ReadFault) → Refuses reading holds folder number name (Read file fault) → IsUnread holds file fault
   refuses_cause number name file fault (not_read cause unread) = unread
   refuses_cause number name file fault (not_good bytes why text h) = absurd (no_bytes number bytes name file fault h)
 
   mutual
-    meets_read : (path : List (List ℕ)) (so : SoFar) (name : List ℕ) (ms : List (List ℕ)) (file : List ℕ) (fault : ReadFault)
-        → Meets holds folder path so name (Err (ms, Read file fault)) → Meets holds folder path so name (Err (ms, Read file Failed))
+    meets_read : (path : List (List ℕ)) (so : Gathered N) (name : List ℕ) (ms : List (List ℕ)) (file : List ℕ) (fault : ReadFault)
+        → Meets reading holds folder path so name (Err (ms, Read file fault)) → Meets reading holds folder path so name (Err (ms, Read file Failed))
     meets_read path so name ms file fault (is_visited _ _ _ o a b c d v) =
         is_visited path so name (Err (ms, Read file Failed)) a b c d (visits_read path so name ms file fault v)
 
-    follows_read : (path : List (List ℕ)) (so : SoFar) (names : List (List ℕ)) (ms : List (List ℕ)) (file : List ℕ) (fault : ReadFault)
-        → Follows holds folder path so names (Err (ms, Read file fault)) → Follows holds folder path so names (Err (ms, Read file Failed))
+    follows_read : (path : List (List ℕ)) (so : Gathered N) (names : List (List ℕ)) (ms : List (List ℕ)) (file : List ℕ) (fault : ReadFault)
+        → Follows reading holds folder path so names (Err (ms, Read file fault)) → Follows reading holds folder path so names (Err (ms, Read file Failed))
     follows_read path so names ms file fault (stopped _ _ first others e m) = stopped path so first others (ms, Read file Failed) (meets_read path so first ms file fault m)
     follows_read path so names ms file fault (went_on _ _ next first others o m f) =
         went_on path so next first others (Err (ms, Read file Failed)) m (follows_read path next others ms file fault f)
 
-    visits_read : (path : List (List ℕ)) (so : SoFar) (name : List ℕ) (ms : List (List ℕ)) (file : List ℕ) (fault : ReadFault)
-        → Visits holds folder path so name (Err (ms, Read file fault)) → Visits holds folder path so name (Err (ms, Read file Failed))
+    visits_read : (path : List (List ℕ)) (so : Gathered N) (name : List ℕ) (ms : List (List ℕ)) (file : List ℕ) (fault : ReadFault)
+        → Visits reading holds folder path so name (Err (ms, Read file fault)) → Visits reading holds folder path so name (Err (ms, Read file Failed))
     visits_read path so name ms file fault (is_refused _ _ _ why told) = is_refused path so name (Read file Failed) (refuses_read _ name file fault told)
-    visits_read path so name ms file fault (stopped_below _ _ _ m e is f) =
-        stopped_below path so name m (ms, Read file Failed) is (follows_read _ _ m.extends ms file fault f)
+    visits_read path so name ms file fault (stopped_below _ _ _ m notes e is f) =
+        stopped_below path so name m notes (ms, Read file Failed) is (follows_read _ _ m.extends ms file fault f)
 
-  pub wants_read : (name : List ℕ) (ms : List (List ℕ)) (file : List ℕ) (fault : ReadFault) → Flattened holds folder name (Err (ms, Read file fault))
-      → Flattened holds folder name (Err (ms, Read file Failed))
+  pub wants_read : (name : List ℕ) (ms : List (List ℕ)) (file : List ℕ) (fault : ReadFault) → FlattenedBy reading holds folder name (Err (ms, Read file fault))
+      → FlattenedBy reading holds folder name (Err (ms, Read file Failed))
   wants_read name ms file fault f = visits_read [] nothing_read name ms file fault f
 
   mutual
-    meets_cause : (path : List (List ℕ)) (so : SoFar) (name : List ℕ) (ms : List (List ℕ)) (file : List ℕ) (fault : ReadFault)
-        → Meets holds folder path so name (Err (ms, Read file fault)) → IsUnread holds file fault
+    meets_cause : (path : List (List ℕ)) (so : Gathered N) (name : List ℕ) (ms : List (List ℕ)) (file : List ℕ) (fault : ReadFault)
+        → Meets reading holds folder path so name (Err (ms, Read file fault)) → IsUnread holds file fault
     meets_cause path so name ms file fault (is_visited _ _ _ o a b c d v) = visits_cause path so name ms file fault v
 
-    follows_cause : (path : List (List ℕ)) (so : SoFar) (names : List (List ℕ)) (ms : List (List ℕ)) (file : List ℕ) (fault : ReadFault)
-        → Follows holds folder path so names (Err (ms, Read file fault)) → IsUnread holds file fault
+    follows_cause : (path : List (List ℕ)) (so : Gathered N) (names : List (List ℕ)) (ms : List (List ℕ)) (file : List ℕ) (fault : ReadFault)
+        → Follows reading holds folder path so names (Err (ms, Read file fault)) → IsUnread holds file fault
     follows_cause path so names ms file fault (stopped _ _ first others e m) = meets_cause path so first ms file fault m
     follows_cause path so names ms file fault (went_on _ _ next first others o m f) = follows_cause path next others ms file fault f
 
-    visits_cause : (path : List (List ℕ)) (so : SoFar) (name : List ℕ) (ms : List (List ℕ)) (file : List ℕ) (fault : ReadFault)
-        → Visits holds folder path so name (Err (ms, Read file fault)) → IsUnread holds file fault
+    visits_cause : (path : List (List ℕ)) (so : Gathered N) (name : List ℕ) (ms : List (List ℕ)) (file : List ℕ) (fault : ReadFault)
+        → Visits reading holds folder path so name (Err (ms, Read file fault)) → IsUnread holds file fault
     visits_cause path so name ms file fault (is_refused _ _ _ why told) = refuses_cause _ name file fault told
-    visits_cause path so name ms file fault (stopped_below _ _ _ m e is f) = follows_cause _ _ m.extends ms file fault f
+    visits_cause path so name ms file fault (stopped_below _ _ _ m notes e is f) = follows_cause _ _ m.extends ms file fault f
 
-  pub unread_cause : (name : List ℕ) (ms : List (List ℕ)) (file : List ℕ) (fault : ReadFault) → Flattened holds folder name (Err (ms, Read file fault)) → IsUnread holds file fault
+  pub unread_cause : (name : List ℕ) (ms : List (List ℕ)) (file : List ℕ) (fault : ReadFault) → FlattenedBy reading holds folder name (Err (ms, Read file fault)) → IsUnread holds file fault
   unread_cause name ms file fault f = visits_cause [] nothing_read name ms file fault f

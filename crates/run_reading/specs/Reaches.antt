@@ -1,5 +1,5 @@
--- How far reading comes. The module and those that it extends are read first, then the configuration, then names and levels are
--- resolved and the forms of Init, Next and the silent operator tested; then the logs are read in the order of the words, each
+-- How far reading comes. The module and those that it extends are read first, then the configuration; with the word `--wide` what no step needs is
+-- passed over. Then names and levels are resolved and the forms of Init, Next and the silent operator tested; then the logs are read in the order of the words, each
 -- tested whole before the next is opened.
 use Rattle.std.specs.Prelude.{◌≡◌, ◌+◌, ℕ, List, [], ◌∷◌, length, Option, Some, None, Result, Ok, Err}
 use Rattle.trace_base.specs.Device.{File}
@@ -7,13 +7,17 @@ use Rattle.trace_base.specs.declared.reading.ReadFault.TheVariants.{Failed}
 use Rattle.tla_ast.specs.declared.config.Config.{Config}
 use Rattle.tla_ast.specs.declared.module.Program.{Program}
 use Rattle.tla_modules.specs.declared.fault.LoadWhy.TheVariants.{Read}
-use Rattle.tla_modules.specs.Flattened.{Flattened}
-use Rattle.tla_modules.specs.Loads.{IsProgram}
+use Rattle.tla_modules.specs.declared.notes.Noted.{Noted}
+use Rattle.tla_modules.specs.Flattened.{FlattenedBy}
+use Rattle.tla_modules.specs.Loads.{IsProgramBy}
 use Rattle.tla_modules.specs.Paths.{IsPath}
 use Rattle.tla_modules.specs.Refusals.{module_limit}
 use Rattle.wide_config.specs.Wide.{ReadsBy}
+use Rattle.wide_modules.specs.declared.unread.Unread.{Unread}
+use Rattle.wide_modules.specs.Wide.{reading_by}
 use Rattle.tla_terms.specs.declared.spec.Spec.{Spec}
 use Rattle.specification_names.specs.Resolving.{ResolvedBy}
+use Rattle.wide_reading.specs.Passing.{Passes}
 use Rattle.spec_forms.specs.Forms.{AreWhole}
 use Rattle.log_lines.specs.Files.{FileSays, first_line}
 use Rattle.log_lines.specs.declared.file.FileLines.{FileLines}
@@ -27,7 +31,11 @@ use Rattle.run_reading.specs.Texts.{HasText, LogsRead, are_several, bytes_left, 
 -- how far it came, with what was accepted
 pub data Stage : Type 0 where
   begun : Stage
-  loaded : Program → Stage
+  -- with the pieces of modules that were not read
+  loaded : Program → List (Noted Unread) → Stage
+  -- all texts of the specification are read
+  given : Program → List (Noted Unread) → Config → Stage
+  -- what no step needs is passed over: these are resolved
   configured : Program → Config → Stage
   resolved : Program → Config → Spec → Stage
   -- with what the logs before say, and the names of those that are still to be read
@@ -44,10 +52,15 @@ LogSays job s read text r = FileSays (names_of s) (first_line (1 + length read.f
 -- it comes so far, and nothing before is refused
 pub data Reaches (holds : Option (List File)) (job : Job) : Stage → Type 0 where
   begins : Reaches holds job begun
-  loads : (folder name : List ℕ) (p : Program) → IsPath job.module folder name → IsProgram holds folder name p → Reaches holds job (loaded p)
-  needs_no_configuration : (p : Program) → Reaches holds job (loaded p) → job.config ≡ None → Reaches holds job (configured p without_file)
-  reads_configuration : (p : Program) (name text : List ℕ) (c : Config) → Reaches holds job (loaded p) → job.config ≡ Some name
-      → HasText holds name config_limit text → ReadsBy job.wide (length p.files) name text (Ok c) → Reaches holds job (configured p c)
+  loads : (folder name : List ℕ) (p : Program) (unread : List (Noted Unread)) → IsPath job.module folder name
+      → IsProgramBy (reading_by job.wide) holds folder name p unread → Reaches holds job (loaded p unread)
+  needs_no_configuration : (p : Program) (unread : List (Noted Unread)) → Reaches holds job (loaded p unread) → job.config ≡ None
+      → Reaches holds job (given p unread without_file)
+  reads_configuration : (p : Program) (unread : List (Noted Unread)) (name text : List ℕ) (c : Config) → Reaches holds job (loaded p unread)
+      → job.config ≡ Some name → HasText holds name config_limit text → ReadsBy job.wide (length p.files) name text (Ok c)
+      → Reaches holds job (given p unread c)
+  passes : (p q : Program) (unread : List (Noted Unread)) (c d : Config) → Reaches holds job (given p unread c)
+      → Passes p c job.silent unread job.wide q d → Reaches holds job (configured q d)
   resolves : (p : Program) (c : Config) (s : Spec) → Reaches holds job (configured p c) → ResolvedBy job.wide p c job.silent (Ok s) → Reaches holds job (resolved p c s)
   has_forms : (p : Program) (c : Config) (s : Spec) → Reaches holds job (resolved p c s) → AreWhole s → Reaches holds job (logged p c s no_logs job.logs)
   reads_log : (p : Program) (c : Config) (s : Spec) (read : LogsRead) (name : List ℕ) (names : List (List ℕ)) (text : List ℕ) (f : FileLines)
@@ -58,8 +71,8 @@ pub data Reaches (holds : Option (List File)) (job : Job) : Stage → Type 0 whe
 -- such a failure has no other cause, so that this says no more of the file than that it is sought and that nothing before it is refused.
 pub data IsNext (holds : Option (List File)) (job : Job) : Stage → List ℕ → ℕ → Type 0 where
   module_next : (folder name : List ℕ) (modules : List (List ℕ)) (file : List ℕ) → IsPath job.module folder name
-      → Flattened holds folder name (Err (modules, Read file Failed)) → IsNext holds job begun file module_limit
-  config_next : (p : Program) (name : List ℕ) → job.config ≡ Some name → IsNext holds job (loaded p) name config_limit
+      → FlattenedBy (reading_by job.wide) holds folder name (Err (modules, Read file Failed)) → IsNext holds job begun file module_limit
+  config_next : (p : Program) (unread : List (Noted Unread)) (name : List ℕ) → job.config ≡ Some name → IsNext holds job (loaded p unread) name config_limit
   log_next : (p : Program) (c : Config) (s : Spec) (read : LogsRead) (name : List ℕ) (names : List (List ℕ))
       → IsNext holds job (logged p c s read (name ∷ names)) name (bytes_left read)
 

@@ -1,33 +1,37 @@
 -- The first refusal in the order of reading, with its report.
-use Rattle.std.specs.Prelude.{◌≡◌, ◌++◌, ℕ, List, [], ◌∷◌, length, Option, Some, None, Ok, Err}
+use Rattle.std.specs.Prelude.{◌≡◌, ◌++◌, ℕ, true, List, [], ◌∷◌, length, Option, Some, None, Ok, Err}
 use Rattle.trace_base.specs.Device.{File, IsLonger, Lacks}
 use Rattle.trace_base.specs.declared.place.Place.{Place}
 use Rattle.tla_ast.specs.declared.config.Config.{Config}
 use Rattle.tla_ast.specs.declared.module.Program.{Program}
 use Rattle.tla_modules.specs.declared.fault.LoadWhy.{LoadWhy}
 use Rattle.tla_modules.specs.declared.fault.LoadWhy.TheVariants.{Read, Lex, Lay, Parse, Cycle, TooMany, Twice, WrongName}
-use Rattle.tla_modules.specs.declared.so_far.SoFar.{SoFar}
-use Rattle.tla_modules.specs.Flattened.{Flattened}
+use Rattle.tla_modules.specs.declared.notes.Noted.{Noted}
+use Rattle.tla_modules.specs.declared.so_far.Gathered.{Gathered}
+use Rattle.tla_modules.specs.Flattened.{FlattenedBy}
 use Rattle.tla_modules.specs.Loads.{files_of}
 use Rattle.tla_modules.specs.Paths.{IsPath}
 use Rattle.tla_modules.specs.Twice.{Repeats, declared_in}
 use Rattle.tla_config.specs.declared.fault.ConfigKind.{ConfigKind}
 use Rattle.wide_config.specs.Wide.{ReadsBy}
+use Rattle.wide_modules.specs.declared.unread.Unread.{Unread}
+use Rattle.wide_modules.specs.Wide.{reading_by}
 use Rattle.tla_terms.specs.declared.spec.Spec.{Spec}
 use Rattle.tla_levels.specs.declared.fault.ResolveFault.{ResolveFault}
 use Rattle.specification_names.specs.Resolving.{ResolvedBy}
+use Rattle.wide_reading.specs.Answers.{NeedsPiece}
 use Rattle.tla_actions.specs.declared.fault.FormFault.{FormFault}
 use Rattle.spec_forms.specs.Forms.{IsFirstFault}
 use Rattle.log_lines.specs.declared.file.Refusal.{Refusal}
 use Rattle.run_words.specs.declared.job.Job.{Job}
 use Rattle.run_texts.specs.Files.{missing_text, too_long_text}
-use Rattle.run_texts.specs.Modules.{module_refusal}
+use Rattle.run_texts.specs.Modules.{module_refusal, piece_refusal}
 use Rattle.run_texts.specs.Configs.{config_refusal}
 use Rattle.run_texts.specs.Resolved.{names_refusal}
 use Rattle.run_texts.specs.Forms.{form_refusal}
 use Rattle.run_texts.specs.Logs.{log_refusal}
 use Rattle.run_reading.specs.Texts.{HasText, LogsRead, config_limit}
-use Rattle.run_reading.specs.Reaches.{IsLog, LogSays, Reaches, Stage, Wants, begun, loaded, configured, resolved, logged}
+use Rattle.run_reading.specs.Reaches.{IsLog, LogSays, Reaches, Stage, Wants, begun, loaded, given, configured, resolved, logged}
 
 -- the refusal is one of a module's text or of modules together, not of a file that is not read
 abbrev pub IsOfText : LoadWhy → Type 0
@@ -47,11 +51,14 @@ all_files p c = p.files ++ c.file ∷ []
 -- what is read or tested next is refused, and this is the report
 pub data Rejects (holds : Option (List File)) (job : Job) : Stage → List ℕ → Type 0 where
   in_a_module : (folder name : List ℕ) (modules : List (List ℕ)) (why : LoadWhy) → IsPath job.module folder name
-      → Flattened holds folder name (Err (modules, why)) → IsOfText why → Rejects holds job begun (module_refusal (files_of folder modules) why)
-  in_all_modules : (folder name : List ℕ) (all : SoFar) (why : LoadWhy) → IsPath job.module folder name → Flattened holds folder name (Ok all)
+      → FlattenedBy (reading_by job.wide) holds folder name (Err (modules, why)) → IsOfText why → Rejects holds job begun (module_refusal (files_of folder modules) why)
+  in_all_modules : (folder name : List ℕ) (all : Gathered Unread) (why : LoadWhy) → IsPath job.module folder name
+      → FlattenedBy (reading_by job.wide) holds folder name (Ok all)
       → Repeats all.standard (declared_in all.units) why → Rejects holds job begun (module_refusal (files_of folder all.modules) why)
-  in_the_configuration : (p : Program) (name text : List ℕ) (kind : ConfigKind) (at : Place) → job.config ≡ Some name → HasText holds name config_limit text
-      → ReadsBy job.wide (length p.files) name text (Err (kind, at)) → Rejects holds job (loaded p) (config_refusal (p.files ++ name ∷ []) kind at)
+  in_the_configuration : (p : Program) (unread : List (Noted Unread)) (name text : List ℕ) (kind : ConfigKind) (at : Place) → job.config ≡ Some name → HasText holds name config_limit text
+      → ReadsBy job.wide (length p.files) name text (Err (kind, at)) → Rejects holds job (loaded p unread) (config_refusal (p.files ++ name ∷ []) kind at)
+  in_a_piece : (p : Program) (unread : List (Noted Unread)) (c : Config) (index : ℕ) (root : List ℕ) → job.wide ≡ true
+      → (n : NeedsPiece p c job.silent unread index root) → Rejects holds job (given p unread c) (piece_refusal p.files n.piece.note.why root)
   in_names : (p : Program) (c : Config) (fault : ResolveFault) → ResolvedBy job.wide p c job.silent (Err fault)
       → Rejects holds job (configured p c) (names_refusal (all_files p c) fault)
   in_forms : (p : Program) (c : Config) (s : Spec) (fault : FormFault) → IsFirstFault s fault

@@ -1,4 +1,5 @@
 pub mod Stopping
 pub mod Reached
+pub mod Unresolved
 pub mod OnTheWay
 pub mod GivenStopping

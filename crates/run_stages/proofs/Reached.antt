@@ -1,37 +1,64 @@
 -- What holds of what was accepted.
 use Rattle.std.proofs.Common.{◌≡◌, ◌≤◌, ◌+◌, refl, ℕ, List, ◌∷◌, Option, Ok, length, All}
+use Rattle.std.specs.Prelude.{Bool}
 use Rattle.std.proofs.lemmas.List.Elements.{All-nil, All-push}
 use Rattle.trace_base.specs.Device.{File}
 use Rattle.tla_ast.specs.declared.config.Config.{Config}
 use Rattle.tla_ast.specs.declared.module.Program.{Program}
+use Rattle.tla_modules.specs.declared.notes.Noted.{Noted}
 use Rattle.tla_terms.specs.declared.spec.Spec.{Spec}
 use Rattle.tla_tables.specs.Values.{AreSpelled}
-use Rattle.tla_levels.specs.Resolved.{IsOneForm, Resolved}
-use Rattle.resolved_laws.specs.InOrder.{IsWellFormed}
-use Rattle.load_laws.specs.Loaded.{ConfigurationsAreSpelled, ConfigurationsHaveOneForm, LoadedAreWellFormed, LoadedHaveFewFiles, PlainHasOneForm, PlainIsSpelled}
+use Rattle.tla_levels.specs.Resolved.{IsOneForm}
+use Rattle.specification_names.proofs.Readings.{resolved_with}
+use Rattle.resolved_laws.specs.InOrder.{IsWellFormed, ResolvedAreInOrder}
+use Rattle.load_laws.specs.AnyReading.{LoadedAreWellFormedBy, LoadedHaveFewFilesBy}
+use Rattle.load_laws.specs.Loaded.{ConfigurationsAreSpelled, ConfigurationsHaveOneForm, PlainHasOneForm, PlainIsSpelled}
+use Rattle.wide_modules.specs.declared.unread.Unread.{Unread}
+use Rattle.wide_modules.specs.Wide.{reading_by}
+use Rattle.wide_reading.specs.Answers.{IsResolution}
+use Rattle.wide_reading.specs.declared.resolution.Resolution.{Resolution}
+use Rattle.wide_reading.specs.Laws.{PassedAreWellFormed}
 use Rattle.spec_laws.specs.IsSpec.{IsSpec}
 use Rattle.ready_lines.specs.Laws.{FilesAreReady, IsReadyFile}
 use Rattle.run_words.specs.declared.job.Job.{Job}
 use Rattle.run_reading.specs.Texts.{LogsRead, are_several, steps_left}
-use Rattle.run_reading.specs.Reaches.{Reaches, configured, has_forms, loaded, loads, logged, needs_no_configuration, reads_configuration, reads_log, resolved, resolves}
+use Rattle.run_reading.specs.Reaches.{Reaches, configured, given, has_forms, loaded, loads, logged, needs_no_configuration, passes, reads_configuration, reads_log, resolved, resolves}
 
-pub loaded_few : (holds : Option (List File)) (job : Job) (p : Program) → LoadedHaveFewFiles → Reaches holds job (loaded p) → length p.files ≤ 32
-loaded_few holds job p law (loads folder name _ path is) = law holds 0 0 job.module p (folder, name, path, is)
+pub loaded_few : (holds : Option (List File)) (job : Job) (p : Program) (unread : List (Noted Unread)) → ((word : Bool) → LoadedHaveFewFilesBy (reading_by word))
+    → Reaches holds job (loaded p unread) → length p.files ≤ 32
+loaded_few holds job p unread law (loads folder name _ _ path is) = law job.wide holds 0 0 job.module (record { program = p; notes = unread }) (folder, name, path, is)
 
-loaded_formed : (holds : Option (List File)) (job : Job) (p : Program) → LoadedAreWellFormed → Reaches holds job (loaded p) → IsWellFormed p
-loaded_formed holds job p law (loads folder name _ path is) = law holds 0 0 job.module p (folder, name, path, is)
+loaded_formed : (holds : Option (List File)) (job : Job) (p : Program) (unread : List (Noted Unread)) → ((word : Bool) → LoadedAreWellFormedBy (reading_by word))
+    → Reaches holds job (loaded p unread) → IsWellFormed p
+loaded_formed holds job p unread law (loads folder name _ _ path is) = law job.wide holds 0 0 job.module (record { program = p; notes = unread }) (folder, name, path, is)
 
-pub formed : (holds : Option (List File)) (job : Job) (p : Program) (c : Config) → LoadedAreWellFormed → Reaches holds job (configured p c) → IsWellFormed p
-formed holds job p c law (needs_no_configuration _ reaches none) = loaded_formed holds job p law reaches
-formed holds job p c law (reads_configuration _ name text _ reaches some has reads) = loaded_formed holds job p law reaches
+formed : (holds : Option (List File)) (job : Job) (p : Program) (unread : List (Noted Unread)) (c : Config) → ((word : Bool) → LoadedAreWellFormedBy (reading_by word))
+    → Reaches holds job (given p unread c) → IsWellFormed p
+formed holds job p unread c law (needs_no_configuration _ _ reaches none) = loaded_formed holds job p unread law reaches
+formed holds job p unread c law (reads_configuration _ _ name text _ reaches some has reads) = loaded_formed holds job p unread law reaches
 
-pub spelled : (holds : Option (List File)) (job : Job) (p : Program) (c : Config) → ConfigurationsAreSpelled → PlainIsSpelled → Reaches holds job (configured p c) → AreSpelled c.givens
-spelled holds job p c law plain (needs_no_configuration _ reaches none) = plain
-spelled holds job p c law plain (reads_configuration _ name text _ reaches some has reads) = law job.wide (length p.files) name text c reads
+pub spelled : (holds : Option (List File)) (job : Job) (p : Program) (unread : List (Noted Unread)) (c : Config) → ConfigurationsAreSpelled → PlainIsSpelled
+    → Reaches holds job (given p unread c) → AreSpelled c.givens
+spelled holds job p unread c law plain (needs_no_configuration _ _ reaches none) = plain
+spelled holds job p unread c law plain (reads_configuration _ _ name text _ reaches some has reads) = law job.wide (length p.files) name text c reads
 
-pub one_form : (holds : Option (List File)) (job : Job) (p : Program) (c : Config) → ConfigurationsHaveOneForm → PlainHasOneForm → Reaches holds job (configured p c) → IsOneForm c
-one_form holds job p c law plain (needs_no_configuration _ reaches none) = plain
-one_form holds job p c law plain (reads_configuration _ name text _ reaches some has reads) = law job.wide (length p.files) name text c reads
+pub one_form : (holds : Option (List File)) (job : Job) (p : Program) (unread : List (Noted Unread)) (c : Config) → ConfigurationsHaveOneForm → PlainHasOneForm
+    → Reaches holds job (given p unread c) → IsOneForm c
+one_form holds job p unread c law plain (needs_no_configuration _ _ reaches none) = plain
+one_form holds job p unread c law plain (reads_configuration _ _ name text _ reaches some has reads) = law job.wide (length p.files) name text c reads
+
+-- what is resolved is reached, and its specification is in order
+pub resolution_reached : (holds : Option (List File)) (job : Job) (p : Program) (unread : List (Noted Unread)) (c : Config) (r : Resolution) → Reaches holds job (given p unread c)
+    → IsResolution job.wide p c job.silent unread r → Reaches holds job (resolved r.program r.config r.spec)
+resolution_reached holds job p unread c r reaches is = resolves r.program r.config r.spec (passes p r.program unread c r.config reaches is.passes) is.resolved
+
+pub resolution_in_order : (holds : Option (List File)) (job : Job) (p : Program) (unread : List (Noted Unread)) (c : Config) (r : Resolution)
+    → ((word : Bool) → LoadedAreWellFormedBy (reading_by word)) → PassedAreWellFormed → ResolvedAreInOrder → Reaches holds job (given p unread c)
+    → IsResolution job.wide p c job.silent unread r → IsSpec r.spec
+resolution_in_order holds job p unread c r well passed order reaches is =
+    let with = resolved_with job.wide r.program r.config job.silent r.spec is.resolved in
+    order r.program with.config job.silent r.spec
+    (passed job.wide p r.program c r.config job.silent unread is.passes (formed holds job p unread c well reaches)) with.is
 
 -- what the logs say can be asked of the specification
 pub files_ready : (holds : Option (List File)) (job : Job) (p : Program) (c : Config) (s : Spec) (read : LogsRead) (names : List (List ℕ)) → FilesAreReady → IsSpec s

@@ -9,27 +9,28 @@ use Rattle.tla_ast.specs.declared.module.Program.{Program}
 use Rattle.tla_modules.specs.declared.fault.LoadFault.TheVariants as loads
 use Rattle.tla_modules.specs.declared.fault.LoadWhy.{LoadWhy}
 use Rattle.tla_modules.specs.declared.fault.LoadWhy.TheVariants.{Read, Lex, Lay, Parse, Cycle, TooMany, Twice, WrongName}
-use Rattle.tla_modules.specs.Flattened.{Flattened}
-use Rattle.tla_modules.specs.Loads.{IsRefused, Loads, files_of, in_a_module, in_the_whole}
+use Rattle.tla_modules.specs.declared.notes.Noted.{Noted}
+use Rattle.tla_modules.specs.Flattened.{FlattenedBy}
+use Rattle.tla_modules.specs.Loads.{IsRefusedBy, LoadsBy, files_of, in_a_module, in_the_whole}
 use Rattle.tla_modules.specs.Paths.{IsPath}
 use Rattle.tla_modules.specs.Refusals.{IsCaused, module_limit}
+use Rattle.wide_modules.specs.declared.unread.Unread.{Unread}
+use Rattle.wide_modules.specs.Wide.{reading_by}
 use Rattle.tla_config.specs.declared.fault.ConfigKind.{ConfigKind}
 use Rattle.wide_config.specs.Wide.{ReadsBy}
 use Rattle.tla_terms.specs.declared.spec.Spec.{Spec}
-use Rattle.tla_levels.specs.declared.fault.ResolveFault.{ResolveFault}
-use Rattle.specification_names.specs.Resolving.{ResolvedBy}
 use Rattle.tla_actions.specs.declared.fault.FormFault.{FormFault}
 use Rattle.spec_forms.specs.Forms.{IsFirstFault}
 use Rattle.log_lines.specs.declared.file.Refusal.{Refusal}
 use Rattle.run_words.specs.declared.job.Job.{Job}
 use Rattle.run_texts.specs.Files.{missing_text, too_long_text}
-use Rattle.run_texts.specs.Modules.{module_refusal}
+use Rattle.run_texts.specs.Modules.{module_refusal, piece_refusal}
 use Rattle.run_texts.specs.Configs.{config_refusal}
 use Rattle.run_texts.specs.Resolved.{names_refusal}
 use Rattle.run_texts.specs.Forms.{form_refusal}
 use Rattle.run_texts.specs.Logs.{log_refusal}
 use Rattle.run_reading.specs.Texts.{HasText, LogsRead, config_limit}
-use Rattle.run_reading.specs.Reaches.{IsLog, LogSays, Reaches, Wants, begins, begun, configured, loaded, logged, module_next, reads_configuration, resolved}
+use Rattle.run_reading.specs.Reaches.{IsLog, LogSays, Reaches, Wants, begins, begun, configured, given, loaded, logged, module_next, passes, reads_configuration, resolved}
 use Rattle.run_reading.specs.Refusals as rejects
 use Rattle.run_reading.specs.Refusals.{IsOfText, IsRefusal, all_files, is_missing, is_refused, is_too_long}
 use Rattle.run_reading.proofs.Later.{later_refusal, later_rose}
@@ -37,6 +38,7 @@ use Rattle.run_reading.proofs.Unread.{unread_cause, wants_read}
 use Rattle.run_stages.specs.declared.stop.Stop.{Stop}
 use Rattle.run_stages.specs.declared.stop.Stop.TheVariants.{Refused, Device, NoMemory}
 use Rattle.run_stages.specs.Stops.{FailsAt, IsModuleStop, IsUnreadBy, RefusedWith, StopsBy}
+use Rattle.run_stages.specs.Resolving.{IsUnresolved, by_a_piece, by_names}
 
 pub later_stop : (holds : Option (List File)) (a b n : ℕ) (job : Job) (stop : Stop) → a ≤ b → StopsBy holds b n job stop → StopsBy holds a n job stop
 later_stop holds a b n job (Refused report) le h = later_refusal holds a b n job (string_bytes report) le h
@@ -73,21 +75,21 @@ module _ (holds : Option (List File)) (before now : ℕ) (job : Job) where
   failed_rose file f h e = subst (λ (g : ReadFault). IsCaused holds before now (Read file g)) e h
 
   of_read : (folder name : List ℕ) (modules : List (List ℕ)) (file : List ℕ) (f : ReadFault) (stop : Stop) → IsPath job.module folder name
-      → Flattened holds folder name (Err (modules, Read file f)) → IsCaused holds before now (Read file f) → IsUnreadBy f file stop → StopsBy holds before now job stop
+      → FlattenedBy (reading_by job.wide) holds folder name (Err (modules, Read file f)) → IsCaused holds before now (Read file f) → IsUnreadBy f file stop → StopsBy holds before now job stop
   of_read folder name modules file f stop path flat caused h =
       unread_stop file module_limit f stop
-      (record { stage = begun; reaches = begins; is_next = module_next folder name modules file path (wants_read holds folder name modules file f flat) })
+      (record { stage = begun; reaches = begins; is_next = module_next folder name modules file path (wants_read (reading_by job.wide) holds folder name modules file f flat) })
       (missing_lacks file f caused)
-      (λ e. unread_cause holds folder name modules file fault.TooLong (subst (λ (g : ReadFault). Flattened holds folder name (Err (modules, Read file g))) e flat))
+      (λ e. unread_cause (reading_by job.wide) holds folder name modules file fault.TooLong (subst (λ (g : ReadFault). FlattenedBy (reading_by job.wide) holds folder name (Err (modules, Read file g))) e flat))
       (failed_rose file f caused) h
 
-  of_text : (folder name : List ℕ) (modules : List (List ℕ)) (why : LoadWhy) (stop : Stop) → IsPath job.module folder name → Flattened holds folder name (Err (modules, why)) → IsOfText why
+  of_text : (folder name : List ℕ) (modules : List (List ℕ)) (why : LoadWhy) (stop : Stop) → IsPath job.module folder name → FlattenedBy (reading_by job.wide) holds folder name (Err (modules, why)) → IsOfText why
       → RefusedWith (λ r. r ≡ module_refusal (files_of folder modules) why) stop → StopsBy holds before now job stop
   of_text folder name modules why stop path flat text h =
       refused_with (λ r. r ≡ module_refusal (files_of folder modules) why)
       (λ report e. as_report report (module_refusal (files_of folder modules) why) e (is_refused begun (module_refusal (files_of folder modules) why) begins (rejects.in_a_module folder name modules why path flat text))) stop h
 
-  in_module : (folder name : List ℕ) (modules : List (List ℕ)) (why : LoadWhy) (stop : Stop) → IsPath job.module folder name → Flattened holds folder name (Err (modules, why))
+  in_module : (folder name : List ℕ) (modules : List (List ℕ)) (why : LoadWhy) (stop : Stop) → IsPath job.module folder name → FlattenedBy (reading_by job.wide) holds folder name (Err (modules, why))
       → IsCaused holds before now why → IsModuleStop (files_of folder modules) why stop → StopsBy holds before now job stop
   in_module folder name modules (Read file f) stop path flat caused h = of_read folder name modules file f stop path flat caused h
   in_module folder name modules (Lex why at) stop path flat caused h = of_text folder name modules (Lex why at) stop path flat tt h
@@ -98,7 +100,7 @@ module _ (holds : Option (List File)) (before now : ℕ) (job : Job) where
   in_module folder name modules (Twice file later earlier) stop path flat caused h = of_text folder name modules (Twice file later earlier) stop path flat tt h
   in_module folder name modules (WrongName file at) stop path flat caused h = of_text folder name modules (WrongName file at) stop path flat tt h
 
-  by_refused : (folder name : List ℕ) (files : List (List ℕ)) (why : LoadWhy) (stop : Stop) → IsPath job.module folder name → IsRefused holds before now folder name files why
+  by_refused : (folder name : List ℕ) (files : List (List ℕ)) (why : LoadWhy) (stop : Stop) → IsPath job.module folder name → IsRefusedBy (reading_by job.wide) holds before now folder name files why
       → IsModuleStop files why stop → StopsBy holds before now job stop
   by_refused folder name _ _ stop path (in_a_module modules why flat caused) h = in_module folder name modules why stop path flat caused h
   by_refused folder name _ _ stop path (in_the_whole all (Twice file later earlier) flat repeats) h =
@@ -113,23 +115,29 @@ module _ (holds : Option (List File)) (before now : ℕ) (job : Job) where
   by_refused folder name _ _ stop path (in_the_whole all (TooMany file) flat repeats) h = absurd repeats
   by_refused folder name _ _ stop path (in_the_whole all (WrongName file at) flat repeats) h = absurd repeats
 
-  pub module_stop : (files : List (List ℕ)) (why : LoadWhy) (stop : Stop) → Loads holds before now job.module (Err (loads.Refused files why)) → IsModuleStop files why stop
+  pub module_stop : (files : List (List ℕ)) (why : LoadWhy) (stop : Stop) → LoadsBy (reading_by job.wide) holds before now job.module (Err (loads.Refused files why)) → IsModuleStop files why stop
       → StopsBy holds before now job stop
   module_stop files why stop h s = by_refused h.0 h.1 files why stop h.2 h.3 s
 
-  pub config_stop : (p : Program) (name text : List ℕ) (stop : Stop) → Reaches holds job (loaded p) → job.config ≡ Some name → HasText holds name config_limit text
+  pub config_stop : (p : Program) (unread : List (Noted Unread)) (name text : List ℕ) (stop : Stop) → Reaches holds job (loaded p unread) → job.config ≡ Some name → HasText holds name config_limit text
       → RefusedWith (λ report. (kind : ConfigKind) × (at : Place) × ReadsBy job.wide (length p.files) name text (Err (kind, at)) × (report ≡ config_refusal (p.files ++ name ∷ []) kind at)) stop
       → StopsBy holds before now job stop
-  config_stop p name text stop reaches e has h =
+  config_stop p unread name text stop reaches e has h =
       refused_with (λ report. (kind : ConfigKind) × (at : Place) × ReadsBy job.wide (length p.files) name text (Err (kind, at)) × (report ≡ config_refusal (p.files ++ name ∷ []) kind at))
-      (λ report r. as_report report (config_refusal (p.files ++ name ∷ []) r.0 r.1) r.3 (is_refused (loaded p) (config_refusal (p.files ++ name ∷ []) r.0 r.1) reaches
-      (rejects.in_the_configuration p name text r.0 r.1 e has r.2))) stop h
+      (λ report r. as_report report (config_refusal (p.files ++ name ∷ []) r.0 r.1) r.3 (is_refused (loaded p unread) (config_refusal (p.files ++ name ∷ []) r.0 r.1) reaches
+      (rejects.in_the_configuration p unread name text r.0 r.1 e has r.2))) stop h
 
-  pub names_stop : (p : Program) (c : Config) (stop : Stop) → Reaches holds job (configured p c)
-      → RefusedWith (λ report. (f : ResolveFault) × ResolvedBy job.wide p c job.silent (Err f) × (report ≡ names_refusal (all_files p c) f)) stop → StopsBy holds before now job stop
-  names_stop p c stop reaches h =
-      refused_with (λ report. (f : ResolveFault) × ResolvedBy job.wide p c job.silent (Err f) × (report ≡ names_refusal (all_files p c) f))
-      (λ report r. as_report report (names_refusal (all_files p c) r.0) r.2 (is_refused (configured p c) (names_refusal (all_files p c) r.0) reaches (rejects.in_names p c r.0 r.1))) stop h
+  unresolved : (p : Program) (unread : List (Noted Unread)) (c : Config) (report : List ℕ) → Reaches holds job (given p unread c)
+      → IsUnresolved job.wide p c job.silent unread report → IsRefusal holds before now job report
+  unresolved p unread c _ reaches (by_names q d f passed is) =
+      is_refused (configured q d) (names_refusal (all_files q d) f) (passes p q unread c d reaches passed) (rejects.in_names q d f is)
+  unresolved p unread c _ reaches (by_a_piece index root wide n) =
+      is_refused (given p unread c) (piece_refusal p.files n.piece.note.why root) reaches (rejects.in_a_piece p unread c index root wide n)
+
+  pub unresolved_stop : (p : Program) (unread : List (Noted Unread)) (c : Config) (stop : Stop) → Reaches holds job (given p unread c)
+      → RefusedWith (IsUnresolved job.wide p c job.silent unread) stop → StopsBy holds before now job stop
+  unresolved_stop p unread c stop reaches h =
+      refused_with (IsUnresolved job.wide p c job.silent unread) (λ report r. unresolved p unread c report reaches r) stop h
 
   pub forms_stop : (p : Program) (c : Config) (s : Spec) (stop : Stop) → Reaches holds job (resolved p c s)
       → RefusedWith (λ report. (f : FormFault) × IsFirstFault s f × (report ≡ form_refusal (all_files p c) s.variables f)) stop → StopsBy holds before now job stop
@@ -144,16 +152,16 @@ module _ (holds : Option (List File)) (before now : ℕ) (job : Job) where
       as_report report (log_refusal name r) e (is_refused (logged p c s read (name ∷ names)) (log_refusal name r) reaches (rejects.in_a_log p c s read name names text r is says))
 
   -- what a configuration's text gives
-  pub config_accepted : (p : Program) (name text : List ℕ) (r : Result Config Stop) → Reaches holds job (loaded p) → job.config ≡ Some name → HasText holds name config_limit text
-      → IfOk r (λ c. ReadsBy job.wide (length p.files) name text (Ok c)) → IfOk r (λ c. Reaches holds job (configured p c))
-  config_accepted p name text (Ok c) reaches e has h = reads_configuration p name text c reaches e has h
-  config_accepted p name text (Err stop) reaches e has h = tt
+  pub config_accepted : (p : Program) (unread : List (Noted Unread)) (name text : List ℕ) (r : Result Config Stop) → Reaches holds job (loaded p unread) → job.config ≡ Some name → HasText holds name config_limit text
+      → IfOk r (λ c. ReadsBy job.wide (length p.files) name text (Ok c)) → IfOk r (λ c. Reaches holds job (given p unread c))
+  config_accepted p unread name text (Ok c) reaches e has h = reads_configuration p unread name text c reaches e has h
+  config_accepted p unread name text (Err stop) reaches e has h = tt
 
-  pub config_refused : (p : Program) (name text : List ℕ) (r : Result Config Stop) → Reaches holds job (loaded p) → job.config ≡ Some name → HasText holds name config_limit text
+  pub config_refused : (p : Program) (unread : List (Noted Unread)) (name text : List ℕ) (r : Result Config Stop) → Reaches holds job (loaded p unread) → job.config ≡ Some name → HasText holds name config_limit text
       → IfErr r (RefusedWith (λ report. (kind : ConfigKind) × (at : Place) × ReadsBy job.wide (length p.files) name text (Err (kind, at)) × (report ≡ config_refusal (p.files ++ name ∷ []) kind at)))
       → IfErr r (StopsBy holds before now job)
-  config_refused p name text (Ok c) reaches e has h = tt
-  config_refused p name text (Err stop) reaches e has h = config_stop p name text stop reaches e has h
+  config_refused p unread name text (Ok c) reaches e has h = tt
+  config_refused p unread name text (Err stop) reaches e has h = config_stop p unread name text stop reaches e has h
 
 -- through a result
 pub err_later : {X : Type 0} (holds other : Option (List File)) (a b n : ℕ) (job : Job) (r : Result X Stop) → other ≡ holds → a ≤ b → IfErr r (StopsBy other b n job)

@@ -1,3 +1,4 @@
 pub mod Stops
 pub mod Logs
 pub mod GivenStops
+pub mod Resolving

@@ -4,20 +4,22 @@ ghost use Rattle.tla_config.specs.declared.fault.ConfigKind.{ConfigKind};
 ghost use Rattle.wide_config.specs.Wide.{ReadsBy};
 ghost use Rattle.run_texts.specs.Configs.{config_refusal};
 ghost use Rattle.run_reading.specs.Texts.{config_limit, without_file};
-ghost use Rattle.run_reading.specs.Reaches.{Reaches, configured, loaded};
+ghost use Rattle.run_reading.specs.Reaches.{Reaches, given, loaded};
 ghost use Rattle.run_stages.specs.Stops.{RefusedWith, StopsBy};
 
 use crate::files::with_file;
 use crate::stop::Stop;
 use crate::wanted::read_wanted;
-use load_laws::load_laws;
 use run_texts::config_refusal;
 use run_words::Job;
 use std::alloc::Global;
 use tla_ast::{Config, Givens, Program};
 use tla_config::ConfigFault;
+use tla_modules::Loaded;
 use trace_base::{Files, Names, NoMemory, Text};
 use wide_config::config_by;
+use wide_load_laws::wide_load_laws;
+use wide_modules::Unread;
 
 /// How many bytes a configuration's file may have.
 const CONFIG_LIMIT: usize = 65_536;
@@ -26,21 +28,21 @@ const CONFIG_LIMIT: usize = 65_536;
 pub(crate) fn read_config<F: Files>(
     alloc: Global,
     job: &Job,
-    program: &Program,
+    modules: &Loaded<Unread>,
     files: &mut F,
 ) -> Result<Config, Stop>
-    requires reaches { Reaches (F.holds files.now) job.now (loaded program.now) }
-    ensures accepted { IfOk result (λ c. Reaches (F.holds files.old) job.now (configured program.now c)) }
+    requires reaches { Reaches (F.holds files.now) job.now (loaded modules.now.program modules.now.notes) }
+    ensures accepted { IfOk result (λ c. Reaches (F.holds files.old) job.now (given modules.now.program modules.now.notes c)) }
     ensures stopped { IfErr result (StopsBy (F.holds files.old) (F.faults files.old) (F.faults files.new) job.now) }
     ensures same { F.holds files.new ≡ F.holds files.old }
     ensures later { F.faults files.old ≤ F.faults files.new }
 {
-    load_laws();
+    wide_load_laws();
     match &job.config {
         None => Ok(without_file(alloc)?),
         Some(name) => {
             let text = read_wanted(alloc, job, files, name, CONFIG_LIMIT)?;
-            config_of(alloc, job, program, name, text.as_slice())
+            config_of(alloc, job, &modules.program, name, text.as_slice())
         }
     }
 }

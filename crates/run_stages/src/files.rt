@@ -16,10 +16,18 @@ pub fn all_files(alloc: Global, program: &Program, config: &Config) -> Result<Na
 pub(crate) fn with_file(alloc: Global, files: &Names, name: &Text) -> Result<Names, NoMemory>
     ensures { IfOk result (λ all. all ≡ files.now ++ name.now ∷ []) }
 {
-    let mut all = Names::new(alloc);
-    for file in files.items() {
-        all.push(file.copy()?)?;
-    }
+    let mut all = copy_names(alloc, files)?;
     all.push(name.copy()?)?;
+    Ok(all)
+}
+
+/// A copy of names.
+pub(crate) fn copy_names(alloc: Global, names: &Names) -> Result<Names, NoMemory>
+    ensures { IfOk result (λ all. all ≡ names.now) }
+{
+    let mut all = Names::new(alloc);
+    for name in names.items() {
+        all.push(name.copy()?)?;
+    }
     Ok(all)
 }

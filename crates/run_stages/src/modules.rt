@@ -7,24 +7,24 @@ use crate::stop::{Stop, unread};
 use run_texts::module_refusal;
 use run_words::Job;
 use std::alloc::Global;
-use tla_ast::Program;
-use tla_modules::{LoadFault, LoadWhy, load};
+use tla_modules::{LoadFault, LoadWhy, Loaded};
 use trace_base::{Files, Names, NoMemory};
+use wide_modules::{Unread, load_modules};
 
-/// The program of the job's module and of those that it extends.
+/// The program of the job's module and of those that it extends, and what was not read of them.
 pub(crate) fn load_program<F: Files>(
     alloc: Global,
     job: &Job,
     files: &mut F,
-) -> Result<Program, Stop>
+) -> Result<Loaded<Unread>, Stop>
     requires { IsModule job.now.module }
-    ensures accepted { IfOk result (λ p. Reaches (F.holds files.old) job.now (loaded p)) }
+    ensures accepted { IfOk result (λ l. Reaches (F.holds files.old) job.now (loaded l.program l.notes)) }
     ensures stopped { IfErr result (StopsBy (F.holds files.old) (F.faults files.old) (F.faults files.new) job.now) }
     ensures same { F.holds files.new ≡ F.holds files.old }
     ensures later { F.faults files.old ≤ F.faults files.new }
 {
-    match load(alloc, files, job.module.as_str()) {
-        Ok(program) => Ok(program),
+    match load_modules(alloc, job.wide, files, job.module.as_str()) {
+        Ok(modules) => Ok(modules),
         Err(LoadFault::Refused(sought, why)) => Err(refused(alloc, &sought, &why)?),
         Err(LoadFault::NoMemory) => Err(Stop::NoMemory),
     }

@@ -10,7 +10,7 @@ use crate::logs::{Course, read_logs};
 use crate::modules::load_program;
 use crate::resolving::resolve_spec;
 use crate::stop::Stop;
-use load_laws::{configuration_laws, load_laws};
+use load_laws::configuration_laws;
 use path_updates::Log;
 use ready_lines::{known_values, logs_are_ready};
 use resolved_laws::resolved_laws;
@@ -19,8 +19,11 @@ use std::alloc::Global;
 use tla_ast::{Config, Program};
 use tla_terms::Spec;
 use trace_base::Files;
+use wide_load_laws::wide_load_laws;
+use wide_reading::{Resolution, passing_laws};
 
-/// What was made of the texts of a job: the program, its configuration, the specification of both, and the log of all files.
+/// What was made of the texts of a job: the program and its configuration without what is passed over, the specification of both, and the log of all
+/// files.
 #[derive(Drop)]
 pub struct Accepted {
     pub program: Program,
@@ -30,7 +33,8 @@ pub struct Accepted {
 }
 
 /// Reads the texts of a job in their order: the module and those that it extends, the configuration, then the logs, after names, levels and forms are
-/// tested. The first refusal ends the reading; nothing is read behind it.
+/// tested. With the word `--wide` what no step needs is passed over behind the configuration. The first refusal ends the reading; nothing is read behind
+/// it.
 pub fn read_all<F: Files>(alloc: Global, job: &Job, files: &mut F) -> Result<Accepted, Stop>
     requires { JobMeets job.now }
     ensures accepted { IfOk result (λ a. AllRead (F.holds files.old) job.now a.program a.config a.spec a.log) }
@@ -40,12 +44,18 @@ pub fn read_all<F: Files>(alloc: Global, job: &Job, files: &mut F) -> Result<Acc
     ensures same { F.holds files.new ≡ F.holds files.old }
     ensures later { F.faults files.old ≤ F.faults files.new }
 {
-    load_laws();
+    wide_load_laws();
     configuration_laws();
+    passing_laws();
     resolved_laws();
-    let program = load_program(alloc, job, files)?;
-    let config = read_config(alloc, job, &program, files)?;
-    let spec = resolve_spec(alloc, job, &program, &config)?;
+    let modules = load_program(alloc, job, files)?;
+    let config = read_config(alloc, job, &modules, files)?;
+    let resolved = resolve_spec(alloc, job, modules, config)?;
+    let Resolution {
+        program,
+        config,
+        spec,
+    } = resolved;
     test_forms(alloc, &program, &config, &spec)?;
     let course = Course {
         job,

@@ -1,41 +1,46 @@
-ghost use Rattle.std.specs.Prelude.{◌≡◌, IfOk, IfErr, Ok, Err};
+ghost use Rattle.std.specs.Prelude.{IfOk, IfErr};
 ghost use Rattle.tla_tables.specs.Values.{AreSpelled};
 ghost use Rattle.tla_levels.specs.Resolved.{IsOneForm};
-ghost use Rattle.tla_levels.specs.declared.fault.ResolveFault.{ResolveFault};
-ghost use Rattle.specification_names.specs.Resolving.{ResolvedBy};
-ghost use Rattle.run_texts.specs.Resolved.{names_refusal};
-ghost use Rattle.run_reading.specs.Refusals.{all_files};
+ghost use Rattle.wide_reading.specs.Answers.{IsResolution};
 ghost use Rattle.run_stages.specs.Stops.{RefusedWith};
+ghost use Rattle.run_stages.specs.Resolving.{IsUnresolved};
 
-use crate::files::all_files;
+use crate::files::{all_files, copy_names};
 use crate::stop::Stop;
-use run_texts::names_refusal;
+use run_texts::{names_refusal, piece_refusal};
 use run_words::Job;
-use specification_names::resolve_by;
 use std::alloc::Global;
-use tla_ast::{Config, Program};
-use tla_levels::ResolveFault;
-use tla_terms::Spec;
+use tla_ast::Config;
+use tla_modules::Loaded;
+use wide_modules::Unread;
+use wide_reading::{Resolution, ResolutionFault, resolve_read};
 
-/// The specification of a program with its configuration, as the job asks for it to be read.
+/// The specification of modules with their configuration, as the job asks for them to be read, and the program and the configuration that it is of:
+/// what no step needs may be passed over.
 pub(crate) fn resolve_spec(
     alloc: Global,
     job: &Job,
-    program: &Program,
-    config: &Config,
-) -> Result<Spec, Stop>
-    requires spelled { AreSpelled config.now.givens }
-    requires form { IsOneForm config.now }
-    ensures accepted { IfOk result (λ s. ResolvedBy job.now.wide program.now config.now job.now.silent (Ok s)) }
-    ensures refused { IfErr result (RefusedWith (λ report. (fault : ResolveFault) × ResolvedBy job.now.wide program.now config.now job.now.silent (Err fault)
-        × (report ≡ names_refusal (all_files program.now config.now) fault))) }
+    modules: Loaded<Unread>,
+    config: Config,
+) -> Result<Resolution, Stop>
+    requires spelled { AreSpelled config.givens }
+    requires form { IsOneForm config }
+    ensures accepted { IfOk result (IsResolution job.now.wide modules.program config job.now.silent modules.notes) }
+    ensures refused { IfErr result (RefusedWith (IsUnresolved job.now.wide modules.program config job.now.silent modules.notes)) }
 {
-    match resolve_by(alloc, job.wide, program, config, job.silent.as_ref()) {
-        Ok(spec) => Ok(spec),
-        Err(ResolveFault::NoMemory) => Err(Stop::NoMemory),
-        Err(fault) => {
-            let files = all_files(alloc, program, config)?;
+    let Loaded { program, notes } = modules;
+    let files = copy_names(alloc, &program.files)?;
+    let silent = job.silent.as_ref();
+    match resolve_read(alloc, job.wide, silent, program, config, &notes) {
+        Ok(resolved) => Ok(resolved),
+        Err(ResolutionFault::Names(program, config, fault)) => {
+            let files = all_files(alloc, &program, &config)?;
             Err(Stop::Refused(names_refusal(alloc, &files, &fault)?))
         }
+        Err(ResolutionFault::Piece(index, root)) => {
+            let piece = &notes.items()[index].note;
+            Err(Stop::Refused(piece_refusal(alloc, &files, &piece.why, &root)?))
+        }
+        Err(ResolutionFault::NoMemory) => Err(Stop::NoMemory),
     }
 }

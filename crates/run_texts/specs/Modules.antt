@@ -52,3 +52,7 @@ module_refusal files (load.Twice name at earlier) =
     refused (load_code (load.Twice name at earlier)) (detail name ++ at_place files at ++ earlier_text files earlier)
 module_refusal files (load.WrongName name at) =
     refused (load_code (load.WrongName name at)) (detail name ++ at_place files at)
+
+-- a piece of a module is refused that is needed, and by which name
+abbrev pub piece_refusal : List (List ℕ) → LoadWhy → List ℕ → List ℕ
+piece_refusal files why root = module_refusal files why ++ codes "NEEDED BY " ++ root ++ codes "\n"

@@ -27,7 +27,7 @@ pub use given_states::states_refusal;
 pub use labels::Labels;
 pub use laws::text_laws;
 pub use logs::{log_refusal, push_line};
-pub use modules::module_refusal;
+pub use modules::{module_refusal, piece_refusal};
 pub use order::in_order;
 pub use places::{name_at, push_at};
 pub use resolved::names_refusal;

@@ -1,6 +1,6 @@
 ghost use Rattle.std.specs.Prelude.{◌≡◌, ◌++◌, IfOk, OnOk, codes, string_bytes};
 ghost use Rattle.run_texts.specs.Places.{place_text, at_place, detail, refused};
-ghost use Rattle.run_texts.specs.Modules.{read_refusal, parse_refusal, names_text, earlier_text, module_refusal};
+ghost use Rattle.run_texts.specs.Modules.{read_refusal, parse_refusal, names_text, earlier_text, module_refusal, piece_refusal};
 
 use crate::files::{device_text, missing_text, too_long_text};
 use crate::places::{
@@ -10,7 +10,7 @@ use crate::spelled::foreign_text;
 use std::alloc::Global;
 use tla_exprs::ParseFault;
 use tla_modules::LoadWhy;
-use trace_base::{Names, NoMemory, Place, ReadFault};
+use trace_base::{Names, NoMemory, Place, ReadFault, Text};
 
 /// The line for modules that are refused, with the files so far.
 pub fn module_refusal(alloc: Global, files: &Names, why: &LoadWhy) -> Result<String, NoMemory>
@@ -29,6 +29,22 @@ pub fn module_refusal(alloc: Global, files: &Names, why: &LoadWhy) -> Result<Str
             refused_detail(alloc, files, why.code(), name.as_str(), *at)
         }
     }
+}
+
+/// The lines for a piece of a module that is refused and that the name needs.
+pub fn piece_refusal(
+    alloc: Global,
+    files: &Names,
+    why: &LoadWhy,
+    root: &Text,
+) -> Result<String, NoMemory>
+    ensures { IfOk result (λ t. string_bytes t ≡ piece_refusal files.now why.now root.now) }
+{
+    let mut text = module_refusal(alloc, files, why)?;
+    text.push_str("NEEDED BY ")?;
+    text.push_str(root.as_str())?;
+    text.push_str("\n")?;
+    Ok(text)
 }
 
 /// The line for a file that is not read.

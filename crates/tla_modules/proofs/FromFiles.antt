@@ -12,55 +12,79 @@ use Rattle.tla_modules.specs.declared.fault.LoadWhy.TheVariants.{Read, Lex, Lay,
 use Rattle.tla_modules.specs.declared.fault.Stop.{Stop}
 use Rattle.tla_modules.specs.declared.fault.Stop.TheVariants as stops
 use Rattle.tla_modules.specs.Paths.{file_of}
-use Rattle.tla_modules.specs.Refusals.{IsText, LaidAs, SpelledBy, IsUnreadFile, Misspells, RefusesBytes, misspelled, misnamed, Refuses, not_read, not_good, StopsBy}
+use Rattle.tla_modules.specs.Readings.{Reading}
+use Rattle.tla_modules.specs.Refusals.{IsText, LaidAs, IsUnreadFile, IsCaused, RefusesBytes, misspelled, misnamed, Refuses, not_read, not_good, StopsBy}
 use Rattle.tla_modules.proofs.Walks.{stops_map}
 
 -- laid tokens of a text end once
 pub laid_as_ends : (number : ℕ) (bytes : List ℕ) (laid : List Laid) → TokensEndOnce → MarkedEndsOnce → LaidAs number bytes laid → LaidEndsOnce laid
 laid_as_ends number bytes laid ends marked l = marked l.tokens laid (ends true number bytes l.tokens l.lexed) l.marked
 
-unread_is : (h : Option (List File)) (folder : List ℕ) (number : ℕ) (name : List ℕ) (why : LoadWhy)
-    → IsUnreadFile h (file_of folder name) why → Refuses h folder number name why
-unread_is h folder number name (Read file fault) u =
-    subst (λ (f : List ℕ). Refuses h folder number name (Read f fault)) (sym u.0) (not_read fault u.1)
-unread_is h folder number name (Lex why at) u = absurd u
-unread_is h folder number name (Lay at) u = absurd u
-unread_is h folder number name (Parse fault) u = absurd u
-unread_is h folder number name (Cycle names) u = absurd u
-unread_is h folder number name (TooMany other) u = absurd u
-unread_is h folder number name (Twice other later earlier) u = absurd u
-unread_is h folder number name (WrongName other at) u = absurd u
+unread_is : {N : Type 0} (reading : Reading N) (h : Option (List File)) (folder : List ℕ) (number : ℕ) (name : List ℕ) (why : LoadWhy)
+    → IsUnreadFile h (file_of folder name) why → Refuses reading h folder number name why
+unread_is reading h folder number name (Read file fault) u =
+    subst (λ (f : List ℕ). Refuses reading h folder number name (Read f fault)) (sym u.0) (not_read fault u.1)
+unread_is reading h folder number name (Lex why at) u = absurd u
+unread_is reading h folder number name (Lay at) u = absurd u
+unread_is reading h folder number name (Parse fault) u = absurd u
+unread_is reading h folder number name (Cycle names) u = absurd u
+unread_is reading h folder number name (TooMany other) u = absurd u
+unread_is reading h folder number name (Twice other later earlier) u = absurd u
+unread_is reading h folder number name (WrongName other at) u = absurd u
 
-pub refuses_unread : (h : Option (List File)) (folder : List ℕ) (number : ℕ) (name file : List ℕ) (s : Stop) → file ≡ file_of folder name
-    → StopsBy (IsUnreadFile h file) s → StopsBy (Refuses h folder number name) s
-refuses_unread h folder number name file s e u =
-    stops_map (IsUnreadFile h file) (Refuses h folder number name) s
-    (λ why p. unread_is h folder number name why (subst (λ (f : List ℕ). IsUnreadFile h f why) e p)) u
+pub refuses_unread : {N : Type 0} (reading : Reading N) (h : Option (List File)) (folder : List ℕ) (number : ℕ) (name file : List ℕ) (s : Stop) → file ≡ file_of folder name
+    → StopsBy (IsUnreadFile h file) s → StopsBy (Refuses reading h folder number name) s
+refuses_unread reading h folder number name file s e u =
+    stops_map (IsUnreadFile h file) (Refuses reading h folder number name) s
+    (λ why p. unread_is reading h folder number name why (subst (λ (f : List ℕ). IsUnreadFile h f why) e p)) u
 
-pub refuses_bytes : (h : Option (List File)) (folder : List ℕ) (number : ℕ) (name file bytes : List ℕ) (s : Stop)
-    → file ≡ file_of folder name → IsText h file bytes → StopsBy (RefusesBytes number bytes name) s → StopsBy (Refuses h folder number name) s
-refuses_bytes h folder number name file bytes s e text m =
-    stops_map (RefusesBytes number bytes name) (Refuses h folder number name) s
+pub refuses_bytes : {N : Type 0} (reading : Reading N) (h : Option (List File)) (folder : List ℕ) (number : ℕ) (name file bytes : List ℕ) (s : Stop)
+    → file ≡ file_of folder name → IsText h file bytes → StopsBy (RefusesBytes reading number bytes name) s → StopsBy (Refuses reading h folder number name) s
+refuses_bytes reading h folder number name file bytes s e text m =
+    stops_map (RefusesBytes reading number bytes name) (Refuses reading h folder number name) s
     (λ why p. not_good bytes why (subst (λ (f : List ℕ). IsText h f bytes) e text) p) m
 
 -- bytes that spell no module
-pub bytes_misspelled : (number : ℕ) (bytes name : List ℕ) (s : Stop) → StopsBy (Misspells number bytes) s
-    → StopsBy (RefusesBytes number bytes name) s
-bytes_misspelled number bytes name s m = stops_map (Misspells number bytes) (RefusesBytes number bytes name) s (λ why p. misspelled why p) m
+pub bytes_misspelled : {N : Type 0} (reading : Reading N) (number : ℕ) (bytes name : List ℕ) (s : Stop) → StopsBy (reading.Misspells number bytes) s
+    → StopsBy (RefusesBytes reading number bytes name) s
+bytes_misspelled reading number bytes name s m = stops_map (reading.Misspells number bytes) (RefusesBytes reading number bytes name) s (λ why p. misspelled why p) m
 
 -- bytes that spell a module of another name
-pub bytes_misnamed : (number : ℕ) (bytes name : List ℕ) (m : Module) (s : Stop) → SpelledBy number bytes m → m.name ≢ name
-    → s ≡ stops.Refused (WrongName m.name m.at) → StopsBy (RefusesBytes number bytes name) s
-bytes_misnamed number bytes name m s spelled other e =
-    subst (λ (x : Stop). StopsBy (RefusesBytes number bytes name) x) (sym e) (misnamed m spelled other)
+pub bytes_misnamed : {N : Type 0} (reading : Reading N) (number : ℕ) (bytes name : List ℕ) (m : Module) (notes : List N) (s : Stop) → reading.Spells number bytes m notes → m.name ≢ name
+    → s ≡ stops.Refused (WrongName m.name m.at) → StopsBy (RefusesBytes reading number bytes name) s
+bytes_misnamed reading number bytes name m notes s spelled other e =
+    subst (λ (x : Stop). StopsBy (RefusesBytes reading number bytes name) x) (sym e) (misnamed m notes spelled other)
 
-pub bytes_named : (number : ℕ) (bytes name : List ℕ) (m : Module) (r : Result Module Stop) → SpelledBy number bytes m
-    → IfErr r (λ s. s ≡ stops.Refused (WrongName m.name m.at)) → OnErr r (m.name ≢ name) → IfErr r (StopsBy (RefusesBytes number bytes name))
-bytes_named number bytes name m (Ok x) spelled e other = tt
-bytes_named number bytes name m (Err s) spelled e other = bytes_misnamed number bytes name m s spelled other e
+pub bytes_named : {N A : Type 0} (reading : Reading N) (number : ℕ) (bytes name : List ℕ) (m : Module) (notes : List N) (r : Result A Stop) → reading.Spells number bytes m notes
+    → IfErr r (λ s. s ≡ stops.Refused (WrongName m.name m.at)) → OnErr r (m.name ≢ name) → IfErr r (StopsBy (RefusesBytes reading number bytes name))
+bytes_named reading number bytes name m notes (Ok x) spelled e other = tt
+bytes_named reading number bytes name m notes (Err s) spelled e other = bytes_misnamed reading number bytes name m notes s spelled other e
 
-pub file_bytes : (h : Option (List File)) (folder : List ℕ) (number : ℕ) (name file bytes : List ℕ) (r : Result Module Stop)
-    → file ≡ file_of folder name → IsText h file bytes → IfErr r (StopsBy (RefusesBytes number bytes name))
-    → IfErr r (StopsBy (Refuses h folder number name))
-file_bytes h folder number name file bytes (Ok x) e text m = tt
-file_bytes h folder number name file bytes (Err s) e text m = refuses_bytes h folder number name file bytes s e text m
+pub file_bytes : {N A : Type 0} (reading : Reading N) (h : Option (List File)) (folder : List ℕ) (number : ℕ) (name file bytes : List ℕ) (r : Result A Stop)
+    → file ≡ file_of folder name → IsText h file bytes → IfErr r (StopsBy (RefusesBytes reading number bytes name))
+    → IfErr r (StopsBy (Refuses reading h folder number name))
+file_bytes reading h folder number name file bytes (Ok x) e text m = tt
+file_bytes reading h folder number name file bytes (Err s) e text m = refuses_bytes reading h folder number name file bytes s e text m
+
+-- a refusal of bytes has no cause in a count of faults
+caused_not : {N : Type 0} (reading : Reading N) (h : Option (List File)) (before now number : ℕ) (bytes : List ℕ) (why : LoadWhy)
+    → reading.Misspells number bytes why → IsCaused h before now why
+caused_not reading h before now number bytes (Read file fault) m = absurd (reading.of_text number bytes file fault m)
+caused_not reading h before now number bytes (Lex kind at) m = tt
+caused_not reading h before now number bytes (Lay at) m = tt
+caused_not reading h before now number bytes (Parse fault) m = tt
+caused_not reading h before now number bytes (Cycle names) m = tt
+caused_not reading h before now number bytes (TooMany name) m = tt
+caused_not reading h before now number bytes (Twice name later earlier) m = tt
+caused_not reading h before now number bytes (WrongName name at) m = tt
+
+bytes_cause : {N : Type 0} (reading : Reading N) (h : Option (List File)) (before now number : ℕ) (bytes name : List ℕ) (why : LoadWhy)
+    → RefusesBytes reading number bytes name why → IsCaused h before now why
+bytes_cause reading h before now number bytes name _ (misspelled why m) = caused_not reading h before now number bytes why m
+bytes_cause reading h before now number bytes name _ (misnamed m notes spelled other) = tt
+
+pub bytes_caused : {N A : Type 0} (reading : Reading N) (h : Option (List File)) (before now number : ℕ) (bytes name : List ℕ) (r : Result A Stop)
+    → IfErr r (StopsBy (RefusesBytes reading number bytes name)) → IfErr r (StopsBy (IsCaused h before now))
+bytes_caused reading h before now number bytes name (Ok x) m = tt
+bytes_caused reading h before now number bytes name (Err s) m =
+    stops_map (RefusesBytes reading number bytes name) (IsCaused h before now) s (λ why p. bytes_cause reading h before now number bytes name why p) m

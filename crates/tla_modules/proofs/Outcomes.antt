@@ -1,63 +1,120 @@
 -- What loading answers, from what its parts answer.
-use Rattle.std.proofs.Common.{◌≡◌, sym, subst, ℕ, List, []}
+use Rattle.std.proofs.Common.{◌≡◌, ◌∙◌, refl, sym, ap, subst, cond, Bool, true, false, ℕ, List, [], ◌∷◌, ◌++◌, length}
 use Rattle.std.specs.Prelude.{Option, Result, Ok, Err, IfOk, IfErr}
 use Rattle.trace_base.specs.Device.{File}
 use Rattle.tla_ast.specs.declared.module.Program.{Program}
+use Rattle.tla_modules.specs.declared.loading.Loaded.{Loaded}
 use Rattle.tla_modules.specs.declared.fault.LoadFault.{LoadFault}
 use Rattle.tla_modules.specs.declared.fault.LoadFault.TheVariants.{Refused, NoMemory}
 use Rattle.tla_modules.specs.declared.fault.LoadWhy.{LoadWhy}
 use Rattle.tla_modules.specs.declared.fault.Stop.{Stop}
 use Rattle.tla_modules.specs.declared.fault.Stop.TheVariants as stops
-use Rattle.tla_modules.specs.declared.so_far.SoFar.{SoFar}
-use Rattle.tla_modules.specs.Flattened.{Outcome, Flattened, Visits, nothing_read}
-use Rattle.tla_modules.specs.Loads.{files_of, IsRefused, in_a_module, in_the_whole, Loads}
+use Rattle.tla_modules.specs.declared.notes.Noted.{Noted}
+use Rattle.tla_modules.specs.declared.so_far.Gathered.{Gathered}
+use Rattle.tla_modules.specs.Flattened.{OutcomeOf, Outcome, SoFar, FlattenedBy, Meets, Follows, Visits, closes_cycle, is_listed, was_read, one_too_many, is_visited, all_met, stopped, went_on, is_refused, stopped_below, is_whole, nothing_read, noted, with_module}
+use Rattle.tla_modules.specs.Loads.{files_of, IsProgram, IsProgramBy, IsRefusedBy, in_a_module, in_the_whole, Loads, LoadsBy}
 use Rattle.tla_modules.specs.Parts.{IsNewProgram, RefusesProgram, RefusesWith}
 use Rattle.tla_modules.specs.Paths.{IsPath}
-use Rattle.tla_modules.specs.Refusals.{IsCaused, StopsBy}
+use Rattle.tla_modules.specs.Readings.{Reading}
+use Rattle.tla_modules.specs.Refusals.{IsCaused, StopsBy, strict}
+use Rattle.tla_modules.specs.Standard.{is_among}
 
 -- from nothing on
-begins : (h : Option (List File)) (folder : List ℕ) (above : List (List ℕ)) (start : SoFar) (given name : List ℕ) (o : Outcome)
-    → above ≡ [] → start ≡ nothing_read → given ≡ name → Visits h folder above start given o → Flattened h folder name o
-begins h folder above start given name o none first same v =
-    subst (λ (n : List ℕ). Visits h folder [] nothing_read n o) same
-    (subst (λ (s : SoFar). Visits h folder [] s given o) first
-    (subst (λ (xs : List (List ℕ)). Visits h folder xs start given o) none v))
+begins : {N : Type 0} (reading : Reading N) (h : Option (List File)) (folder : List ℕ) (above : List (List ℕ)) (start : Gathered N) (given name : List ℕ) (o : OutcomeOf N)
+    → above ≡ [] → start ≡ nothing_read → given ≡ name → Visits reading h folder above start given o → FlattenedBy reading h folder name o
+begins {N = N} reading h folder above start given name o none first same v =
+    subst (λ (n : List ℕ). Visits reading h folder [] nothing_read n o) same
+    (subst (λ (s : Gathered N). Visits reading h folder [] s given o) first
+    (subst (λ (xs : List (List ℕ)). Visits reading h folder xs start given o) none v))
 
 -- all modules are read
-pub loads_program : (h : Option (List File)) (before now : ℕ) (path folder name given : List ℕ) (above : List (List ℕ)) (start all : SoFar)
-    (r : Result Program LoadFault) → IsPath path folder name → above ≡ [] → start ≡ nothing_read → given ≡ name
-    → Visits h folder above start given (Ok all) → IfOk r (IsNewProgram folder all) → IfErr r (RefusesProgram folder all)
-    → Loads h before now path r
-loads_program h before now path folder name given above start all (Ok p) is none first same v ok err = (
+pub loads_program : {N : Type 0} (reading : Reading N) (h : Option (List File)) (before now : ℕ) (path folder name given : List ℕ) (above : List (List ℕ)) (start all : Gathered N)
+    (r : Result (Loaded N) LoadFault) → IsPath path folder name → above ≡ [] → start ≡ nothing_read → given ≡ name
+    → Visits reading h folder above start given (Ok all) → IfOk r (λ l. IsNewProgram folder all l.program) → IfOk r (λ l. l.notes ≡ all.notes) → IfErr r (RefusesProgram folder all)
+    → LoadsBy reading h before now path r
+loads_program reading h before now path folder name given above start all (Ok l) is none first same v ok told err = (
   folder,
   name,
   is,
   record {
     all = all;
-    flattened = begins h folder above start given name (Ok all) none first same v;
+    flattened = begins reading h folder above start given name (Ok all) none first same v;
     program = ok.program;
+    noted = told;
     names = ok.names;
   },
 )
-loads_program h before now path folder name given above start all (Err (Refused files why)) is none first same v ok err =
-    let flat : Flattened h folder name (Ok all) = begins h folder above start given name (Ok all) none first same v in
-    (folder, name, is, subst (λ (fs : List (List ℕ)). IsRefused h before now folder name fs why) (sym err.0) (in_the_whole all why flat err.1))
-loads_program h before now path folder name given above start all (Err NoMemory) is none first same v ok err = tt
+loads_program reading h before now path folder name given above start all (Err (Refused files why)) is none first same v ok told err =
+    let flat : FlattenedBy reading h folder name (Ok all) = begins reading h folder above start given name (Ok all) none first same v in
+    (folder, name, is, subst (λ (fs : List (List ℕ)). IsRefusedBy reading h before now folder name fs why) (sym err.0) (in_the_whole all why flat err.1))
+loads_program reading h before now path folder name given above start all (Err NoMemory) is none first same v ok told err = tt
 
 -- a module is refused
-pub loads_refused : (h : Option (List File)) (before now : ℕ) (path folder name given : List ℕ) (above : List (List ℕ)) (start : SoFar)
+pub loads_refused : {N : Type 0} (reading : Reading N) (h : Option (List File)) (before now : ℕ) (path folder name given : List ℕ) (above : List (List ℕ)) (start : Gathered N)
     (modules : List (List ℕ)) (s : Stop) (e : LoadFault) → IsPath path folder name → above ≡ [] → start ≡ nothing_read → given ≡ name
-    → StopsBy (λ why. Visits h folder above start given (Err (modules, why))) s → StopsBy (IsCaused h before now) s
-    → RefusesWith folder modules s e → Loads h before now path (Err e)
-loads_refused h before now path folder name given above start modules (stops.Refused why) (Refused files other) is none first same v caused with =
-    let flat : Flattened h folder name (Err (modules, why)) = begins h folder above start given name (Err (modules, why)) none first same v in
-    let here : IsRefused h before now folder name (files_of folder modules) why = in_a_module modules why flat caused in (
+    → StopsBy (λ why. Visits reading h folder above start given (Err (modules, why))) s → StopsBy (IsCaused h before now) s
+    → RefusesWith folder modules s e → LoadsBy reading h before now path (Err e)
+loads_refused reading h before now path folder name given above start modules (stops.Refused why) (Refused files other) is none first same v caused with =
+    let flat : FlattenedBy reading h folder name (Err (modules, why)) = begins reading h folder above start given name (Err (modules, why)) none first same v in
+    let here : IsRefusedBy reading h before now folder name (files_of folder modules) why = in_a_module modules why flat caused in (
       folder,
       name,
       is,
-      subst (λ (w : LoadWhy). IsRefused h before now folder name files w) (sym with.1)
-          (subst (λ (fs : List (List ℕ)). IsRefused h before now folder name fs why) (sym with.0) here),
+      subst (λ (w : LoadWhy). IsRefusedBy reading h before now folder name files w) (sym with.1)
+          (subst (λ (fs : List (List ℕ)). IsRefusedBy reading h before now folder name fs why) (sym with.0) here),
     )
-loads_refused h before now path folder name given above start modules (stops.Refused why) NoMemory is none first same v caused with = tt
-loads_refused h before now path folder name given above start modules stops.NoMemory (Refused files other) is none first same v caused with = absurd with
-loads_refused h before now path folder name given above start modules stops.NoMemory NoMemory is none first same v caused with = tt
+loads_refused reading h before now path folder name given above start modules (stops.Refused why) NoMemory is none first same v caused with = tt
+loads_refused reading h before now path folder name given above start modules stops.NoMemory (Refused files other) is none first same v caused with = absurd with
+loads_refused reading h before now path folder name given above start modules stops.NoMemory NoMemory is none first same v caused with = tt
+
+-- read strictly there are no notes
+
+abbrev HasNone : Outcome → Type 0
+HasNone (Ok so) = so.notes ≡ []
+HasNone (Err e) = Unit {0}
+
+picked : {A : Type 0} (P : A → Type 0) (b : Bool) (x y : A) → P x → P y → P (cond b x y)
+picked P true x y h k = h
+picked P false x y h k = k
+
+module _ (h : Option (List File)) (folder : List ℕ) where
+  mutual
+    meets_none : (path : List (List ℕ)) (so : SoFar) (name : List ℕ) (o : Outcome) → Meets strict h folder path so name o → so.notes ≡ [] → HasNone o
+    meets_none _ _ _ _ (closes_cycle path so name names c) e = tt
+    meets_none _ _ _ _ (is_listed path so name a s) e =
+        picked (λ (x : SoFar). x.notes ≡ []) (is_among name so.standard) so
+        (record { modules = so.modules; units = so.units; standard = so.standard ++ name ∷ []; notes = so.notes }) e e
+    meets_none _ _ _ _ (was_read path so name a s r) e = e
+    meets_none _ _ _ _ (one_too_many path so name a s r l) e = tt
+    meets_none _ _ _ _ (is_visited path so name o a s r l v) e = visits_none path so name o v e
+
+    follows_none : (path : List (List ℕ)) (so : SoFar) (names : List (List ℕ)) (o : Outcome) → Follows strict h folder path so names o → so.notes ≡ [] → HasNone o
+    follows_none _ _ _ _ (all_met path so) e = e
+    follows_none _ _ _ _ (stopped path so name names d m) e = tt
+    follows_none _ _ _ _ (went_on path so next name names o m f) e = follows_none path next names o f (meets_none path so name (Ok next) m e)
+
+    visits_none : (path : List (List ℕ)) (so : SoFar) (name : List ℕ) (o : Outcome) → Visits strict h folder path so name o → so.notes ≡ [] → HasNone o
+    visits_none _ _ _ _ (is_refused path so name why r) e = tt
+    visits_none _ _ _ _ (stopped_below path so name m notes d i f) e = tt
+    visits_none _ _ _ _ (is_whole path so below name m notes i f) e =
+        let under : below.notes ≡ [] = follows_none (path ++ name ∷ []) (with_module so name) m.extends (Ok below) f e in
+        ap (λ (x : List (Noted (Unit {0}))). x ++ noted (length so.modules) notes) under ∙ ap (λ (x : List (Unit {0})). noted (length so.modules) x) i.spelled.1
+
+pub no_notes : (h : Option (List File)) (folder name : List ℕ) (p : Program) (notes : List (Noted (Unit {0}))) → IsProgramBy strict h folder name p notes
+    → IsProgram h folder name p
+no_notes h folder name p notes i = record {
+  all = i.all;
+  flattened = i.flattened;
+  program = i.program;
+  noted = sym (visits_none h folder [] nothing_read name (Ok i.all) i.flattened refl);
+  names = i.names;
+}
+
+pub loads_so : (h : Option (List File)) (before now : ℕ) (path : List ℕ) (l : Loaded (Unit {0})) → LoadsBy strict h before now path (Ok l)
+    → Loads h before now path (Ok l.program)
+loads_so h before now path l g = (g.0, g.1, g.2, no_notes h g.0 g.1 l.program l.notes g.3)
+
+pub loads_not : (h : Option (List File)) (before now : ℕ) (path : List ℕ) (e : LoadFault) → LoadsBy strict h before now path (Err e)
+    → Loads h before now path (Err e)
+loads_not h before now path (Refused files why) g = g
+loads_not h before now path NoMemory g = tt

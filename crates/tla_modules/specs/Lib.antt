@@ -3,6 +3,7 @@ pub mod Known
 pub mod Loads
 pub mod Parts
 pub mod Paths
+pub mod Readings
 pub mod Refusals
 pub mod Standard
 pub mod Twice

@@ -1,9 +1,9 @@
 -- What the file of one module gives: a module, or a refusal.
 --
--- A module is what its file's bytes spell: they have tokens, the tokens have their junction lists marked, and these spell the module, each of
--- them inside at most 100 unfinished constructs of its unit. It has the name under which it was sought. `number` is the number of its file,
--- which each place in it carries.
-use Rattle.std.specs.Prelude.{◌≡◌, ◌≢◌, ℕ, ◌≤◌, true, List, length, Option, Some, None, Ok, Err}
+-- Read strictly, a module is what its file's bytes spell: they have tokens, the tokens have their junction lists marked, and these spell the
+-- module, each of them inside at most 100 unfinished constructs of its unit. What a file gives is said for any reading, and the strict one is a
+-- case. A module has the name under which it was sought. `number` is the number of its file, which each place in it carries.
+use Rattle.std.specs.Prelude.{◌≡◌, ◌≢◌, ℕ, ◌≤◌, true, List, [], length, Option, Some, None, Ok, Err}
 use Rattle.trace_base.specs.Device.{File, found, Rose, Lacks, IsWhole, IsLonger}
 use Rattle.trace_base.specs.declared.reading.ReadFault.{ReadFault}
 use Rattle.trace_base.specs.declared.reading.ReadFault.TheVariants.{Missing, Failed, TooLong, NoMemory}
@@ -21,6 +21,7 @@ use Rattle.tla_modules.specs.declared.fault.LoadWhy.TheVariants.{Read, Lex, Lay,
 use Rattle.tla_modules.specs.declared.fault.Stop.{Stop}
 use Rattle.tla_modules.specs.declared.fault.Stop.TheVariants as stops
 use Rattle.tla_modules.specs.Paths.{file_of}
+use Rattle.tla_modules.specs.Readings.{Reading}
 
 -- a module's file has at most this many bytes
 abbrev pub module_limit : ℕ
@@ -30,6 +31,8 @@ module_limit = 1048576
 pub record IsText (holds : Option (List File)) (file : List ℕ) (bytes : List ℕ) : Type 0 where
   pub whole : IsWhole file holds bytes
   pub short : length bytes ≤ module_limit
+
+-- ---- a text that is read strictly
 
 -- the bytes have these tokens, here with their junction lists marked
 pub record LaidAs (number : ℕ) (bytes : List ℕ) (laid : List Laid) : Type 0 where
@@ -44,11 +47,36 @@ pub record SpelledBy (number : ℕ) (bytes : List ℕ) (m : Module) : Type 0 whe
   pub spells : SpellsModule m laid
   pub shallow : ShallowWholeModule laid
 
--- the file of that name spells this module, which has the name
-pub record IsModule (holds : Option (List File)) (folder : List ℕ) (number : ℕ) (name : List ℕ) (m : Module) : Type 0 where
+-- the laid tokens are refused as a module, by this cause
+abbrev pub IsUnparsed : List Laid → ParseFault → Type 0
+IsUnparsed laid fault = IsRefusedModule laid fault × (fault ≢ parse.NoMemory)
+
+-- the bytes spell no module: they have no tokens, the tokens no junction lists, or these are refused as a module
+abbrev pub Misspells : ℕ → List ℕ → LoadWhy → Type 0
+Misspells number bytes (Lex why at) = Tokens true number bytes (Err (why, at))
+Misspells number bytes (Lay at) = (tokens : List Token) × Tokens true number bytes (Ok tokens) × IsLeftOfList tokens at
+Misspells number bytes (Parse fault) = (laid : List Laid) × LaidAs number bytes laid × IsUnparsed laid fault
+Misspells number bytes (Read file fault) = ⊥
+Misspells number bytes (Cycle names) = ⊥
+Misspells number bytes (TooMany name) = ⊥
+Misspells number bytes (Twice name later earlier) = ⊥
+Misspells number bytes (WrongName name at) = ⊥
+
+-- the strict reading, which has no notes
+abbrev pub strict : Reading (Unit {0})
+strict = record {
+  Spells = λ number bytes m notes. SpelledBy number bytes m × (notes ≡ []);
+  Misspells = Misspells;
+  of_text = λ number bytes file fault h. h;
+}
+
+-- ---- a file, by any reading of its text
+
+-- the file of that name spells this module with these notes, and it has the name
+pub record IsModule {N : Type 0} (reading : Reading N) (holds : Option (List File)) (folder : List ℕ) (number : ℕ) (name : List ℕ) (m : Module) (notes : List N) : Type 0 where
   pub bytes : List ℕ
   pub text : IsText holds (file_of folder name) bytes
-  pub spelled : SpelledBy number bytes m
+  pub spelled : reading.Spells number bytes m notes
   pub named : m.name ≡ name
 
 -- where the files tell: there is no such file
@@ -74,32 +102,18 @@ IsUnreadFile holds file (TooMany name) = ⊥
 IsUnreadFile holds file (Twice name later earlier) = ⊥
 IsUnreadFile holds file (WrongName name at) = ⊥
 
--- the laid tokens are refused as a module, by this cause
-abbrev pub IsUnparsed : List Laid → ParseFault → Type 0
-IsUnparsed laid fault = IsRefusedModule laid fault × (fault ≢ parse.NoMemory)
-
--- the bytes spell no module: they have no tokens, the tokens no junction lists, or these are refused as a module
-abbrev pub Misspells : ℕ → List ℕ → LoadWhy → Type 0
-Misspells number bytes (Lex why at) = Tokens true number bytes (Err (why, at))
-Misspells number bytes (Lay at) = (tokens : List Token) × Tokens true number bytes (Ok tokens) × IsLeftOfList tokens at
-Misspells number bytes (Parse fault) = (laid : List Laid) × LaidAs number bytes laid × IsUnparsed laid fault
-Misspells number bytes (Read file fault) = ⊥
-Misspells number bytes (Cycle names) = ⊥
-Misspells number bytes (TooMany name) = ⊥
-Misspells number bytes (Twice name later earlier) = ⊥
-Misspells number bytes (WrongName name at) = ⊥
-
 -- the bytes spell no module, or one of another name
-pub data RefusesBytes (number : ℕ) (bytes name : List ℕ) : LoadWhy → Type 0 where
-  misspelled : (why : LoadWhy) → Misspells number bytes why → RefusesBytes number bytes name why
-  misnamed : (m : Module) → SpelledBy number bytes m → m.name ≢ name → RefusesBytes number bytes name (WrongName m.name m.at)
+pub data RefusesBytes {N : Type 0} (reading : Reading N) (number : ℕ) (bytes name : List ℕ) : LoadWhy → Type 0 where
+  misspelled : (why : LoadWhy) → reading.Misspells number bytes why → RefusesBytes reading number bytes name why
+  misnamed : (m : Module) (notes : List N) → reading.Spells number bytes m notes → m.name ≢ name
+      → RefusesBytes reading number bytes name (WrongName m.name m.at)
 
 -- the file of that module is not read, or its bytes are refused
-pub data Refuses (holds : Option (List File)) (folder : List ℕ) (number : ℕ) (name : List ℕ) : LoadWhy → Type 0 where
+pub data Refuses {N : Type 0} (reading : Reading N) (holds : Option (List File)) (folder : List ℕ) (number : ℕ) (name : List ℕ) : LoadWhy → Type 0 where
   not_read : (fault : ReadFault) → IsUnread holds (file_of folder name) fault
-      → Refuses holds folder number name (Read (file_of folder name) fault)
-  not_good : (bytes : List ℕ) (why : LoadWhy) → IsText holds (file_of folder name) bytes → RefusesBytes number bytes name why
-      → Refuses holds folder number name why
+      → Refuses reading holds folder number name (Read (file_of folder name) fault)
+  not_good : (bytes : List ℕ) (why : LoadWhy) → IsText holds (file_of folder name) bytes → RefusesBytes reading number bytes name why
+      → Refuses reading holds folder number name why
 
 -- what a refusal says of the count of faults: a file is missing where the files tell so, or else the count rose; a read failed only
 -- where it rose

@@ -2,36 +2,49 @@
 
 ghost use Rattle.std.specs.Prelude.{◌≡◌, ◌≤◌, ℕ, List, IfOk, IfErr};
 ghost use Rattle.tla_modules.specs.Paths.{IsPath};
-ghost use Rattle.tla_modules.specs.Loads.{Loads};
+ghost use Rattle.tla_modules.specs.Loads.{Loads, LoadsBy};
 ghost use Rattle.tla_modules.specs.Parts.{IsNewProgram, RefusesProgram, RefusesWith};
 
 use crate::fault::{LoadFault, Stop};
 use crate::meeting::visit;
+use crate::notes::Notes;
 use crate::path::{files_of, parts_of};
-use crate::so_far::SoFar;
+use crate::reader::{ModuleReader, StrictReader};
+use crate::so_far::Gathered;
 use crate::twice::repeated;
 use std::alloc::Global;
 use tla_ast::Program;
 use trace_base::{Files, Text};
 
+/// A program, and the notes of its modules, in the order of its units.
+#[derive(Drop)]
+pub struct Loaded<N> {
+    pub program: Program,
+    pub notes: Notes<N>,
+}
+
 /// The program of modules that are read, or the refusal of a name that is declared twice.
-fn program(alloc: Global, folder: &str, all: SoFar) -> Result<Program, LoadFault>
-    ensures program { IfOk result (IsNewProgram folder.now all) }
+fn program<N: Drop>(alloc: Global, folder: &str, all: Gathered<N>) -> Result<Loaded<N>, LoadFault>
+    ensures program { IfOk result (λ l. IsNewProgram folder.now all l.program) }
+    ensures noted { IfOk result (λ l. l.notes ≡ all.notes) }
     ensures refused { IfErr result (RefusesProgram folder.now all) }
 {
     let files = files_of(alloc, folder, &all.modules)?;
     match repeated(alloc, &all.standard, &all.units)? {
         Some(why) => Err(LoadFault::Refused(files, why)),
-        None => Ok(Program {
-            files,
-            units: all.units,
-            standard: all.standard,
+        None => Ok(Loaded {
+            program: Program {
+                files,
+                units: all.units,
+                standard: all.standard,
+            },
+            notes: all.notes,
         }),
     }
 }
 
 /// A refusal with the files so far.
-fn refusal(alloc: Global, folder: &str, so: &SoFar, stop: Stop) -> LoadFault
+fn refusal<N: Drop>(alloc: Global, folder: &str, so: &Gathered<N>, stop: Stop) -> LoadFault
     ensures { RefusesWith folder.now so.now.modules stop result }
 {
     match stop {
@@ -44,13 +57,18 @@ fn refusal(alloc: Global, folder: &str, so: &SoFar, stop: Stop) -> LoadFault
 }
 
 /// Reads the module of that path and those that it extends, directly or through others, depth first in the order of EXTENDS, each
-/// once. Standard modules are not read.
+/// once, and the text of each as the reader does. Standard modules are not read.
 ///
 /// The first refusal is answered: of a module while it is read, compared with its name, and followed to those that it extends; behind
 /// all modules of a name that is declared twice.
-pub fn load<F: Files>(alloc: Global, files: &mut F, path: &str) -> Result<Program, LoadFault>
+pub fn load_by<F: Files, R: ModuleReader>(
+    alloc: Global,
+    files: &mut F,
+    reader: &R,
+    path: &str,
+) -> Result<Loaded<R::Note>, LoadFault>
     requires { (folder : List ℕ) × (name : List ℕ) × IsPath path.now folder name }
-    ensures loads { Loads (F.holds files.old) (F.faults files.old) (F.faults files.new) path.now result }
+    ensures loads { LoadsBy (R.reading reader.now) (F.holds files.old) (F.faults files.old) (F.faults files.new) path.now result }
     ensures same { F.holds files.new ≡ F.holds files.old }
     ensures later { F.faults files.old ≤ F.faults files.new }
 {
@@ -58,10 +76,23 @@ pub fn load<F: Files>(alloc: Global, files: &mut F, path: &str) -> Result<Progra
         unreachable!()
     };
     let name = Text::from_text(alloc, name)?;
-    let mut so = SoFar::new(alloc);
+    let mut so = Gathered::new(alloc);
     let mut above = Vec::new(alloc);
-    match visit(alloc, files, folder, &mut above, &mut so, &name) {
+    match visit(alloc, files, reader, folder, &mut above, &mut so, &name) {
         Ok(()) => program(alloc, folder, so),
         Err(stop) => Err(refusal(alloc, folder, &so, stop)),
+    }
+}
+
+/// The same, where the text of each module is read strictly.
+pub fn load<F: Files>(alloc: Global, files: &mut F, path: &str) -> Result<Program, LoadFault>
+    requires { (folder : List ℕ) × (name : List ℕ) × IsPath path.now folder name }
+    ensures loads { Loads (F.holds files.old) (F.faults files.old) (F.faults files.new) path.now result }
+    ensures same { F.holds files.new ≡ F.holds files.old }
+    ensures later { F.faults files.old ≤ F.faults files.new }
+{
+    match load_by(alloc, files, &StrictReader, path) {
+        Ok(loaded) => Ok(loaded.program),
+        Err(fault) => Err(fault),
     }
 }

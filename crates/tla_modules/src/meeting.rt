@@ -8,11 +8,11 @@ ghost use Rattle.tla_modules.specs.Standard.{is_among};
 
 use crate::fault::{LoadWhy, Stop};
 use crate::names::is_among;
+use crate::reader::{ModuleReader, SpelledModule};
 use crate::reading::read_module;
-use crate::so_far::SoFar;
+use crate::so_far::Gathered;
 use crate::standard::is_standard;
 use std::alloc::Global;
-use tla_ast::Module;
 use trace_base::{Files, Names, NoMemory, Text};
 
 /// The most modules of a program, standard ones not counted.
@@ -44,7 +44,7 @@ fn round(alloc: Global, path: &[Text], name: &Text) -> Result<Names, NoMemory>
 }
 
 /// Lists a standard module, once.
-fn list_standard(so: &mut SoFar, name: &Text) -> Result<(), Stop>
+fn list_standard<N: Drop>(so: &mut Gathered<N>, name: &Text) -> Result<(), Stop>
     ensures listed { OnOk result (so.new ≡ with_standard so.old name.now) }
     ensures no_refusal { IfErr result (λ e. e ≡ Stop.NoMemory) }
 {
@@ -56,16 +56,17 @@ fn list_standard(so: &mut SoFar, name: &Text) -> Result<(), Stop>
 
 /// Meets a name under EXTENDS.
 #[cycle(meeting)]
-fn meet<F: Files>(
+fn meet<F: Files, R: ModuleReader>(
     alloc: Global,
     files: &mut F,
+    reader: &R,
     folder: &str,
     path: &mut Vec<Text>,
-    so: &mut SoFar,
+    so: &mut Gathered<R::Note>,
     name: &Text,
 ) -> Result<(), Stop>
-    ensures met { OnOk result (Meets (F.holds files.old) folder.now path.old.items so.old name.now (Ok so.new)) }
-    ensures stopped { IfErr result (StopsBy (λ why. Meets (F.holds files.old) folder.now path.old.items so.old name.now (Err (so.new.modules, why)))) }
+    ensures met { OnOk result (Meets (R.reading reader.now) (F.holds files.old) folder.now path.old.items so.old name.now (Ok so.new)) }
+    ensures stopped { IfErr result (StopsBy (λ why. Meets (R.reading reader.now) (F.holds files.old) folder.now path.old.items so.old name.now (Err (so.new.modules, why)))) }
     ensures caused { IfErr result (StopsBy (IsCaused (F.holds files.old) (F.faults files.old) (F.faults files.new))) }
     ensures path { OnOk result (path.new.items ≡ path.old.items) }
     ensures more { OnOk result (length so.old.modules ≤ length so.new.modules) }
@@ -84,21 +85,22 @@ fn meet<F: Files>(
     if so.modules.len() >= MOST {
         return Err(Stop::Refused(LoadWhy::TooMany(name.copy()?)));
     }
-    visit(alloc, files, folder, path, so, name)
+    visit(alloc, files, reader, folder, path, so, name)
 }
 
 /// Meets the names under EXTENDS, one behind the other.
 #[cycle(meeting)]
-fn follow<F: Files>(
+fn follow<F: Files, R: ModuleReader>(
     alloc: Global,
     files: &mut F,
+    reader: &R,
     folder: &str,
     path: &mut Vec<Text>,
-    so: &mut SoFar,
+    so: &mut Gathered<R::Note>,
     names: &[Text],
 ) -> Result<(), Stop>
-    ensures followed { OnOk result (Follows (F.holds files.old) folder.now path.old.items so.old names.now (Ok so.new)) }
-    ensures stopped { IfErr result (StopsBy (λ why. Follows (F.holds files.old) folder.now path.old.items so.old names.now (Err (so.new.modules, why)))) }
+    ensures followed { OnOk result (Follows (R.reading reader.now) (F.holds files.old) folder.now path.old.items so.old names.now (Ok so.new)) }
+    ensures stopped { IfErr result (StopsBy (λ why. Follows (R.reading reader.now) (F.holds files.old) folder.now path.old.items so.old names.now (Err (so.new.modules, why)))) }
     ensures caused { IfErr result (StopsBy (IsCaused (F.holds files.old) (F.faults files.old) (F.faults files.new))) }
     ensures path { OnOk result (path.new.items ≡ path.old.items) }
     ensures more { OnOk result (length so.old.modules ≤ length so.new.modules) }
@@ -106,7 +108,7 @@ fn follow<F: Files>(
     ensures later { F.faults files.old ≤ F.faults files.new }
 {
     for name in names {
-        match meet(alloc, files, folder, path, so, name) {
+        match meet(alloc, files, reader, folder, path, so, name) {
             Ok(()) => {}
             Err(stop) => return Err(stop),
         }
@@ -114,29 +116,41 @@ fn follow<F: Files>(
     Ok(())
 }
 
-/// Follows the EXTENDS of a module that was read, and adds its units.
+/// Follows the EXTENDS of a module that was read, and adds its units and notes.
 #[cycle(meeting)]
-fn finish<F: Files>(
+fn finish<F: Files, R: ModuleReader>(
     alloc: Global,
     files: &mut F,
+    reader: &R,
     folder: &str,
     path: &mut Vec<Text>,
-    so: &mut SoFar,
-    read: Module,
+    so: &mut Gathered<R::Note>,
+    number: u32,
+    read: SpelledModule<R::Note>,
 ) -> Result<(), Stop>
-    ensures followed { OnOk result (Ends (F.holds files.old) folder.now path.old.items so.old read so.new) }
-    ensures stopped { IfErr result (StopsBy (λ why. Follows (F.holds files.old) folder.now (path.old.items ++ read.name ∷ []) so.old read.extends (Err (so.new.modules, why)))) }
+    ensures followed { OnOk result (Ends (R.reading reader.now) (F.holds files.old) folder.now path.old.items so.old number read.module read.notes.items so.new) }
+    ensures stopped { IfErr result (StopsBy (λ why. Follows (R.reading reader.now) (F.holds files.old) folder.now (path.old.items ++ read.module.name ∷ []) so.old read.module.extends (Err (so.new.modules, why)))) }
     ensures caused { IfErr result (StopsBy (IsCaused (F.holds files.old) (F.faults files.old) (F.faults files.new))) }
     ensures path { OnOk result (path.new.items ≡ path.old.items) }
     ensures more { OnOk result (length so.old.modules ≤ length so.new.modules) }
     ensures same { F.holds files.new ≡ F.holds files.old }
     ensures later { F.faults files.old ≤ F.faults files.new }
 {
-    path.push(read.name)?;
-    match follow(alloc, files, folder, path, so, read.extends.items()) {
+    let module = read.module;
+    path.push(module.name)?;
+    match follow(
+        alloc,
+        files,
+        reader,
+        folder,
+        path,
+        so,
+        module.extends.items(),
+    ) {
         Ok(()) => {
             path.pop();
-            so.units.append(read.units)?;
+            so.units.append(module.units)?;
+            so.notes.add(number, read.notes)?;
             Ok(())
         }
         Err(stop) => Err(stop),
@@ -145,17 +159,18 @@ fn finish<F: Files>(
 
 /// Reads a module, and those that it extends.
 #[cycle(meeting)]
-pub fn visit<F: Files>(
+pub fn visit<F: Files, R: ModuleReader>(
     alloc: Global,
     files: &mut F,
+    reader: &R,
     folder: &str,
     path: &mut Vec<Text>,
-    so: &mut SoFar,
+    so: &mut Gathered<R::Note>,
     name: &Text,
 ) -> Result<(), Stop>
     requires { length so.old.modules < most_modules }
-    ensures visited { OnOk result (Visits (F.holds files.old) folder.now path.old.items so.old name.now (Ok so.new)) }
-    ensures stopped { IfErr result (StopsBy (λ why. Visits (F.holds files.old) folder.now path.old.items so.old name.now (Err (so.new.modules, why)))) }
+    ensures visited { OnOk result (Visits (R.reading reader.now) (F.holds files.old) folder.now path.old.items so.old name.now (Ok so.new)) }
+    ensures stopped { IfErr result (StopsBy (λ why. Visits (R.reading reader.now) (F.holds files.old) folder.now path.old.items so.old name.now (Err (so.new.modules, why)))) }
     ensures caused { IfErr result (StopsBy (IsCaused (F.holds files.old) (F.faults files.old) (F.faults files.new))) }
     ensures path { OnOk result (path.new.items ≡ path.old.items) }
     ensures more { OnOk result (length so.old.modules ≤ length so.new.modules) }
@@ -164,8 +179,8 @@ pub fn visit<F: Files>(
 {
     let number = so.modules.len() as u32;
     so.modules.push(name.copy()?)?;
-    match read_module(alloc, files, folder, number, name) {
-        Ok(read) => finish(alloc, files, folder, path, so, read),
+    match read_module(alloc, files, reader, folder, number, name) {
+        Ok(read) => finish(alloc, files, reader, folder, path, so, number, read),
         Err(stop) => Err(stop),
     }
 }

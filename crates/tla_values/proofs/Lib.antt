@@ -1,5 +1,4 @@
 pub mod Depths
-pub mod Lexicographic
 pub mod Comparing
 pub mod Entries
 pub mod Forms

@@ -519,10 +519,10 @@ fn compare(a: &Value, b: &Value) -> Ordering
     ensures { result ≡ val_cmp a.now b.now }
 {
     match (&a.node, &b.node) {
-        (Node::Model(x), Node::Model(y)) => x.as_str().cmp(y.as_str()),
+        (Node::Model(x), Node::Model(y)) => x.cmp(y),
         (Node::Bool(x), Node::Bool(y)) => x.cmp(y),
         (Node::Int(x), Node::Int(y)) => x.cmp(y),
-        (Node::String(x), Node::String(y)) => x.as_str().cmp(y.as_str()),
+        (Node::String(x), Node::String(y)) => x.cmp(y),
         (Node::Set(x), Node::Set(y)) => compare_items(&x.items, &y.items),
         (Node::Sequence(x), Node::Sequence(y)) => compare_items(&x.items, &y.items),
         (Node::Record(x), Node::Record(y)) => compare_fields(&x.fields, &y.fields),

@@ -110,8 +110,22 @@ impl Ord for Text {
     ghost matches_eq = { texts_ties };
 
     fn cmp(&self, other: &Text) -> Ordering {
-        self.as_str().cmp(other.as_str())
+        compare_bytes(self.as_str().as_bytes(), other.as_str().as_bytes())
     }
+}
+
+/// The order of the first bytes that differ, or of the lengths. Byte by byte, since texts of values are short.
+fn compare_bytes(a: &[u8], b: &[u8]) -> Ordering
+    ensures { result ≡ slice_cmp nat_cmp a.now b.now }
+{
+    let shared = a.len().min(b.len());
+    for i in 0..shared {
+        let order = a[i].cmp(&b[i]);
+        if order.is_ne() {
+            return order;
+        }
+    }
+    a.len().cmp(&b.len())
 }
 
 impl Hash for Text {

@@ -5,38 +5,51 @@ use Rattle.std.proofs.lemmas.List.Elements.{All-nil}
 use Rattle.trace_base.specs.Device.{File}
 use Rattle.tla_ast.specs.declared.config.Config.{Config}
 use Rattle.tla_ast.specs.declared.module.Program.{Program}
+use Rattle.tla_modules.specs.declared.notes.Noted.{Noted}
+use Rattle.wide_modules.specs.declared.unread.Unread.{Unread}
 use Rattle.tla_terms.specs.declared.spec.Spec.{Spec}
 use Rattle.tla_levels.specs.Resolved.{Resolved, accepted}
 use Rattle.specification_names.proofs.Readings.{resolved_with}
 use Rattle.path_updates.specs.declared.line.Log.{Log}
 use Rattle.state_verdicts.specs.declared.verdict.Verdict.TheVariants.{Valid}
 use Rattle.run_words.specs.declared.job.Job.{Job}
-use Rattle.run_reading.specs.Reaches.{AllRead, Reaches, configured, has_forms, logged, needs_no_configuration, reads_configuration, reads_log, resolved, resolves}
+use Rattle.run_reading.specs.Reaches.{AllRead, Reaches, configured, given, has_forms, logged, needs_no_configuration, passes, reads_configuration, reads_log, resolved, resolves}
 use Rattle.run_reading.specs.Texts.{LogsRead}
 use Rattle.unchecked_laws.specs.Laws.{HasNoFeed, UncheckedAreLines}
+use Rattle.wide_reading.specs.Laws.{PassedAreLines}
 use Rattle.printed_laws.specs.Laws.{IsPlaced, PrintedIsValid}
 use Rattle.trace_cli.specs.Calls.{asked_by, is_answered_given, is_judged, named_in}
 use Rattle.valid_reports.specs.Laws.{IsCheckedValid, PrintsValid}
 
-configured_lines : (holds : Option (List File)) (job : Job) (p : Program) (c : Config) → UncheckedAreLines → Reaches holds job (configured p c) → All HasNoFeed c.unchecked
-configured_lines holds job p c law (needs_no_configuration _ reaches none) = All-nil HasNoFeed
-configured_lines holds job p c law (reads_configuration _ name text _ reaches some has reads) = law job.wide (length p.files) name text c reads
+-- What is known of the texts that the report has behind NOT CHECKED: those of a configuration that is read are lines, and what is passed over adds lines.
+pub record LinesKnown : Type 0 where
+  pub read : UncheckedAreLines
+  pub passed : PassedAreLines
+
+given_lines : (holds : Option (List File)) (job : Job) (p : Program) (unread : List (Noted Unread)) (c : Config) → LinesKnown → Reaches holds job (given p unread c)
+    → All HasNoFeed c.unchecked
+given_lines holds job _ _ _ law (needs_no_configuration p unread reaches none) = All-nil HasNoFeed
+given_lines holds job _ _ _ law (reads_configuration p unread name text c reaches some has reads) = law.read job.wide (length p.files) name text c reads
+
+configured_lines : (holds : Option (List File)) (job : Job) (p : Program) (c : Config) → LinesKnown → Reaches holds job (configured p c) → All HasNoFeed c.unchecked
+configured_lines holds job _ _ law (passes p q unread c d reaches is) =
+    law.passed job.wide p q c d job.silent unread is (given_lines holds job p unread c law reaches)
 
 -- a specification leaves unchecked what its configuration does
 same_unchecked : (p : Program) (c : Config) (silent : Option (List ℕ)) (s : Spec) → Resolved p c silent (Ok s) → s.unchecked ≡ c.unchecked
 same_unchecked p c silent _ (accepted values number ops assumes s conf low is) = is.unchecked
 
-resolved_lines : (holds : Option (List File)) (job : Job) (p : Program) (c : Config) (s : Spec) → UncheckedAreLines → Reaches holds job (resolved p c s) → All HasNoFeed s.unchecked
+resolved_lines : (holds : Option (List File)) (job : Job) (p : Program) (c : Config) (s : Spec) → LinesKnown → Reaches holds job (resolved p c s) → All HasNoFeed s.unchecked
 resolved_lines holds job p c s law (resolves _ _ _ reaches is) =
     let with = resolved_with job.wide p c job.silent s is in
     subst (All HasNoFeed) (sym (same_unchecked p with.config job.silent s with.is ∙ with.unchecked)) (configured_lines holds job p c law reaches)
 
-logged_lines : (holds : Option (List File)) (job : Job) (p : Program) (c : Config) (s : Spec) (read : LogsRead) (names : List (List ℕ)) → UncheckedAreLines
+logged_lines : (holds : Option (List File)) (job : Job) (p : Program) (c : Config) (s : Spec) (read : LogsRead) (names : List (List ℕ)) → LinesKnown
     → Reaches holds job (logged p c s read names) → All HasNoFeed s.unchecked
 logged_lines holds job p c s _ _ law (has_forms _ _ _ reaches whole) = resolved_lines holds job p c s law reaches
 logged_lines holds job p c s _ names law (reads_log _ _ _ read name _ text f reaches log says) = logged_lines holds job p c s read (name ∷ names) law reaches
 
-pub accepted_lines : (holds : Option (List File)) (job : Job) (p : Program) (c : Config) (s : Spec) (log : Log) → UncheckedAreLines → AllRead holds job p c s log → All HasNoFeed s.unchecked
+pub accepted_lines : (holds : Option (List File)) (job : Job) (p : Program) (c : Config) (s : Spec) (log : Log) → LinesKnown → AllRead holds job p c s log → All HasNoFeed s.unchecked
 accepted_lines holds job p c s log law all = logged_lines holds job p c s all.read _ law all.reaches
 
 pub prints_valid : (job : Job) (p : Program) (c : Config) (s : Spec) (log : Log) → PrintedIsValid s log (asked_by job.options) → All HasNoFeed s.unchecked → All IsUtf8 s.variables

@@ -13,6 +13,7 @@ use run_words::Job;
 use spec_pairs::SpecPairs;
 use trace_base::Files;
 use unchecked_laws::unchecked_law;
+use wide_reading::passing_laws;
 
 /// What `validate` prints of an accepted job whose log is explained is a file of states, and the states that it says are valid: `check` finds them so.
 pub fn printed_is_valid<F: Files>(files: &F, job: &Job, accepted: &Accepted)
@@ -33,6 +34,7 @@ pub fn printed_is_valid<F: Files>(files: &F, job: &Job, accepted: &Accepted)
     };
     printed_valid_law(&pairs);
     unchecked_law();
+    passing_laws();
     known_texts(&accepted.spec.variables);
     known_places(&accepted.log);
 }

@@ -23,7 +23,8 @@ use Rattle.state_file_laws.proofs.StateData.{state_clean, state_given}
 use Rattle.why_branches.specs.declared.why.Why.{Why}
 use Rattle.why_branches.specs.declared.why.WhyKind.{WhyKind}
 use Rattle.why_branches.specs.declared.why.WhyKind.TheVariants as why
-use Rattle.why_report.specs.Lines.{entry_text, place_behind, reason_text, why_more, why_text, whys_text}
+use Rattle.near_lines.specs.Texts.{place_behind}
+use Rattle.why_report.specs.Lines.{entry_text, reason_text, why_more, why_text, whys_text}
 use Rattle.why_report.specs.Tells.{Tells, entry_lines, is_cut, is_whole, no_entry_left, no_room_left}
 use Rattle.why_line_laws.specs.Laws.{AreOneLine, IsWhole, WhyReadsBack}
 use Rattle.why_line_laws.proofs.Lines.{AreAsides, at_feedless, feedless_is_one_line, line_aside, line_feedless, log_feedless, name_feedless, none_aside}
@@ -58,7 +59,7 @@ reason_feedless names (why.Fault kind) h = feedless-append (codes " Fault ") (ev
 reason_feedless names (why.NoUpdate x) h = feedless-append (codes " NoUpdate ") (name_at names x.0) (feedless-tested (codes " NoUpdate ") refl) (name_feedless names x.0 h)
 reason_feedless names (why.NotSeen x) h = feedless-append (codes " NotSeen ") (name_at names x.0) (feedless-tested (codes " NotSeen ") refl) (name_feedless names x.0 h)
 
-place_feedless : (files : List (List ℕ)) (at : Option Place) → All IsOneLine files → NoFeed (place_behind files at)
+pub place_feedless : (files : List (List ℕ)) (at : Option Place) → All IsOneLine files → NoFeed (place_behind files at)
 place_feedless files None h = tt
 place_feedless files (Some at) h = at_feedless files at h
 

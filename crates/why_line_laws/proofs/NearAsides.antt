@@ -25,7 +25,8 @@ use Rattle.near_lines.specs.Kinds.{are_alike, have_strings, keyed_name, kind_nam
 use Rattle.near_lines.specs.Tells.{IsNearLine, TellsNear}
 use Rattle.near_lines.specs.Texts.{arguments_text, both_kinds, call_of, call_text, failed_text, first_told, found_text, held, json_text, more_arguments, named_call, near_text, near_told, place_behind, values_text, variable_text, wanted_text}
 use Rattle.why_line_laws.specs.Laws.{AreNamedInOneLine, AreOneLine}
-use Rattle.why_line_laws.proofs.Lines.{AreAsides, at_feedless, feedless_is_one_line, line_aside, line_feedless, name_feedless, none_aside}
+use Rattle.why_line_laws.proofs.Asides.{place_feedless}
+use Rattle.why_line_laws.proofs.Lines.{AreAsides, feedless_is_one_line, line_aside, line_feedless, name_feedless, none_aside}
 use Rattle.why_line_laws.proofs.Printed.{printed_feedless}
 
 -- ---- the parts of a near line
@@ -67,10 +68,6 @@ both_feedless (Some v) (Some w) = kinds_feedless v w
 values_feedless : (o p : Option Val) → NoFeed (values_text o p)
 values_feedless o p =
     feedless-append (wanted_text o ++ found_text p) (both_kinds o p) (feedless-append (wanted_text o) (found_text p) (wanted_feedless o) (found_feedless p)) (both_feedless o p)
-
-place_feedless : (files : List (List ℕ)) (at : Option Place) → All IsOneLine files → NoFeed (place_behind files at)
-place_feedless files None h = tt
-place_feedless files (Some at) h = at_feedless files at h
 
 variable_feedless : (l : Named) (reason : List ℕ) (x : ℕ) (at : Option Place) (wanted : Option Val) (q : Places) → AreOneLine l → NoFeed reason → NoFeed (variable_text l reason x at wanted q)
 variable_feedless l reason x at wanted q one h =

@@ -1,16 +1,16 @@
 -- The lines that tell why no step of a line goes on: one for each entry, one for each of its branches, and one where there are more.
-use Rattle.std.specs.Prelude.{ℕ, List, [], ◌∷◌, ◌++◌, Option, Some, None, codes}
-use Rattle.trace_base.specs.declared.place.Place.{Place}
+use Rattle.std.specs.Prelude.{ℕ, List, [], ◌∷◌, ◌++◌, codes}
 use Rattle.trace_base.specs.declared.place.LineAt.{LineAt}
 use Rattle.tla_values.specs.FaultCodes.{eval_code}
 use Rattle.tla_core.specs.States.{Values}
 use Rattle.run_texts.specs.Answers.{Named, log_name}
 use Rattle.run_texts.specs.Logs.{line_text}
-use Rattle.run_texts.specs.Places.{at_place, name_at}
+use Rattle.run_texts.specs.Places.{name_at}
 use Rattle.run_texts.specs.States.{state_text}
 use Rattle.why_branches.specs.declared.why.Why.{Why}
 use Rattle.why_branches.specs.declared.why.WhyKind.{WhyKind}
 use Rattle.why_branches.specs.declared.why.WhyKind.TheVariants as why
+use Rattle.near_lines.specs.Texts.{place_behind}
 
 -- the line of an entry
 abbrev pub entry_text : Named → Values → List ℕ
@@ -29,11 +29,6 @@ reason_text names why.NoMember = codes " NoMember"
 reason_text names (why.Fault kind) = told_of (codes " Fault ") (eval_code kind)
 reason_text names (why.NoUpdate x) = told_of (codes " NoUpdate ") (name_at names x.0)
 reason_text names (why.NotSeen x) = told_of (codes " NotSeen ") (name_at names x.0)
-
--- the place of the part that ends a branch, where there is one
-abbrev pub place_behind : List (List ℕ) → Option Place → List ℕ
-place_behind files None = []
-place_behind files (Some at) = at_place files at
 
 -- the line of a branch of the line that stands there
 abbrev pub why_text : Named → LineAt → Why → List ℕ

@@ -2,14 +2,14 @@
 
 ghost use Rattle.std.specs.Prelude.{◌≡◌, ◌++◌, OnOk, string_bytes};
 ghost use Rattle.run_texts.specs.Answers.{named};
-ghost use Rattle.run_texts.specs.Places.{name_at};
 ghost use Rattle.run_texts.specs.States.{in_order};
-ghost use Rattle.why_report.specs.Lines.{entry_text, place_behind, reason_text, told_of, why_more, why_text, whys_text};
+ghost use Rattle.why_report.specs.Lines.{entry_text, reason_text, told_of, why_more, why_text, whys_text};
 
-use run_texts::{Labels, log_name, name_at, push_at, push_line, push_state};
+use near_lines::{push_place, variable_name};
+use run_texts::{Labels, log_name, push_line, push_state};
 use std::alloc::Global;
-use tla_core::{State, VarId};
-use trace_base::{LineAt, Names, NoMemory, Place};
+use tla_core::State;
+use trace_base::{LineAt, Names, NoMemory};
 use why_branches::{Why, WhyKind};
 
 /// Adds the line of an entry.
@@ -72,27 +72,11 @@ fn push_reason(text: &mut String, names: &Names, reason: WhyKind) -> Result<(), 
     }
 }
 
-fn variable_name(names: &Names, variable: VarId) -> &str
-    ensures { result.now ≡ name_at names.now variable.0 }
-{
-    name_at(names, variable.0 as usize)
-}
-
 fn push_told(text: &mut String, reason: &str, of: &str) -> Result<(), NoMemory>
     ensures { OnOk result (string_bytes text.new ≡ string_bytes text.old ++ told_of reason.now of.now) }
 {
     text.push_str(reason)?;
     text.push_str(of)
-}
-
-/// Adds the place of the part that ends a branch, where there is one.
-fn push_place(text: &mut String, files: &Names, at: Option<Place>) -> Result<(), NoMemory>
-    ensures { OnOk result (string_bytes text.new ≡ string_bytes text.old ++ place_behind files.now at) }
-{
-    match at {
-        Some(place) => push_at(text, files, place),
-        None => Ok(()),
-    }
 }
 
 /// Adds that there are more branches than those that were told of.

@@ -5,9 +5,13 @@ pub returns-clause-read : goal.returns-clause-read
 returns-clause-read c = read_not_refused (record {
   parts = record {
     path = c.one_program_laws.ensures.path;
-    program = c.one_program_laws.ensures.program;
+    program = c.wide_program_laws.ensures.program;
     configuration = c.one_program_laws.ensures.configuration;
-    well_formed = c.load_laws.ensures.well_formed;
+    well_formed = c.wide_load_laws.ensures.well_formed;
+    pruned = c.pruning_laws.ensures.one;
+    alone = c.pruning_laws.ensures.alone;
+    passed = c.passing_laws.ensures.well_formed;
+    passed_form = c.passing_laws.ensures.form;
     in_order = c.resolved_laws.ensures.in_order;
     form = c.configuration_laws.ensures.form;
     plain_form = c.configuration_laws.ensures.plain_form;
@@ -23,8 +27,8 @@ returns-clause-read c = read_not_refused (record {
     sound = c.sound_law.ensures;
     sound_operators = c.operator_law.ensures;
   };
-  stops = c.no_refusal_laws.ensures.flattening;
-  repeats = c.no_refusal_laws.ensures.repeats;
+  stops = c.wide_program_laws.ensures.flattening;
+  repeats = c.wide_program_laws.ensures.never_twice;
   configuration = c.no_refusal_laws.ensures.configuration;
 })
 
@@ -32,9 +36,13 @@ pub returns-clause-given : goal.returns-clause-given
 returns-clause-given c = given_not_refused (record {
   parts = record {
     path = c.one_program_laws.ensures.path;
-    program = c.one_program_laws.ensures.program;
+    program = c.wide_program_laws.ensures.program;
     configuration = c.one_program_laws.ensures.configuration;
-    well_formed = c.load_laws.ensures.well_formed;
+    well_formed = c.wide_load_laws.ensures.well_formed;
+    pruned = c.pruning_laws.ensures.one;
+    alone = c.pruning_laws.ensures.alone;
+    passed = c.passing_laws.ensures.well_formed;
+    passed_form = c.passing_laws.ensures.form;
     in_order = c.resolved_laws.ensures.in_order;
     form = c.configuration_laws.ensures.form;
     plain_form = c.configuration_laws.ensures.plain_form;
@@ -50,7 +58,7 @@ returns-clause-given c = given_not_refused (record {
     sound = c.sound_law.ensures;
     sound_operators = c.operator_law.ensures;
   };
-  stops = c.no_refusal_laws.ensures.flattening;
-  repeats = c.no_refusal_laws.ensures.repeats;
+  stops = c.wide_program_laws.ensures.flattening;
+  repeats = c.wide_program_laws.ensures.never_twice;
   configuration = c.no_refusal_laws.ensures.configuration;
 })

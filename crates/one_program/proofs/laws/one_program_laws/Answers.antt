@@ -1,5 +1,7 @@
+-- proofs/laws/one_program_laws/Answers.antt
+use Rattle.tla_modules.specs.Refusals.{strict}
 use Rattle.tla_modules.proofs.PathLaws.{path_same}
-use Rattle.one_program.proofs.Programs.{one_flattening, one_program, one_loading, one_configuration}
+use Rattle.one_program.proofs.Programs.{one_flattening, one_flattening_by, one_program, one_program_by, one_loading, one_configuration}
 use Rattle.one_program.proofs.Spelling.{text_same}
 use Rattle.one_program.proofs.laws.one_program_laws.Goals as goal
 
@@ -10,13 +12,13 @@ pub returns-clause-text : goal.returns-clause-text
 returns-clause-text c = text_same
 
 pub returns-clause-flattening : goal.returns-clause-flattening
-returns-clause-flattening c = one_flattening c.one_outcome.ensures.one c.laws_of_laid.ensures.one c.one_module.ensures
+returns-clause-flattening c = one_flattening (one_flattening_by strict c.strict_laws.ensures)
 
 pub returns-clause-program : goal.returns-clause-program
-returns-clause-program c = one_program (one_flattening c.one_outcome.ensures.one c.laws_of_laid.ensures.one c.one_module.ensures)
+returns-clause-program c = one_program (one_program_by strict c.strict_laws.ensures)
 
 pub returns-clause-loading : goal.returns-clause-loading
-returns-clause-loading c = one_loading (one_program (one_flattening c.one_outcome.ensures.one c.laws_of_laid.ensures.one c.one_module.ensures))
+returns-clause-loading c = one_loading (one_program (one_program_by strict c.strict_laws.ensures))
 
 pub returns-clause-configuration : goal.returns-clause-configuration
 returns-clause-configuration c = one_configuration c.one_configuration_by.ensures.one

@@ -4,9 +4,13 @@ use Rattle.one_reading.proofs.laws.reading_laws.Goals as goal
 pub returns-clause-reading : goal.returns-clause-reading
 returns-clause-reading c = reading_is_one (record {
   path = c.one_program_laws.ensures.path;
-  program = c.one_program_laws.ensures.program;
+  program = c.wide_program_laws.ensures.program;
   configuration = c.one_program_laws.ensures.configuration;
-  well_formed = c.load_laws.ensures.well_formed;
+  well_formed = c.wide_load_laws.ensures.well_formed;
+  pruned = c.pruning_laws.ensures.one;
+  alone = c.pruning_laws.ensures.alone;
+  passed = c.passing_laws.ensures.well_formed;
+  passed_form = c.passing_laws.ensures.form;
   in_order = c.resolved_laws.ensures.in_order;
   form = c.configuration_laws.ensures.form;
   plain_form = c.configuration_laws.ensures.plain_form;
@@ -19,9 +23,13 @@ returns-clause-reading c = reading_is_one (record {
 pub returns-clause-given : goal.returns-clause-given
 returns-clause-given c = given_is_one (record {
   path = c.one_program_laws.ensures.path;
-  program = c.one_program_laws.ensures.program;
+  program = c.wide_program_laws.ensures.program;
   configuration = c.one_program_laws.ensures.configuration;
-  well_formed = c.load_laws.ensures.well_formed;
+  well_formed = c.wide_load_laws.ensures.well_formed;
+  pruned = c.pruning_laws.ensures.one;
+  alone = c.pruning_laws.ensures.alone;
+  passed = c.passing_laws.ensures.well_formed;
+  passed_form = c.passing_laws.ensures.form;
   in_order = c.resolved_laws.ensures.in_order;
   form = c.configuration_laws.ensures.form;
   plain_form = c.configuration_laws.ensures.plain_form;

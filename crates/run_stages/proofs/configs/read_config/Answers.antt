@@ -1,35 +1,35 @@
 use Rattle.std.proofs.Common.{◌≡◌, ℕ, List, subst, sym, arith, length}
 use Rattle.tla_ast.specs.declared.config.Config.{Config}
 use Rattle.run_reading.specs.Texts.{HasText, config_limit}
-use Rattle.run_reading.specs.Reaches.{Reaches, config_next, configured, loaded, needs_no_configuration}
+use Rattle.run_reading.specs.Reaches.{Reaches, config_next, given, loaded, needs_no_configuration}
 use Rattle.run_stages.proofs.Reached.{loaded_few}
 use Rattle.run_stages.proofs.Stopping.{config_accepted, config_refused}
 use Rattle.run_stages.proofs.configs.read_config.Goals as goal
 
 pub read_wanted-requires : goal.read_wanted-requires
 read_wanted-requires g c = record {
-  stage = loaded c.args.program.now;
+  stage = loaded c.args.modules.now.program c.args.modules.now.notes;
   reaches = c.requires.reaches;
-  is_next = config_next c.args.program.now c.in-Some.name c.in-Some.is;
+  is_next = config_next c.args.modules.now.program c.args.modules.now.notes c.in-Some.name c.in-Some.is;
 }
 
 pub config_of-requires-clause-few : goal.config_of-requires-clause-few
-config_of-requires-clause-few g c = loaded_few (g.F.Files.holds c.args.files.now) c.args.job.now c.args.program.now c.load_laws.ensures.few c.requires.reaches
+config_of-requires-clause-few g c = loaded_few (g.F.Files.holds c.args.files.now) c.args.job.now c.args.modules.now.program c.args.modules.now.notes c.wide_load_laws.ensures.few c.requires.reaches
 
 pub returns-in_ok-without_file-in-None-clause-accepted : goal.returns-in_ok-without_file-in-None-clause-accepted
 returns-in_ok-without_file-in-None-clause-accepted g c =
-    subst (λ (k : Config). Reaches (g.F.Files.holds c.args.files.now) c.args.job.now (configured c.args.program.now k)) (sym c.in_ok-without_file-in-None.ensures)
-    (needs_no_configuration c.args.program.now c.requires.reaches c.in-None.is)
+    subst (λ (k : Config). Reaches (g.F.Files.holds c.args.files.now) c.args.job.now (given c.args.modules.now.program c.args.modules.now.notes k)) (sym c.in_ok-without_file-in-None.ensures)
+    (needs_no_configuration c.args.modules.now.program c.args.modules.now.notes c.requires.reaches c.in-None.is)
 
 pub returns-in_ok-text-in-Some-clause-accepted : goal.returns-in_ok-text-in-Some-clause-accepted
 returns-in_ok-text-in-Some-clause-accepted g c =
     let holds = g.F.Files.holds c.args.files.now in
     let has = subst (λ (t : List ℕ). HasText holds c.in-Some.name config_limit t) (sym c.as_slice.ensures.value) c.in_ok-text-in-Some.ensures.text in
-    config_accepted holds 0 0 c.args.job.now c.args.program.now c.in-Some.name c.as_slice.result.now c.config_of.result c.requires.reaches c.in-Some.is has c.config_of.ensures.accepted
+    config_accepted holds 0 0 c.args.job.now c.args.modules.now.program c.args.modules.now.notes c.in-Some.name c.as_slice.result.now c.config_of.result c.requires.reaches c.in-Some.is has c.config_of.ensures.accepted
 
 pub returns-in_ok-text-in-Some-clause-stopped : goal.returns-in_ok-text-in-Some-clause-stopped
 returns-in_ok-text-in-Some-clause-stopped g c =
     let holds = g.F.Files.holds c.args.files.now in
     let has = subst (λ (t : List ℕ). HasText holds c.in-Some.name config_limit t) (sym c.as_slice.ensures.value) c.in_ok-text-in-Some.ensures.text in
-    config_refused holds (g.F.Files.faults c.args.files.now) (g.F.Files.faults c.read_wanted.new.files) c.args.job.now c.args.program.now c.in-Some.name c.as_slice.result.now
+    config_refused holds (g.F.Files.faults c.args.files.now) (g.F.Files.faults c.read_wanted.new.files) c.args.job.now c.args.modules.now.program c.args.modules.now.notes c.in-Some.name c.as_slice.result.now
     c.config_of.result c.requires.reaches c.in-Some.is has c.config_of.ensures.refused

@@ -1,17 +1,13 @@
 -- proofs/loading/load/Answers.antt
-use Rattle.tla_modules.proofs.Outcomes.{loads_program, loads_refused}
+use Rattle.tla_modules.proofs.Outcomes.{loads_so, loads_not}
 use Rattle.tla_modules.proofs.loading.load.Goals as goal
 
 pub returns-in-Ok-clause-loads : goal.returns-in-Ok-clause-loads
 returns-in-Ok-clause-loads g c =
-    loads_program (g.F.Files.holds c.args.files.now) (g.F.Files.faults c.args.files.now) (g.F.Files.faults c.visit.new.files) c.args.path.now
-    c.in-Some.folder.now c.in-Some.name.now c.in_ok-name.name c.new-above.result.items c.new-so.result c.visit.new.so c.program.result
-    c.in-Some.ensures c.new-above.ensures.items c.new-so.ensures c.in_ok-name.ensures c.in-Ok.ensures.visited c.program.ensures.program
-    c.program.ensures.refused
+    loads_so (g.F.Files.holds c.args.files.now) (g.F.Files.faults c.args.files.now) (g.F.Files.faults c.load_by.new.files) c.args.path.now
+    c.in-Ok.loaded c.in-Ok.ensures.loads
 
-pub returns-clause-loads : goal.returns-clause-loads
-returns-clause-loads g c =
-    loads_refused (g.F.Files.holds c.args.files.now) (g.F.Files.faults c.args.files.now) (g.F.Files.faults c.visit.new.files) c.args.path.now
-    c.in-Some.folder.now c.in-Some.name.now c.in_ok-name.name c.new-above.result.items c.new-so.result c.visit.new.so.modules
-    c.in-Err.stop c.refusal.result c.in-Some.ensures c.new-above.ensures.items c.new-so.ensures c.in_ok-name.ensures
-    c.in-Err.ensures.stopped c.in-Err.ensures.caused c.refusal.ensures
+pub returns-in-Err-clause-loads : goal.returns-in-Err-clause-loads
+returns-in-Err-clause-loads g c =
+    loads_not (g.F.Files.holds c.args.files.now) (g.F.Files.faults c.args.files.now) (g.F.Files.faults c.load_by.new.files) c.args.path.now
+    c.in-Err.fault c.in-Err.ensures.loads

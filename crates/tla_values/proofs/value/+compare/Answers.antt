@@ -5,7 +5,7 @@ use Rattle.tla_values.specs.View.{entries_view, entry_cmp, field_cmp, fields_vie
 use Rattle.tla_values.specs.Data.{vals_of, pairs_of, depth, vals_depth, pairs_depth, integer, string, function}
 use Rattle.tla_values.specs.Functions.{numbered_from, sequence_of}
 use Rattle.tla_values.specs.declared.value.Entry.{Entry}
-use Rattle.tla_values.proofs.Lexicographic.{decided, undecided, went_through}
+use Rattle.trace_base.proofs.Lexicographic.{decided, undecided, went_through}
 use Rattle.tla_values.proofs.Comparing.{items_cmp, entries_cmp, fields_cmp, sequences_cmp, sequence_first, record_last, places_cmp, names_cmp, turned, unlike_model, unlike_truth, unlike_integer, unlike_string, unlike_set, unlike_function}
 use Rattle.tla_values.proofs.Depths.{depth_item, depth_entry, depth_field}
 use Rattle.tla_values.proofs.Forms.{as_at, as_entry, length-as, length-placed, placed, placed_at}

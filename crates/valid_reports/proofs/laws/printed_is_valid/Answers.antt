@@ -1,15 +1,17 @@
-use Rattle.valid_reports.proofs.Accepting.{accepted_lines, is_checked_valid, prints_valid}
+use Rattle.valid_reports.proofs.Accepting.{LinesKnown, accepted_lines, is_checked_valid, prints_valid}
 use Rattle.valid_reports.proofs.laws.printed_is_valid.Goals as goal
 
 pub returns-clause-valid : goal.returns-clause-valid
 returns-clause-valid g c =
     let a = c.args.accepted.now in
-    let lines = accepted_lines _ c.args.job.now a.program a.config a.spec a.log c.unchecked_law.ensures c.requires.read in
+    let known : LinesKnown = record { read = c.unchecked_law.ensures; passed = c.passing_laws.ensures.lines } in
+    let lines = accepted_lines _ c.args.job.now a.program a.config a.spec a.log known c.requires.read in
     prints_valid c.args.job.now a.program a.config a.spec a.log c.printed_valid_law.ensures lines c.known_texts.ensures c.known_places.ensures
 
 pub returns-clause-checked : goal.returns-clause-checked
 returns-clause-checked g c =
     let a = c.args.accepted.now in
-    let lines = accepted_lines _ c.args.job.now a.program a.config a.spec a.log c.unchecked_law.ensures c.requires.read in
+    let known : LinesKnown = record { read = c.unchecked_law.ensures; passed = c.passing_laws.ensures.lines } in
+    let lines = accepted_lines _ c.args.job.now a.program a.config a.spec a.log known c.requires.read in
     let valid = prints_valid c.args.job.now a.program a.config a.spec a.log c.printed_valid_law.ensures lines c.known_texts.ensures c.known_places.ensures in
     is_checked_valid c.args.job.now a.program a.config a.spec a.log valid

@@ -1,0 +1,26 @@
+-- What is answered of each kind of order.
+use Rattle.std.proofs.Common.{◌≡◌, ◌↔◌, ℕ, ℤ, Bool, IsTrue, IfOk, Result, List, Some, ap, sym, ◌∙◌, subst, refl}
+use Rattle.std.specs.List.{slice_get}
+use Rattle.clock_merge.specs.declared.order.LineRef.{LineRef}
+use Rattle.log_cuts.specs.Cuts.{Cut, next, total}
+use Rattle.log_cuts.specs.Heads.{IsLeast}
+use Rattle.log_cuts.specs.Orders.{FollowsBy, IsCut, IsGreater, IsMade, IsReadyAt, Order, by_clock, in_sequence, sizes_of, start}
+use Rattle.log_cuts.proofs.Ready.{by_clocks, in_order}
+
+-- the cut is that at which nothing is taken
+pub starts : {E : Type 0} (r : Result Cut E) (c : Cut) (o p : Order) → IfOk r (λ cut. cut ≡ c) → c ≡ start o → o ≡ p → IfOk r (λ cut. cut ≡ start p)
+starts r c o p h e same = subst (λ (d : Cut). IfOk r (λ cut. cut ≡ d)) (e ∙ ap start same) h
+
+-- of a sequence
+pub ready_in_sequence : (o : Order) (files : ℕ) (lines : List LineRef) → in_sequence files lines ≡ o → IsMade o → (c : Cut) → IsCut o c → (f : ℕ) (b : Bool)
+    → IsTrue b ↔ (slice_get lines (total c) ≡ Some (next c f)) → IsTrue b ↔ IsReadyAt o c (next c f)
+ready_in_sequence o files lines same made c cut f b h =
+    let law = in_order files lines (subst IsMade (sym same) made) c (subst (λ (p : Order). IsCut p c) (sym same) cut) (next c f) in
+    subst (λ (p : Order). IsTrue b ↔ IsReadyAt p c (next c f)) same (λ t. law.1 (h.0 t), λ r. h.1 (law.0 r))
+
+-- by clocks
+pub ready_by_clock : (o : Order) (clocks : List (List ℤ)) → by_clock clocks ≡ o → IsMade o → (c : Cut) → IsCut o c → (f : ℕ) (b : Bool)
+    → IsTrue b ↔ IsLeast (sizes_of clocks) (FollowsBy IsGreater clocks) c f → IsTrue b ↔ IsReadyAt o c (next c f)
+ready_by_clock o clocks same made c cut f b h =
+    let law = by_clocks clocks (subst IsMade (sym same) made) c (subst (λ (p : Order). IsCut p c) (sym same) cut) (next c f) in
+    subst (λ (p : Order). IsTrue b ↔ IsReadyAt p c (next c f)) same (λ t. law.1 (refl, h.0 t), λ r. h.1 (law.0 r).1)

@@ -1,0 +1,13 @@
+pub mod Answered
+pub mod Clocks
+pub mod Ends
+pub mod Growing
+pub mod Heading
+pub mod Lengths
+pub mod Lists
+pub mod Merging
+pub mod Ready
+pub mod Rules
+pub mod Sequences
+pub mod Starting
+pub mod Takes

@@ -1,0 +1,141 @@
+-- What is read without the word `--wide` is read so with it.
+use Rattle.std.proofs.Common.{◌≡◌, ℕ, List, [], ◌∷◌, ◌++◌, length, Option, Some, Ok, refl, ap, sym, ◌∙◌, subst}
+use Rattle.std.specs.Prelude.{Bool, true, false, if◌then◌else◌}
+use Rattle.trace_base.specs.Device.{File}
+use Rattle.tla_ast.specs.declared.config.Config.{Config}
+use Rattle.tla_ast.specs.declared.module.Module.{Module}
+use Rattle.tla_ast.specs.declared.module.Program.{Program}
+use Rattle.tla_modules.specs.declared.notes.Noted.{Noted}
+use Rattle.tla_modules.specs.declared.so_far.Gathered.{Gathered}
+use Rattle.tla_modules.specs.Flattened as flattening
+use Rattle.tla_modules.specs.Flattened.{Follows, Meets, Visits, all_met, is_listed, is_visited, noted, nothing_read, was_read, went_on, with_module, with_standard}
+use Rattle.tla_modules.specs.Loads.{IsProgramBy}
+use Rattle.tla_modules.specs.Refusals.{IsModule}
+use Rattle.wide_config.specs.Laws.{StrictIsWide}
+use Rattle.wide_config.specs.Wide.{ReadsBy}
+use Rattle.wide_modules.specs.declared.unread.Unread.{Unread}
+use Rattle.wide_modules.specs.Wide as spelling
+use Rattle.wide_modules.specs.Wide.{SpelledWide, plain, reading_by, wide}
+use Rattle.tla_terms.specs.declared.spec.Spec.{Spec}
+use Rattle.specification_names.specs.Resolving.{ResolvedBy, ResolvedWide, as_it_stands}
+use Rattle.wide_reading.specs.Passing as passing
+use Rattle.wide_reading.specs.Passing.{Passes, without_word}
+use Rattle.path_updates.specs.declared.line.Log.{Log}
+use Rattle.run_words.specs.declared.job.Job.{Job}
+use Rattle.run_reading.specs.Texts.{LogsRead}
+use Rattle.run_reading.specs.Reaches.{AllRead, Reaches, given, has_forms, loaded, loads, logged, needs_no_configuration, passes, reads_configuration, reads_log, resolved, resolves}
+use Rattle.one_reading.specs.Laws.{GivenStaysWide, ReadingIsOne, StrictStaysWide, WideIsStrict, widened}
+use Rattle.one_reading.proofs.Stages.{ConfiguredBy, configured_by, given_by, resolved_by}
+
+-- ---- modules
+
+either_way : (b : Bool) (x y : Gathered Unread) → x.notes ≡ [] → y.notes ≡ [] → (if b then x else y).notes ≡ []
+either_way true x y e h = e
+either_way false x y e h = h
+
+no_more : (number : ℕ) (before : List (Noted Unread)) (notes : List Unread) → before ≡ [] → notes ≡ [] → before ++ noted number notes ≡ []
+no_more number before notes e h = ap (λ (ns : List (Noted Unread)). ns ++ noted number notes) e ∙ ap (λ (ns : List Unread). noted number ns) h
+
+module _ (holds : Option (List File)) (folder : List ℕ) where
+  whole_module : (number : ℕ) (name : List ℕ) (m : Module) (notes : List Unread) → IsModule plain holds folder number name m notes → IsModule wide holds folder number name m notes
+  whole_module number name m notes is = record {
+    bytes = is.bytes;
+    text = is.text;
+    spelled = subst (λ (ns : List Unread). SpelledWide number is.bytes m ns) (sym is.spelled.1) (spelling.is_whole m is.spelled.0);
+    named = is.named;
+  }
+
+  mutual
+    meets_wide : (path : List (List ℕ)) (so all : Gathered Unread) (name : List ℕ) → Meets plain holds folder path so name (Ok all) → Meets wide holds folder path so name (Ok all)
+    meets_wide path so _ name (is_listed _ _ _ a s) = is_listed path so name a s
+    meets_wide path so _ name (was_read _ _ _ a s r) = was_read path so name a s r
+    meets_wide path so all name (is_visited _ _ _ _ a s r l v) = is_visited path so name (Ok all) a s r l (visits_wide path so all name v)
+
+    follows_wide : (path : List (List ℕ)) (so all : Gathered Unread) (names : List (List ℕ)) → Follows plain holds folder path so names (Ok all)
+        → Follows wide holds folder path so names (Ok all)
+    follows_wide path so _ _ (all_met _ _) = all_met path so
+    follows_wide path so all _ (went_on _ _ next first others _ m f) =
+        went_on path so next first others (Ok all) (meets_wide path so next first m) (follows_wide path next all others f)
+
+    visits_wide : (path : List (List ℕ)) (so all : Gathered Unread) (name : List ℕ) → Visits plain holds folder path so name (Ok all) → Visits wide holds folder path so name (Ok all)
+    visits_wide path so _ name (flattening.is_whole _ _ below _ m notes is f) =
+        flattening.is_whole path so below name m notes (whole_module (length so.modules) name m notes is)
+        (follows_wide (path ++ name ∷ []) (with_module so name) below m.extends f)
+
+  -- and nothing of them is unread
+  mutual
+    meets_nothing : (path : List (List ℕ)) (so all : Gathered Unread) (name : List ℕ) → Meets plain holds folder path so name (Ok all) → so.notes ≡ [] → all.notes ≡ []
+    meets_nothing path so _ name (is_listed _ _ _ a s) e = either_way _ _ _ e e
+    meets_nothing path so _ name (was_read _ _ _ a s r) e = e
+    meets_nothing path so all name (is_visited _ _ _ _ a s r l v) e = visits_nothing path so all name v e
+
+    follows_nothing : (path : List (List ℕ)) (so all : Gathered Unread) (names : List (List ℕ)) → Follows plain holds folder path so names (Ok all) → so.notes ≡ [] → all.notes ≡ []
+    follows_nothing path so _ _ (all_met _ _) e = e
+    follows_nothing path so all _ (went_on _ _ next first others _ m f) e = follows_nothing path next all others f (meets_nothing path so next first m e)
+
+    visits_nothing : (path : List (List ℕ)) (so all : Gathered Unread) (name : List ℕ) → Visits plain holds folder path so name (Ok all) → so.notes ≡ [] → all.notes ≡ []
+    visits_nothing path so _ name (flattening.is_whole _ _ below _ m notes is f) e =
+        no_more (length so.modules) below.notes notes (follows_nothing (path ++ name ∷ []) (with_module so name) below m.extends f e) is.spelled.1
+
+  program_wide : (name : List ℕ) (p : Program) (unread : List (Noted Unread)) → IsProgramBy plain holds folder name p unread → IsProgramBy wide holds folder name p unread
+  program_wide name p unread is =
+      record { all = is.all; flattened = visits_wide [] nothing_read is.all name is.flattened; program = is.program; noted = is.noted; names = is.names }
+
+  nothing_unread : (name : List ℕ) (p : Program) (unread : List (Noted Unread)) → IsProgramBy plain holds folder name p unread → unread ≡ []
+  nothing_unread name p unread is = is.noted ∙ visits_nothing [] nothing_read is.all name is.flattened refl
+
+-- ---- stages
+
+-- without the word nothing is passed over, and with it a program stays that resolves as it stands
+passed_wide : (p q : Program) (unread : List (Noted Unread)) (c d : Config) (silent : Option (List ℕ)) (s : Spec) → Passes p c silent unread false q d → unread ≡ []
+    → ResolvedWide q d silent (Ok s) → Passes p c silent unread true q d
+passed_wide p _ unread c _ silent s without_word none is = passing.is_whole s none is
+
+module _ (configurations : StrictIsWide) (holds : Option (List File)) (job : Job) (strictly : job.wide ≡ false) where
+  plain_program : (folder name : List ℕ) (p : Program) (unread : List (Noted Unread)) → IsProgramBy (reading_by job.wide) holds folder name p unread
+      → IsProgramBy plain holds folder name p unread
+  plain_program folder name p unread is = subst (λ (w : Bool). IsProgramBy (reading_by w) holds folder name p unread) strictly is
+
+  loaded_wide : (p : Program) (unread : List (Noted Unread)) → Reaches holds job (loaded p unread) → Reaches holds (widened job) (loaded p unread)
+  loaded_wide _ _ (loads folder name p unread path is) = loads folder name p unread path (program_wide holds folder name p unread (plain_program folder name p unread is))
+
+  loaded_whole : (p : Program) (unread : List (Noted Unread)) → Reaches holds job (loaded p unread) → unread ≡ []
+  loaded_whole _ _ (loads folder name p unread path is) = nothing_unread holds folder name p unread (plain_program folder name p unread is)
+
+  given_wide : (p : Program) (unread : List (Noted Unread)) (c : Config) → Reaches holds job (given p unread c) → Reaches holds (widened job) (given p unread c)
+  given_wide _ _ _ (needs_no_configuration p unread reaches none) = needs_no_configuration p unread (loaded_wide p unread reaches) none
+  given_wide _ _ _ (reads_configuration p unread name text c reaches some has reads) =
+      reads_configuration p unread name text c (loaded_wide p unread reaches) some has
+      (configurations (length p.files) name text c (subst (λ (w : Bool). ReadsBy w (length p.files) name text (Ok c)) strictly reads))
+
+  resolved_wide : (q : Program) (d : Config) (s : Spec) → Reaches holds job (resolved q d s) → Reaches holds (widened job) (resolved q d s)
+  resolved_wide q d s reaches =
+      let r = resolved_by holds job q d s reaches in
+      let by : ConfiguredBy holds job q d = configured_by holds job q d r.0 in
+      let is : ResolvedWide q d job.silent (Ok s) = as_it_stands s (subst (λ (w : Bool). ResolvedBy w q d job.silent (Ok s)) strictly r.1) in
+      let none : by.unread ≡ [] = loaded_whole by.program by.unread (given_by holds job by.program by.unread by.config by.reaches).0 in
+      let passed : Passes by.program by.config job.silent by.unread false q d =
+      subst (λ (w : Bool). Passes by.program by.config job.silent by.unread w q d) strictly by.passed in
+      resolves q d s
+      (passes by.program q by.unread by.config d (given_wide by.program by.unread by.config by.reaches)
+      (passed_wide by.program q by.unread by.config d job.silent s passed none is)) is
+
+  logged_wide : (p : Program) (c : Config) (s : Spec) (read : LogsRead) (names : List (List ℕ)) → Reaches holds job (logged p c s read names)
+      → Reaches holds (widened job) (logged p c s read names)
+  logged_wide _ _ _ _ _ (has_forms p c s reaches whole) = has_forms p c s (resolved_wide p c s reaches) whole
+  logged_wide _ _ _ _ _ (reads_log p c s read name names text f reaches log says) =
+      reads_log p c s read name names text f (logged_wide p c s read (name ∷ names) reaches) log says
+
+  read_wide : (p : Program) (c : Config) (s : Spec) (log : Log) → AllRead holds job p c s log → AllRead holds (widened job) p c s log
+  read_wide p c s log a = record { read = a.read; reaches = logged_wide p c s a.read [] a.reaches; merged = a.merged }
+
+pub strict_stays_wide : StrictIsWide → StrictStaysWide
+strict_stays_wide configurations holds job p c s log strictly a = read_wide configurations holds job strictly p c s log a
+
+pub given_stays_wide : StrictIsWide → GivenStaysWide
+given_stays_wide configurations holds job witness p c s log w strictly a =
+    record { all_read = read_wide configurations holds job strictly p c s log a.all_read; text = a.text; has_text = a.has_text; says = a.says }
+
+pub wide_is_strict : StrictIsWide → ReadingIsOne → WideIsStrict
+wide_is_strict configurations one files job p q c d s t log other strictly a b =
+    one files (widened job) p q c d s t log other (read_wide configurations (Some files) job strictly p c s log a) b

@@ -1,0 +1,21 @@
+-- For the prover: an order that is named line by line.
+use Rattle.std.specs.Prelude.{◌≡◌, List, [], ◌∷◌, ◌++◌, length, slice_get}
+use Rattle.tla_core.specs.declared.state.Shown.{Shown}
+use Rattle.clock_merge.specs.declared.order.LineRef.{LineRef}
+use Rattle.path_updates.specs.declared.line.Line.{Line}
+use Rattle.log_cuts.specs.Cuts.{after, total}
+use Rattle.log_cuts.specs.Orders.{Begins, IsAllowed, IsMade, Order, sizes, start}
+use Rattle.tied_logs.specs.Named.{IsChosen, KeepsTo, names}
+
+-- the lines so far begin an allowed order, and are those that are named
+pub record IsNamedSoFar (files : List (List Line)) (o : Order) (w : List Shown) (xs : List LineRef) : Type 0 where
+  pub begins : Begins o xs
+  pub keeps : KeepsTo files o w xs
+
+abbrev pub NamingGoesOn : Type 0
+NamingGoesOn = (files : List (List Line)) (o : Order) → IsMade o → (w : List Shown) (xs : List LineRef) (l : LineRef) → IsNamedSoFar files o w xs
+    → IsChosen files o (after (start o) xs) (slice_get (names w) (length xs)) l → IsNamedSoFar files o w (xs ++ l ∷ [])
+
+abbrev pub NamingEnds : Type 0
+NamingEnds = (files : List (List Line)) (o : Order) → IsMade o → (w : List Shown) (xs : List LineRef) → IsNamedSoFar files o w xs → length xs ≡ total (sizes o)
+    → IsAllowed o xs × KeepsTo files o w xs

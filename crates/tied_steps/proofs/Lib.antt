@@ -1,0 +1,3 @@
+pub mod Keeping
+pub mod OfSpecs
+pub mod Ties

@@ -1,0 +1,4 @@
+pub mod InOrder
+pub mod Languages
+pub mod Laws
+pub mod Tied

@@ -1,0 +1,7 @@
+mod Ends
+pub mod Readings
+mod Bodies
+pub mod Frames
+mod Wholes
+pub mod OneWide
+pub mod Programs

@@ -1,0 +1,5 @@
+pub mod Alone
+pub mod Laws
+pub mod Parts
+pub mod Pieces
+pub mod Wide

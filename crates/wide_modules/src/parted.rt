@@ -1,0 +1,154 @@
+//! The pieces of a module, read one by one.
+
+ghost use Rattle.std.specs.Prelude.{◌≡◌, true, false, IfOk, OnOk, MatchOption};
+ghost use Rattle.tla_ast.specs.Laid.{EndsOnce, NoEnd};
+ghost use Rattle.wide_modules.specs.Alone.{first_place};
+ghost use Rattle.wide_modules.specs.Parts.{Adds, HasNoPieces, IsBehind, IsUnparted, ReadBody, are_ending};
+ghost use Rattle.wide_modules.specs.Pieces.{InPieces, Parted};
+
+use crate::alone::{read_alone, read_heading};
+use crate::unread::{Unread, unread_as};
+use module_pieces::{heading_length, is_nested, one_parting, piece_length};
+use std::alloc::{AllocError, Global};
+use tla_ast::{Module, Units, laws_of_laid};
+use tla_modules::{SpelledModule, Stop};
+use tla_tokens::{Kind, Token};
+use tla_units::shallow_not_refused;
+use trace_base::{NoMemory, Place};
+
+/// The place of the first of the tokens, or that behind them.
+fn first_place(tokens: &[Token], behind: Place) -> Place
+    ensures { result ≡ first_place tokens.now behind }
+{
+    match tokens {
+        [first, ..] => first.place,
+        _ => behind,
+    }
+}
+
+/// Reads a piece, and adds its units, or adds it to those that are not read.
+fn read_piece(
+    alloc: Global,
+    heading: &[Token],
+    piece: &[Token],
+    behind: Place,
+    units: &mut Units,
+    unread: &mut Vec<Unread>,
+) -> Result<(), NoMemory>
+    requires heading { NoEnd heading.now }
+    requires piece { NoEnd piece.now }
+    ensures { OnOk result (Adds heading.now piece.now behind units.old unread.old.items units.new unread.new.items) }
+{
+    match read_alone(alloc, heading, piece, behind) {
+        Ok(module) => {
+            units.append(module.units)?;
+            Ok(())
+        }
+        Err(Stop::Refused(why)) => {
+            unread.push(unread_as(alloc, piece, why)?)?;
+            Ok(())
+        }
+        Err(Stop::NoMemory) => Err(AllocError),
+    }
+}
+
+/// Reads the pieces behind a heading.
+fn read_pieces(
+    alloc: Global,
+    heading: &[Token],
+    body: &[Token],
+    last: Place,
+) -> Result<(Units, Vec<Unread>), NoMemory>
+    requires heading { NoEnd heading.now }
+    requires body { NoEnd body.now }
+    ensures { IfOk result (λ r. ReadBody heading.now last body.now r.0 r.1.items) }
+{
+    let mut units = Units::new(alloc);
+    let mut unread = Vec::new(alloc);
+    let mut rest = body;
+    while let Some(size) = piece_length(rest) {
+        let (piece, behind) = rest.split_at(size);
+        let place = first_place(behind, last);
+        read_piece(alloc, heading, piece, place, &mut units, &mut unread)?;
+        rest = behind;
+    }
+    Ok((units, unread))
+}
+
+/// Reads the pieces behind a heading that was read.
+fn read_behind(
+    alloc: Global,
+    heading: &[Token],
+    rest: &[Token],
+    equals: Place,
+    title: Module,
+) -> Result<SpelledModule<Unread>, NoMemory>
+    requires heading { NoEnd heading.now }
+    requires body { NoEnd rest.now }
+    ensures { IfOk result (λ w. IsBehind heading.now rest.now equals title w.module w.notes.items) }
+{
+    let (units, unread) = read_pieces(alloc, heading, rest, equals)?;
+    let mut module = title;
+    module.units.append(units)?;
+    Ok(SpelledModule {
+        module,
+        notes: unread,
+    })
+}
+
+/// Reads the heading and the pieces of a module, which stand before its equals signs.
+fn read_body(
+    alloc: Global,
+    body: &[Token],
+    equals: Place,
+) -> Result<Option<SpelledModule<Unread>>, NoMemory>
+    requires { NoEnd body.now }
+    ensures { IfOk result (λ o. MatchOption o (IsUnparted body.now equals) (λ w. Parted body.now equals w.module w.notes.items)) }
+{
+    laws_of_laid();
+    shallow_not_refused();
+    one_parting();
+    match heading_length(body) {
+        Some(size) => {
+            let (heading, rest) = body.split_at(size);
+            match read_heading(alloc, heading, first_place(rest, equals)) {
+                Ok(title) => Ok(Some(read_behind(alloc, heading, rest, equals, title)?)),
+                Err(Stop::Refused(_)) => Ok(None),
+                Err(Stop::NoMemory) => Err(AllocError),
+            }
+        }
+        None => Ok(None),
+    }
+}
+
+/// Whether these are equals signs and the End.
+fn are_ending(equals: &Kind, end: &Kind) -> bool
+    ensures { result ≡ are_ending equals.now end.now }
+{
+    match equals {
+        Kind::Equals => matches!(end, Kind::End),
+        _ => false,
+    }
+}
+
+/// Reads the tokens of a module in pieces.
+pub(crate) fn read_parted(
+    alloc: Global,
+    tokens: &[Token],
+) -> Result<Option<SpelledModule<Unread>>, NoMemory>
+    requires { EndsOnce tokens.now }
+    ensures { IfOk result (λ o. MatchOption o (HasNoPieces tokens.now) (λ w. InPieces tokens.now w.module w.notes.items)) }
+{
+    if is_nested(tokens) {
+        return Ok(None);
+    }
+    match tokens {
+        [body @ .., equals, end] => {
+            if are_ending(&equals.kind, &end.kind) {
+                return read_body(alloc, body, equals.place);
+            }
+            Ok(None)
+        }
+        _ => Ok(None),
+    }
+}

@@ -1,0 +1,57 @@
+//! What is not read of a module.
+
+ghost use Rattle.std.specs.Prelude.{◌≡◌, IfOk};
+ghost use Rattle.wide_modules.specs.Pieces.{begins_at, first_mark, unread_as};
+
+use module_pieces::{Mark, mark_of, names_of};
+use std::alloc::Global;
+use tla_modules::LoadWhy;
+use tla_tokens::Token;
+use trace_base::{Names, NoMemory, Place};
+
+/// A piece of a module that is not read.
+#[derive(Drop)]
+pub struct Unread {
+    /// The token that it begins with.
+    pub begins: Mark,
+    /// The place of that token.
+    pub at: Place,
+    /// The names that it declares.
+    pub names: Names,
+    pub why: LoadWhy,
+}
+
+fn first_mark(piece: &[Token]) -> Mark
+    ensures { result ≡ first_mark piece.now }
+{
+    match piece {
+        [first, ..] => mark_of(first),
+        _ => Mark::Other,
+    }
+}
+
+fn begins_at(piece: &[Token]) -> Place
+    ensures { result ≡ begins_at piece.now }
+{
+    match piece {
+        [first, ..] => first.place,
+        _ => Place {
+            file: 0,
+            line: 0,
+            col: 0,
+        },
+    }
+}
+
+/// The piece as one that is not read.
+pub(crate) fn unread_as(alloc: Global, piece: &[Token], why: LoadWhy) -> Result<Unread, NoMemory>
+    ensures { IfOk result (λ u. u ≡ unread_as piece.now why) }
+{
+    let names = names_of(alloc, piece)?;
+    Ok(Unread {
+        begins: first_mark(piece),
+        at: begins_at(piece),
+        names,
+        why,
+    })
+}

@@ -1,0 +1,11 @@
+use Rattle.wide_reading.proofs.PassedLaws.{files_are, lines_are, one_form, spelled, well_formed}
+use Rattle.wide_reading.proofs.laws.passing_laws.Goals as goal
+
+pub returns : goal.returns
+returns c = record {
+  well_formed = well_formed c.left_is_well_formed.ensures;
+  spelled = spelled;
+  form = one_form;
+  files = files_are;
+  lines = lines_are;
+}

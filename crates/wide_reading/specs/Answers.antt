@@ -1,0 +1,32 @@
+-- What the call answers: a specification, or why there is none.
+use Rattle.std.specs.Prelude.{◌≡◌, ℕ, Bool, true, List, Option, Some, Ok, Err, slice_get}
+use Rattle.tla_ast.specs.declared.config.Config.{Config}
+use Rattle.tla_ast.specs.declared.module.Program.{Program}
+use Rattle.tla_modules.specs.declared.notes.Noted.{Noted}
+use Rattle.wide_modules.specs.declared.unread.Unread.{Unread}
+use Rattle.specification_names.specs.Resolving.{ResolvedBy}
+use Rattle.wide_reading.specs.declared.resolution.Resolution.{Resolution}
+use Rattle.wide_reading.specs.declared.resolution.ResolutionFault.{ResolutionFault}
+use Rattle.wide_reading.specs.declared.resolution.ResolutionFault.TheVariants.{Names, Piece, NoMemory}
+use Rattle.wide_reading.specs.Needing.{IsFirstNeeded, IsNeededBy}
+use Rattle.wide_reading.specs.Passing.{IsNotWhole, Passes}
+
+-- the piece of that index was not read and is needed, by that name
+pub record NeedsPiece (p : Program) (c : Config) (silent : Option (List ℕ)) (unread : List (Noted Unread)) (index : ℕ) (root : List ℕ) : Type 0 where
+  pub not_whole : IsNotWhole p c silent unread
+  pub piece : Noted Unread
+  pub name : List ℕ
+  pub needed : IsFirstNeeded p c silent unread piece name
+  pub stands : slice_get unread index ≡ Some piece
+  pub needed_by : IsNeededBy p c silent name root
+
+-- the program and the configuration that are resolved, and their specification
+pub record IsResolution (wide : Bool) (p : Program) (c : Config) (silent : Option (List ℕ)) (unread : List (Noted Unread)) (r : Resolution) : Type 0 where
+  pub passes : Passes p c silent unread wide r.program r.config
+  pub resolved : ResolvedBy wide r.program r.config silent (Ok r.spec)
+
+-- those whose names or levels are refused, a piece that is needed, or want of memory
+abbrev pub IsResolutionFault : Bool → Program → Config → Option (List ℕ) → List (Noted Unread) → ResolutionFault → Type 0
+IsResolutionFault wide p c silent unread (Names q d fault) = Passes p c silent unread wide q d × ResolvedBy wide q d silent (Err fault)
+IsResolutionFault wide p c silent unread (Piece index root) = (wide ≡ true) × NeedsPiece p c silent unread index root
+IsResolutionFault wide p c silent unread NoMemory = Unit {0}

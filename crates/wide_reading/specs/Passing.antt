@@ -1,0 +1,50 @@
+-- With the word `--wide`: which program and which configuration are resolved. A program of which all was read and that resolves stays as it is, so that
+-- nothing changes for what is accepted so. Else:
+--
+-- 1. Nothing that was not read may be needed.
+-- 2. What is bad goes, and what is left is resolved.
+-- 3. Where something needed is bad, or what is left is refused, what is needed is left alone. It is resolved, or refused, as it stands.
+--
+-- What goes is told behind all else that the configuration leaves unchecked.
+use Rattle.std.specs.Prelude.{◌≡◌, ◌≢◌, ◌⊎◌, ℕ, ◌<◌, ◌≤◌, Bool, true, false, List, [], ◌++◌, length, Option, Ok, Err}
+use Rattle.tla_ast.specs.declared.config.Config.{Config}
+use Rattle.tla_ast.specs.declared.module.Program.{Program}
+use Rattle.tla_ast.specs.declared.module.Unit.{Unit as ModuleUnit}
+use Rattle.wide_config.specs.Wide.{also_told}
+use Rattle.tla_modules.specs.declared.notes.Noted.{Noted}
+use Rattle.wide_modules.specs.declared.unread.Unread.{Unread}
+use Rattle.tla_program.specs.InUnits.{variables_in}
+use Rattle.tla_terms.specs.declared.spec.Spec.{Spec}
+use Rattle.tla_levels.specs.declared.fault.ResolveFault.{ResolveFault}
+use Rattle.specification_names.specs.Resolving.{ResolvedWide}
+use Rattle.wide_trees.specs.Needed.{needed_names}
+use Rattle.wide_trees.specs.Pruning.{Alone, NeedsBad, NoneIsAsked, Pruned}
+use Rattle.wide_reading.specs.Lines.{passed_lines}
+use Rattle.wide_reading.specs.Needing.{names_unread}
+
+-- the configuration, with what is told of what goes
+abbrev pub telling : Program → List (Noted Unread) → List ModuleUnit → Config → Config
+telling p unread over c = also_told (passed_lines p.files unread over) c
+
+-- a piece was not read, or the program is refused; programs with too many variables are refused as ever
+pub record IsNotWhole (p : Program) (c : Config) (silent : Option (List ℕ)) (unread : List (Noted Unread)) : Type 0 where
+  pub few : length (variables_in p.units) ≤ 64
+  pub lacks : (unread ≢ []) ⊎ ((fault : ResolveFault) × ResolvedWide p c silent (Err fault))
+
+-- the program that is left, and the units that go
+pub data Leaves (p : Program) (c : Config) (silent : Option (List ℕ)) (unread : List (Noted Unread)) : Program → List ModuleUnit → Type 0 where
+  without_bad : (q : Program) (over : List ModuleUnit) (s : Spec) → Pruned p c (names_unread unread) (needed_names c silent) q over
+      → ResolvedWide q (telling p unread over c) silent (Ok s) → Leaves p c silent unread q over
+  needed_alone : (q : Program) (over : List ModuleUnit) → NeedsBad p c (names_unread unread) (needed_names c silent)
+      → Alone p c (names_unread unread) (needed_names c silent) q over → Leaves p c silent unread q over
+  needed_alone_of_it : (r q : Program) (gone over : List ModuleUnit) (fault : ResolveFault) → Pruned p c (names_unread unread) (needed_names c silent) r gone
+      → ResolvedWide r (telling p unread gone c) silent (Err fault) → Alone r c (names_unread unread) (needed_names c silent) q over
+      → Leaves p c silent unread q (gone ++ over)
+
+-- the program and the configuration that are resolved, with the word and without it
+pub data Passes (p : Program) (c : Config) (silent : Option (List ℕ)) (unread : List (Noted Unread)) : Bool → Program → Config → Type 0 where
+  without_word : Passes p c silent unread false p c
+  is_whole : (s : Spec) → unread ≡ [] → ResolvedWide p c silent (Ok s) → Passes p c silent unread true p c
+  has_many : 64 < length (variables_in p.units) → Passes p c silent unread true p c
+  goes_on : (q : Program) (over : List ModuleUnit) → IsNotWhole p c silent unread → NoneIsAsked p c (names_unread unread) (needed_names c silent)
+      → Leaves p c silent unread q over → Passes p c silent unread true q (telling p unread over c)

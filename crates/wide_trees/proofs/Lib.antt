@@ -1,0 +1,7 @@
+mod Asking
+mod Ends
+mod Leaving
+mod Loops
+mod Meanings
+mod Senses
+mod ToldLemmas
