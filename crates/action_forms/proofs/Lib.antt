@@ -3,9 +3,11 @@ mod Saying
 mod Telling
 mod Opened
 mod Ordering
+mod Known
 mod Armed
 mod Cased
 mod Forked
 mod Kept
+mod Named
 mod Said
 mod Choosing

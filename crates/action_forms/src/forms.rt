@@ -4,14 +4,28 @@ ghost use Rattle.std.specs.Prelude.{◌≡◌, ◌≤◌, length};
 ghost use Rattle.term_parts.specs.Slots.{MentionsBelow, UsesSmaller};
 ghost use Rattle.early_reads.specs.Orderly.{IsSoundThroughout};
 ghost use Rattle.early_reads.specs.Sets.{shown};
-ghost use Rattle.action_forms.specs.Says.{FormSays, WholeSays, setting};
+ghost use Rattle.action_forms.specs.Says.{FormSays, SaysFixed, WholeSays, setting};
 
-use crate::rows::fixed_within;
+use crate::endings::Endings;
+use crate::rows::fixed_in;
 use early_reads::{Walk, all_reads, least_missing, not_fixed};
 use std::alloc::Global;
 use tla_actions::{FormFault, Which};
 use tla_core::VarSet;
 use tla_terms::{Operators, Term};
+
+/// What a term leaves fixed that uses definitions below a bound alone, where these are fixed before.
+pub fn fixed_within<'a>(
+    walk: &Walk<'a>,
+    bound: usize,
+    term: &'a Term,
+    before: VarSet,
+) -> Result<VarSet, FormFault>
+    ensures { SaysFixed walk.now bound (shown before) term.now result }
+{
+    let mut endings = Endings::new(walk.alloc);
+    fixed_in(walk, &mut endings, bound, term, before)
+}
 
 /// The variables that an action leaves fixed, from left to right, where these are fixed before; or the first thing that is wrong with its form.
 pub fn fixed(

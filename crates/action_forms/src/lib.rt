@@ -3,6 +3,7 @@
 
 mod arms;
 mod checks;
+mod endings;
 mod forks;
 mod forms;
 mod keeping;
@@ -10,6 +11,5 @@ mod kinds;
 mod laws;
 mod rows;
 
-pub use forms::{fixed, whole};
+pub use forms::{fixed, fixed_within, whole};
 pub use laws::form_laws;
-pub use rows::fixed_within;

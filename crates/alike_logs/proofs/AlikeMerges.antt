@@ -45,13 +45,13 @@ module _ (ops all : List Operator) where
   clocks_same (l ∷ ls) [] h = absurd h
   clocks_same (l ∷ ls) (m ∷ ms) h = λ i. h.0.clock i ∷ clocks_same ls ms h.1 i
 
-  all_clocks_same : (fs gs : List FileLines) → AllZip (AreAlikeFiles ops all) fs gs → clocks_in fs ≡ clocks_in gs
+  pub all_clocks_same : (fs gs : List FileLines) → AllZip (AreAlikeFiles ops all) fs gs → clocks_in fs ≡ clocks_in gs
   all_clocks_same [] [] h = refl
   all_clocks_same [] (g ∷ gs) h = absurd h
   all_clocks_same (f ∷ fs) [] h = absurd h
   all_clocks_same (f ∷ fs) (g ∷ gs) h = λ i. clocks_same f.steps g.steps h.0.steps i ∷ all_clocks_same fs gs h.1 i
 
-  sees_same : (fs gs : List FileLines) → AllZip (AreAlikeFiles ops all) fs gs → first_sees fs ≡ first_sees gs
+  pub sees_same : (fs gs : List FileLines) → AllZip (AreAlikeFiles ops all) fs gs → first_sees fs ≡ first_sees gs
   sees_same [] [] h = refl
   sees_same [] (g ∷ gs) h = absurd h
   sees_same (f ∷ fs) [] h = absurd h

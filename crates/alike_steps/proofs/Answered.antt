@@ -10,7 +10,7 @@ use Rattle.tla_core.specs.Runs.{Run, start, wait, go, IsBehaviour, Layer, Faults
 use Rattle.tla_core.specs.declared.fault.Fault.{Fault}
 use Rattle.tla_core.specs.declared.state.Mark.TheVariants.{Init, Silent, Line}
 use Rattle.tla_core.specs.declared.state.Shown.{Shown}
-use Rattle.state_layers.specs.Answers.{AllAssumed, Clear, IsAnswer, IsAssumeFalse, IsAssumeFault, IsExplained, IsNoInitial, IsNotExplained, IsStateFault, fault}
+use Rattle.state_layers.specs.Answers.{AllAssumed, Clear, IsAnswer, IsAssumeFalse, IsAssumeFault, IsExplained, HasLayer, IsNoInitial, IsNotExplained, IsStateFault, IsTotalLimit, fault}
 use Rattle.state_layers.specs.Says.{IsUnassumed}
 use Rattle.state_layers.specs.declared.answer.Answer.{Answer}
 use Rattle.state_layers.specs.declared.answer.Answer.TheVariants.{Explained, NotExplained, NoInitial, InitFault, Fault as StateFault, AssumeFault, AssumeFalse, LayerLimit, TotalLimit}
@@ -160,8 +160,15 @@ module _ {A : Type 0} (y z : System A) (same : SaySame y z) where
   layer_limit : (n j : ℕ) → HasMoreThan (Layer y n j) y.limit → HasMoreThan (Layer z n j) z.limit
   layer_limit n j h = subst (λ (k : ℕ). HasMoreThan (Layer z n j) k) same.limit (more_than (Layer y n j) (Layer z n j) (layer_same y z same n j) y.limit h)
 
-  total_limit : (n j : ℕ) → HasMoreThan (Upto y n j) y.total → HasMoreThan (Upto z n j) z.total
-  total_limit n j h = subst (λ (k : ℕ). HasMoreThan (Upto z n j) k) same.total (more_than (Upto y n j) (Upto z n j) (upto_same y z same n j) y.total h)
+  has_layer : (n j : ℕ) → HasLayer y n j → HasLayer z n j
+  has_layer n j (inl h) = inl (below_count y z same n h.0, below_within y z same j h.1)
+  has_layer n j (inr h) = inr (h.0 ∙ same.count, h.1)
+
+  total_limit : (n j : ℕ) → IsTotalLimit y n j → IsTotalLimit z n j
+  total_limit n j h = record {
+    layer = has_layer n j h.layer;
+    more = subst (λ (k : ℕ). HasMoreThan (Upto z n j) k) same.total (more_than (Upto y n j) (Upto z n j) (upto_same y z same n j) y.total h.more);
+  }
 
   answered : (answer : Answer) → IsAnswer y answer → IsAnswer z answer
   answered (Explained w widest) h = (all_assumed h.0, explained w widest h.1)

@@ -1,4 +1,4 @@
-//! The law that `check` answers VALID on what `validate` printed of a log that is explained.
+//! The law that `check` answers VALID on what `validate` printed of logs that are explained.
 #![tactic(auto)]
 
 mod laws;

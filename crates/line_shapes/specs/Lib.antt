@@ -2,3 +2,4 @@ pub mod Keys
 pub mod Parts
 pub mod Shapes
 pub mod Seen
+pub mod Objects

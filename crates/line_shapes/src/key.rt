@@ -1,4 +1,5 @@
-ghost use Rattle.std.specs.Prelude.{◌≡◌};
+ghost use Rattle.std.specs.Prelude.{◌≡◌, MatchOption, false};
+ghost use Rattle.std.specs.Str.{bytes_eq};
 ghost use Rattle.line_shapes.specs.Keys.{contents_of, key_text, word_of};
 
 /// A key of a line, in the order in which the keys are tested.
@@ -13,6 +14,31 @@ pub enum Key {
 }
 
 impl Key {
+    /// The key that is spelled so, or none. What most lines have is tried first.
+    pub(crate) fn named(text: &str) -> Option<Key>
+        ensures { MatchOption result ((k : Key) → bytes_eq text.now (key_text k) ≡ false) (λ k. text.now ≡ key_text k) }
+    {
+        if text == "see" {
+            return Some(Key::See);
+        }
+        if text == "update" {
+            return Some(Key::Update);
+        }
+        if text == "event" {
+            return Some(Key::Event);
+        }
+        if text == "args" {
+            return Some(Key::Args);
+        }
+        if text == "clock" {
+            return Some(Key::Clock);
+        }
+        if text == "init" {
+            return Some(Key::Init);
+        }
+        None
+    }
+
     /// The key as it stands in a line.
     pub fn text(self) -> &'static str
         ensures { result.now ≡ key_text self }

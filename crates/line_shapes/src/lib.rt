@@ -1,8 +1,10 @@
 //! The shape of a log's line: which keys it has and how their contents are built, with no value read yet.
 #![tactic(auto)]
 
+mod contents;
 mod key;
 mod members;
+mod object;
 mod parts;
 mod path;
 mod raw;
@@ -10,8 +12,9 @@ mod reading;
 mod shape;
 
 pub use key::{Key, Word};
+pub use object::{LineObject, line_object};
 pub use parts::{see_of, update_of};
 pub use path::path_of;
 pub use raw::{RawPath, RawSee, RawUpdate};
-pub use reading::line_shape;
+pub use reading::{line_shape, object_shape};
 pub use shape::Shape;

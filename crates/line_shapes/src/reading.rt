@@ -1,11 +1,14 @@
 ghost use Rattle.std.specs.Prelude.{◌≡◌, IfErr, IfOk, MatchOption, Err, None, Ok, Some, is_some, option_map, true};
 ghost use Rattle.serde_json.specs.View.{items_view, members_view};
+ghost use Rattle.line_shapes.specs.Objects.{AgreeAtKeys, contents_in, members_in};
 ghost use Rattle.line_shapes.specs.Parts.{each_of, see_of, update_of};
 ghost use Rattle.line_shapes.specs.Shapes.{args_at, clock_at, event_at, init_at, shape_of, sees_at, updates_at};
 ghost use Rattle.line_shapes.specs.Seen.{shape_seen};
 
+use crate::contents::Contents;
 use crate::key::Key;
 use crate::members::content;
+use crate::object::LineObject;
 use crate::parts::{are_sees, are_updates};
 use crate::shape::Shape;
 use serde_json::{Map, Value as Json};
@@ -15,22 +18,65 @@ pub fn line_shape(members: &Map<String, Json>) -> Result<Shape<'_>, Key>
     ensures shape { IfOk result (λ s. shape_of (members_view members.now.entries) ≡ Ok (shape_seen s)) }
     ensures key { IfErr result (λ key. shape_of (members_view members.now.entries) ≡ Err key) }
 {
-    let Some(init) = init_at(members) else {
+    shape_in(contents_of(members))
+}
+
+/// The shape of a line with this object, or the first key whose content has not its shape.
+pub fn object_shape(object: &LineObject) -> Result<Shape<'_>, Key>
+    ensures shape { IfOk result (λ s. shape_of (members_in object.now) ≡ Ok (shape_seen s)) }
+    ensures key { IfErr result (λ key. shape_of (members_in object.now) ≡ Err key) }
+{
+    shape_in(kept_in(object))
+}
+
+/// What stands at the keys of a line in its object.
+fn kept_in(object: &LineObject) -> Contents<'_>
+    ensures { contents_in result ≡ members_in object.now }
+{
+    Contents {
+        init: object.init.as_ref(),
+        event: object.event.as_ref(),
+        args: object.args.as_ref(),
+        clock: object.clock.as_ref(),
+        update: object.update.as_ref(),
+        see: object.see.as_ref(),
+    }
+}
+
+/// What stands at the keys of a line among the members.
+fn contents_of(members: &Map<String, Json>) -> Contents<'_>
+    ensures { AgreeAtKeys (members_view members.now.entries) (contents_in result) }
+{
+    Contents {
+        init: content(members, Key::Init),
+        event: content(members, Key::Event),
+        args: content(members, Key::Args),
+        clock: content(members, Key::Clock),
+        update: content(members, Key::Update),
+        see: content(members, Key::See),
+    }
+}
+
+fn shape_in(contents: Contents<'_>) -> Result<Shape<'_>, Key>
+    ensures shape { IfOk result (λ s. shape_of (contents_in contents.entry) ≡ Ok (shape_seen s)) }
+    ensures key { IfErr result (λ key. shape_of (contents_in contents.entry) ≡ Err key) }
+{
+    let Some(init) = init_at(contents) else {
         return Err(Key::Init);
     };
-    let Some(event) = event_at(members, init) else {
+    let Some(event) = event_at(contents, init) else {
         return Err(Key::Event);
     };
-    let Some(args) = args_at(members, event.is_some()) else {
+    let Some(args) = args_at(contents, event.is_some()) else {
         return Err(Key::Args);
     };
-    let Some(clock) = clock_at(members) else {
+    let Some(clock) = clock_at(contents) else {
         return Err(Key::Clock);
     };
-    let Some(updates) = updates_at(members, init) else {
+    let Some(updates) = updates_at(contents, init) else {
         return Err(Key::Update);
     };
-    let Some(sees) = sees_at(members) else {
+    let Some(sees) = sees_at(contents) else {
         return Err(Key::See);
     };
     Ok(Shape {
@@ -43,19 +89,19 @@ pub fn line_shape(members: &Map<String, Json>) -> Result<Shape<'_>, Key>
     })
 }
 
-fn init_at(members: &Map<String, Json>) -> Option<bool>
-    ensures { result ≡ init_at (members_view members.now.entries) }
+fn init_at(contents: Contents<'_>) -> Option<bool>
+    ensures { result ≡ init_at (contents_in contents.entry) }
 {
-    match content(members, Key::Init) {
+    match contents.at(Key::Init) {
         None => Some(false),
         Some(json) => json.as_bool(),
     }
 }
 
-fn event_at(members: &Map<String, Json>, init: bool) -> Option<Option<&str>>
-    ensures { option_map (λ event. option_map (λ name. name.now) event) result ≡ event_at init (members_view members.now.entries) }
+fn event_at<'a>(contents: Contents<'a>, init: bool) -> Option<Option<&'a str>>
+    ensures { option_map (λ event. option_map (λ name. name.now) event) result ≡ event_at init (contents_in contents.entry) }
 {
-    let Some(json) = content(members, Key::Event) else {
+    let Some(json) = contents.at(Key::Event) else {
         return Some(None);
     };
     if init {
@@ -67,10 +113,10 @@ fn event_at(members: &Map<String, Json>, init: bool) -> Option<Option<&str>>
     }
 }
 
-fn args_at(members: &Map<String, Json>, has_event: bool) -> Option<&[Json]>
-    ensures { option_map (λ args. items_view args.now) result ≡ args_at has_event (members_view members.now.entries) }
+fn args_at<'a>(contents: Contents<'a>, has_event: bool) -> Option<&'a [Json]>
+    ensures { option_map (λ args. items_view args.now) result ≡ args_at has_event (contents_in contents.entry) }
 {
-    let Some(json) = content(members, Key::Args) else {
+    let Some(json) = contents.at(Key::Args) else {
         return Some(&[]);
     };
     if !has_event {
@@ -82,10 +128,10 @@ fn args_at(members: &Map<String, Json>, has_event: bool) -> Option<&[Json]>
     }
 }
 
-fn clock_at(members: &Map<String, Json>) -> Option<Option<i64>>
-    ensures { result ≡ clock_at (members_view members.now.entries) }
+fn clock_at(contents: Contents<'_>) -> Option<Option<i64>>
+    ensures { result ≡ clock_at (contents_in contents.entry) }
 {
-    let Some(json) = content(members, Key::Clock) else {
+    let Some(json) = contents.at(Key::Clock) else {
         return Some(None);
     };
     let clock = json.as_i64()?;
@@ -96,11 +142,11 @@ fn clock_at(members: &Map<String, Json>) -> Option<Option<i64>>
 }
 
 #[tactic(auto, using(crate::proofs::PartLemmas::each_is))]
-fn updates_at(members: &Map<String, Json>, init: bool) -> Option<&[Json]>
-    ensures { MatchOption result (updates_at init (members_view members.now.entries) ≡ None)
-        (λ items. (updates_at init (members_view members.now.entries) ≡ each_of update_of (items_view items.now)) × (is_some (each_of update_of (items_view items.now)) ≡ true)) }
+fn updates_at<'a>(contents: Contents<'a>, init: bool) -> Option<&'a [Json]>
+    ensures { MatchOption result (updates_at init (contents_in contents.entry) ≡ None)
+        (λ items. (updates_at init (contents_in contents.entry) ≡ each_of update_of (items_view items.now)) × (is_some (each_of update_of (items_view items.now)) ≡ true)) }
 {
-    let Some(json) = content(members, Key::Update) else {
+    let Some(json) = contents.at(Key::Update) else {
         return Some(&[]);
     };
     if init {
@@ -115,11 +161,11 @@ fn updates_at(members: &Map<String, Json>, init: bool) -> Option<&[Json]>
 }
 
 #[tactic(auto, using(crate::proofs::PartLemmas::each_is))]
-fn sees_at(members: &Map<String, Json>) -> Option<&[Json]>
-    ensures { MatchOption result (sees_at (members_view members.now.entries) ≡ None)
-        (λ items. (sees_at (members_view members.now.entries) ≡ each_of see_of (items_view items.now)) × (is_some (each_of see_of (items_view items.now)) ≡ true)) }
+fn sees_at<'a>(contents: Contents<'a>) -> Option<&'a [Json]>
+    ensures { MatchOption result (sees_at (contents_in contents.entry) ≡ None)
+        (λ items. (sees_at (contents_in contents.entry) ≡ each_of see_of (items_view items.now)) × (is_some (each_of see_of (items_view items.now)) ≡ true)) }
 {
-    let Some(json) = content(members, Key::See) else {
+    let Some(json) = contents.at(Key::See) else {
         return Some(&[]);
     };
     let items = json.as_array()?;

@@ -4,3 +4,4 @@ pub mod KeptFiles
 pub mod OneFile
 pub mod OneLog
 pub mod PlaceLemmas
+pub mod TiedFiles

@@ -4,8 +4,8 @@ ghost use Rattle.clock_merge.specs.Orders.{AreFew, IsLine, IsMerged, NoneFalls, 
 ghost use Rattle.log_files.specs.Logs.{IsLogOf, StandsAt, clocks_in, first_sees, sees_of};
 ghost use Rattle.path_updates.specs.declared.line.Line.{Line};
 
-use crate::copies::{add_sees, copy_line};
 use clock_merge::{LineRef, merge};
+use line_copies::{add_sees, copy_line};
 use log_lines::FileLines;
 use path_updates::{Line, LineList, Log, Sees};
 use std::alloc::{AllocError, Global};
@@ -73,7 +73,7 @@ fn order_of(alloc: Global, files: &[FileLines]) -> Result<Vec<LineRef>, NoMemory
 }
 
 /// The clocks of each file.
-fn all_clocks(alloc: Global, files: &[FileLines]) -> Result<Vec<Vec<i64>>, AllocError>
+pub(crate) fn all_clocks(alloc: Global, files: &[FileLines]) -> Result<Vec<Vec<i64>>, AllocError>
     ensures { IfOk result (λ clocks. clocks_of clocks.items ≡ clocks_in files.now) }
 {
     let mut clocks = Vec::with_capacity(alloc, files.len())?;
@@ -95,7 +95,7 @@ fn step_clocks(alloc: Global, steps: &[Line]) -> Result<Vec<i64>, AllocError>
 }
 
 /// What the init lines say, file by file.
-fn all_first_sees(alloc: Global, files: &[FileLines]) -> Result<Sees, NoMemory>
+pub(crate) fn all_first_sees(alloc: Global, files: &[FileLines]) -> Result<Sees, NoMemory>
     ensures { IfOk result (λ sees. sees ≡ first_sees files.now) }
 {
     let mut sees = Sees::new(alloc);

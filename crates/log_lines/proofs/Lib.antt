@@ -5,3 +5,4 @@ pub mod CutLemmas
 pub mod WalkLemmas
 pub mod OneOutcome
 pub mod StepsKept
+pub mod ObjectLemmas

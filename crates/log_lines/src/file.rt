@@ -5,7 +5,8 @@ ghost use Rattle.log_lines.specs.Walks.{IsCounted, WalksOn};
 use crate::kind::{LogKind, Outcome};
 use crate::names::SpecNames;
 use crate::position::Position;
-use crate::reading::read_line;
+use crate::reading::line_within;
+use json::Scratch;
 use path_updates::{Line, LineList, Sees};
 use std::alloc::Global;
 use thiserror::Error;
@@ -51,10 +52,11 @@ pub fn read_log<N: SpecNames>(
         at: Position::first_line(file, many, room),
         found: FileLines { init: None, steps },
     };
+    let mut scratch = Scratch::new(alloc);
     let mut rest = bytes;
     loop {
         let (piece, after) = cut_line(rest);
-        let walked = walk_on(alloc, names, walk, piece)?;
+        let walked = walk_on(alloc, &mut scratch, names, walk, piece)?;
         match walked {
             Err(refusal) => return Ok(Err(refusal)),
             Ok(next) => match after {
@@ -95,6 +97,7 @@ fn line_feed(bytes: &[u8]) -> Option<usize>
 /// Reads one more line.
 fn walk_on<N: SpecNames>(
     alloc: Global,
+    scratch: &mut Scratch,
     names: &N,
     walk: Walk,
     piece: &[u8],
@@ -105,7 +108,7 @@ fn walk_on<N: SpecNames>(
     ensures counted { IfOk result (λ r. IfOk r (IsCounted walk)) }
 {
     let at = walk.at;
-    let outcome = read_line(alloc, names, at, piece)?;
+    let outcome = line_within(alloc, scratch, names, at, piece)?;
     match outcome {
         Outcome::Blank => Ok(Ok(Walk {
             at: at.behind_blank(),

@@ -1,6 +1,7 @@
-ghost use Rattle.std.specs.Prelude.{◌≡◌, ◌↔◌, IfOk, IsTrue, Ok};
+ghost use Rattle.std.specs.Prelude.{◌≡◌, ◌↔◌, IfOk, IsTrue, IsUtf8, Ok};
 ghost use Rattle.serde_json.specs.View.{members_view, view};
 ghost use Rattle.serde_json.specs.Find.{as_object};
+ghost use Rattle.line_shapes.specs.Objects.{IsObjectWith, members_in};
 ghost use Rattle.line_shapes.specs.Seen.{shape_seen};
 ghost use Rattle.line_shapes.specs.Shapes.{shape_of};
 ghost use Rattle.log_lines.specs.Lines.{InitSays, IsBlank, LineSays, ObjectSays, ShapeSays, TextSays};
@@ -10,7 +11,8 @@ use crate::kind::{LogKind, Outcome};
 use crate::names::SpecNames;
 use crate::position::Position;
 use crate::step::step_line;
-use line_shapes::{Key, Shape, line_shape};
+use json::Scratch;
+use line_shapes::{Key, LineObject, Shape, line_object, line_shape, object_shape};
 use serde_json::{Map, Value as Json};
 use std::alloc::{AllocError, Global};
 use std::str;
@@ -28,13 +30,27 @@ pub fn read_line<N: SpecNames>(
 ) -> Result<Outcome, NoMemory>
     ensures { IfOk result (LineSays (N.setting names.now) at bytes.now) }
 {
+    let mut scratch = Scratch::new(alloc);
+    line_within(alloc, &mut scratch, names, at, bytes)
+}
+
+/// The same with room for reading that is kept from line to line.
+pub(crate) fn line_within<N: SpecNames>(
+    alloc: Global,
+    scratch: &mut Scratch,
+    names: &N,
+    at: Position,
+    bytes: &[u8],
+) -> Result<Outcome, NoMemory>
+    ensures { IfOk result (LineSays (N.setting names.now) at bytes.now) }
+{
     if bytes.len() > MAX_LINE {
         return Ok(Outcome::Refused(LogKind::LineTooLong));
     }
     if is_blank(bytes) {
         return Ok(Outcome::Blank);
     }
-    text_line(alloc, names, at, bytes)
+    text_line(alloc, scratch, names, at, bytes)
 }
 
 fn is_blank(line: &[u8]) -> bool
@@ -46,6 +62,7 @@ fn is_blank(line: &[u8]) -> bool
 
 fn text_line<N: SpecNames>(
     alloc: Global,
+    scratch: &mut Scratch,
     names: &N,
     at: Position,
     bytes: &[u8],
@@ -55,6 +72,53 @@ fn text_line<N: SpecNames>(
     let Ok(text) = str::from_utf8(bytes) else {
         return Ok(Outcome::Refused(LogKind::NotJson));
     };
+    let read = line_object(alloc, text, scratch)?;
+    match read {
+        Some(object) => kept_line(alloc, names, at, text, &object),
+        None => tree_line(alloc, names, at, text),
+    }
+}
+
+/// What the text says, given what stands in its object at the keys of a line.
+fn kept_line<N: SpecNames>(
+    alloc: Global,
+    names: &N,
+    at: Position,
+    text: &str,
+    object: &LineObject,
+) -> Result<Outcome, NoMemory>
+    requires utf8 { IsUtf8 text.now }
+    requires object { IsObjectWith text.now (members_in object.now) }
+    ensures { IfOk result (TextSays (N.setting names.now) at text.now) }
+{
+    let _text = text;
+    object_line(alloc, names, at, object)
+}
+
+fn object_line<N: SpecNames>(
+    alloc: Global,
+    names: &N,
+    at: Position,
+    object: &LineObject,
+) -> Result<Outcome, NoMemory>
+    ensures { IfOk result (ShapeSays (N.setting names.now) at (shape_of (members_in object.now))) }
+{
+    match object_shape(object) {
+        Ok(shape) => shaped_line(alloc, names, at, &shape),
+        Err(key) => Ok(Outcome::Refused(LogKind::BadField(key))),
+    }
+}
+
+/// The same of a text that was not read as the object of a line: its tree tells why.
+fn tree_line<N: SpecNames>(
+    alloc: Global,
+    names: &N,
+    at: Position,
+    text: &str,
+) -> Result<Outcome, NoMemory>
+    requires { IsUtf8 text.now }
+    ensures { IfOk result (TextSays (N.setting names.now) at text.now) }
+{
     match Json::from_str(alloc, text) {
         Ok(json) => json_line(alloc, names, at, &json),
         Err(error) => if error.is_memory() {
@@ -74,12 +138,12 @@ fn json_line<N: SpecNames>(
     ensures { IfOk result (ObjectSays (N.setting names.now) at (as_object (view json.now))) }
 {
     match json.as_object() {
-        Some(members) => object_line(alloc, names, at, members),
+        Some(members) => members_line(alloc, names, at, members),
         None => Ok(Outcome::Refused(LogKind::NotObject)),
     }
 }
 
-fn object_line<N: SpecNames>(
+fn members_line<N: SpecNames>(
     alloc: Global,
     names: &N,
     at: Position,

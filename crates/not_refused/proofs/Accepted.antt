@@ -6,7 +6,7 @@ use Rattle.tla_ast.specs.declared.module.Program.{Program}
 use Rattle.tla_core.specs.declared.state.Shown.{Shown}
 use Rattle.tla_terms.specs.declared.spec.Spec.{Spec}
 use Rattle.one_outcome.specs.Outcome.{AreAlike}
-use Rattle.path_updates.specs.declared.line.Log.{Log}
+use Rattle.tied_logs.specs.declared.logs.Lined.{Lined}
 use Rattle.state_files.specs.Files.{StateFileSays}
 use Rattle.state_files.specs.declared.refusal.StateRefusal.{StateRefusal}
 use Rattle.run_words.specs.declared.job.Job.{Job}
@@ -19,12 +19,12 @@ use Rattle.not_refused.specs.Laws.{GivenNotRefused, ReadNotRefused}
 use Rattle.not_refused.proofs.Refused.{IsThere, Known, alike_to, refused_never, sought_there, text_not_refused, there_of}
 
 pub read_not_refused : Known → ReadNotRefused
-read_not_refused known files before now job p c s log report a refusal = refused_never known files job p c s a.read a.reaches before now report refusal
+read_not_refused known files before now job p c s lined report a refusal = refused_never known files job p c s a.read a.reaches before now report refusal
 
 ok_no_err : {A E : Type 0} (a : A) (e : E) (r q : Result A E) → r ≡ Ok a → q ≡ Err e → r ≡ q → ⊥
 ok_no_err a e r q h k same = let there : Ok a ≡ Err e = sym h ∙ same ∙ k in cc
 
-module _ (known : Known) (files : List File) (job : Job) (witness : List ℕ) (p : Program) (c : Config) (s : Spec) (log : Log) (w : List Shown) (a : AllGiven (Some files) job witness p c s log w) where
+module _ (known : Known) (files : List File) (job : Job) (witness : List ℕ) (p : Program) (c : Config) (s : Spec) (lined : Lined) (w : List Shown) (a : AllGiven (Some files) job witness p c s lined w) where
   states_there : (name : List ℕ) (limit : ℕ) → GivenWants (Some files) job witness name limit → IsThere files name limit
   states_there _ _ (wants_before name limit wants) =
       sought_there known files job p c s a.all_read.read a.all_read.reaches wants.stage name limit wants.reaches wants.is_next
@@ -46,4 +46,4 @@ module _ (known : Known) (files : List File) (job : Job) (witness : List ℕ) (p
   given_never before now _ (are_refused q d t read text refusal reaches has says) = states_accepted q d t read text refusal reaches has says
 
 pub given_not_refused : Known → GivenNotRefused
-given_not_refused known files before now job witness p c s log w report a refusal = given_never known files job witness p c s log w a before now report refusal
+given_not_refused known files before now job witness p c s lined w report a refusal = given_never known files job witness p c s lined w a before now report refusal

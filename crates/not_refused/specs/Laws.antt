@@ -5,7 +5,7 @@ use Rattle.tla_ast.specs.declared.config.Config.{Config}
 use Rattle.tla_ast.specs.declared.module.Program.{Program}
 use Rattle.tla_core.specs.declared.state.Shown.{Shown}
 use Rattle.tla_terms.specs.declared.spec.Spec.{Spec}
-use Rattle.path_updates.specs.declared.line.Log.{Log}
+use Rattle.tied_logs.specs.declared.logs.Lined.{Lined}
 use Rattle.run_words.specs.declared.job.Job.{Job}
 use Rattle.run_reading.specs.Given.{AllGiven, IsGivenRefusal}
 use Rattle.run_reading.specs.Reaches.{AllRead}
@@ -14,11 +14,11 @@ use Rattle.run_reading.specs.Refusals.{IsRefusal}
 -- what `validate` reads
 abbrev pub ReadNotRefused : Type 0
 ReadNotRefused =
-    (files : List File) (before now : ℕ) (job : Job) (p : Program) (c : Config) (s : Spec) (log : Log) (report : List ℕ) → AllRead (Some files) job p c s log
+    (files : List File) (before now : ℕ) (job : Job) (p : Program) (c : Config) (s : Spec) (lined : Lined) (report : List ℕ) → AllRead (Some files) job p c s lined
     → IsRefusal (Some files) before now job report → ⊥
 
 -- what `check` reads: the file of states is not refused either
 abbrev pub GivenNotRefused : Type 0
 GivenNotRefused =
-    (files : List File) (before now : ℕ) (job : Job) (witness : List ℕ) (p : Program) (c : Config) (s : Spec) (log : Log) (w : List Shown) (report : List ℕ)
-    → AllGiven (Some files) job witness p c s log w → IsGivenRefusal (Some files) before now job witness report → ⊥
+    (files : List File) (before now : ℕ) (job : Job) (witness : List ℕ) (p : Program) (c : Config) (s : Spec) (lined : Lined) (w : List Shown) (report : List ℕ)
+    → AllGiven (Some files) job witness p c s lined w → IsGivenRefusal (Some files) before now job witness report → ⊥

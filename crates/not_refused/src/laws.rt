@@ -2,6 +2,7 @@ ghost use Rattle.not_refused.specs.Laws.{GivenNotRefused, ReadNotRefused};
 
 use action_forms::form_laws;
 use alike_actions::alike_action_laws;
+use alike_lined::alike_lined_laws;
 use alike_logs::alike_logs_laws;
 use load_laws::configuration_laws;
 use one_outcome::outcome_laws;
@@ -34,5 +35,6 @@ pub fn not_refused_laws()
     sound_law();
     operator_law();
     alike_logs_laws();
+    alike_lined_laws();
     state_laws();
 }

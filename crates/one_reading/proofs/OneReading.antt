@@ -26,11 +26,12 @@ use Rattle.wide_reading.specs.Passing.{Passes}
 use Rattle.spec_laws.specs.IsSpec.{IsSpec}
 use Rattle.one_outcome.specs.Laws.{HasOneOutcome}
 use Rattle.one_outcome.specs.Outcome.{AreAlike}
-use Rattle.path_updates.specs.declared.line.Log.{Log}
+use Rattle.tied_logs.specs.declared.logs.Lined.{Lined}
 use Rattle.state_files.specs.Files.{StateFileSays}
 use Rattle.state_files.specs.Laws.{StateFileSaysOne}
 use Rattle.state_files.specs.declared.refusal.StateRefusal.{StateRefusal}
-use Rattle.alike_logs.specs.Laws.{FilesSayAlike, LogsAreAlike}
+use Rattle.alike_logs.specs.Laws.{FilesSayAlike}
+use Rattle.alike_lined.specs.Laws.{LinedAreAlike}
 use Rattle.run_words.specs.declared.job.Job.{Job}
 use Rattle.run_reading.specs.Texts.{config_limit}
 use Rattle.run_reading.specs.Reaches.{AllRead, Reaches, configured, given, loaded, resolved}
@@ -61,7 +62,7 @@ pub record Parts : Type 0 where
   pub plain_form : PlainHasOneForm
   pub outcome : HasOneOutcome
   pub files : FilesSayAlike
-  pub logs : LogsAreAlike
+  pub lines : LinedAreAlike
   pub states : StateFileSaysOne
 
 pub passing_parts : Parts → PassingParts
@@ -196,8 +197,8 @@ module _ (known : Parts) (files : List File) (job : Job) where
         specs = one_outcome_by known.outcome job.wide p c job.silent (form_is_one p c first.0) (Ok s) (Ok t) first.1 there;
       }
 
-  same_reading : (p q : Program) (c d : Config) (s t : Spec) (log other : Log) → AllRead (Some files) job p c s log → AllRead (Some files) job q d t other → AreSame p q c d s t log other
-  same_reading p q c d s t log other a b =
+  same_reading : (p q : Program) (c d : Config) (s t : Spec) (lined other : Lined) → AllRead (Some files) job p c s lined → AllRead (Some files) job q d t other → AreSame p q c d s t lined other
+  same_reading p q c d s t lined other a b =
       let first : Comes p c s = logged_from (Some files) job p c s a.read [] a.reaches in
       let second : Comes q d t = logged_from (Some files) job q d t b.read [] b.reaches in
       let begun = begun_same p q c d s t first second in
@@ -214,13 +215,13 @@ module _ (known : Parts) (files : List File) (job : Job) where
         specs = begun.specs;
         ordered = ordered;
         other_ordered = other_ordered;
-        logs = known.logs s.operators t.operators a.read.found b.read.found log other reads.found a.merged b.merged;
+        lines = known.lines s.operators t.operators job.ties a.read.found b.read.found lined other reads.found a.lines b.lines;
       }
 
-  same_given : (witness : List ℕ) (p q : Program) (c d : Config) (s t : Spec) (log other : Log) (w v : List Shown) → AllGiven (Some files) job witness p c s log w
-      → AllGiven (Some files) job witness q d t other v → AreSame p q c d s t log other × (w ≡ v)
-  same_given witness p q c d s t log other w v a b =
-      let same = same_reading p q c d s t log other a.all_read b.all_read in
+  same_given : (witness : List ℕ) (p q : Program) (c d : Config) (s t : Spec) (lined other : Lined) (w v : List Shown) → AllGiven (Some files) job witness p c s lined w
+      → AllGiven (Some files) job witness q d t other v → AreSame p q c d s t lined other × (w ≡ v)
+  same_given witness p q c d s t lined other w v a b =
+      let same = same_reading p q c d s t lined other a.all_read b.all_read in
       let texts : a.text ≡ b.text = one_text files witness witness states_limit states_limit a.text b.text refl a.has_text b.has_text in
       let names : StateFileSays s.variables b.text (Ok v) = subst (λ (x : List (List ℕ)). StateFileSays x b.text (Ok v)) (sym same.specs.variables) b.says in
       let there : StateFileSays s.variables a.text (Ok v) = subst (λ (x : List ℕ). StateFileSays s.variables x (Ok v)) (sym texts) names in

@@ -20,7 +20,7 @@ use Rattle.tla_terms.specs.declared.spec.Spec.{Spec}
 use Rattle.specification_names.specs.Resolving.{ResolvedBy, ResolvedWide, as_it_stands}
 use Rattle.wide_reading.specs.Passing as passing
 use Rattle.wide_reading.specs.Passing.{Passes, without_word}
-use Rattle.path_updates.specs.declared.line.Log.{Log}
+use Rattle.tied_logs.specs.declared.logs.Lined.{Lined}
 use Rattle.run_words.specs.declared.job.Job.{Job}
 use Rattle.run_reading.specs.Texts.{LogsRead}
 use Rattle.run_reading.specs.Reaches.{AllRead, Reaches, given, has_forms, loaded, loads, logged, needs_no_configuration, passes, reads_configuration, reads_log, resolved, resolves}
@@ -126,16 +126,16 @@ module _ (configurations : StrictIsWide) (holds : Option (List File)) (job : Job
   logged_wide _ _ _ _ _ (reads_log p c s read name names text f reaches log says) =
       reads_log p c s read name names text f (logged_wide p c s read (name ∷ names) reaches) log says
 
-  read_wide : (p : Program) (c : Config) (s : Spec) (log : Log) → AllRead holds job p c s log → AllRead holds (widened job) p c s log
-  read_wide p c s log a = record { read = a.read; reaches = logged_wide p c s a.read [] a.reaches; merged = a.merged }
+  read_wide : (p : Program) (c : Config) (s : Spec) (lined : Lined) → AllRead holds job p c s lined → AllRead holds (widened job) p c s lined
+  read_wide p c s lined a = record { read = a.read; reaches = logged_wide p c s a.read [] a.reaches; lines = a.lines }
 
 pub strict_stays_wide : StrictIsWide → StrictStaysWide
-strict_stays_wide configurations holds job p c s log strictly a = read_wide configurations holds job strictly p c s log a
+strict_stays_wide configurations holds job p c s lined strictly a = read_wide configurations holds job strictly p c s lined a
 
 pub given_stays_wide : StrictIsWide → GivenStaysWide
-given_stays_wide configurations holds job witness p c s log w strictly a =
-    record { all_read = read_wide configurations holds job strictly p c s log a.all_read; text = a.text; has_text = a.has_text; says = a.says }
+given_stays_wide configurations holds job witness p c s lined w strictly a =
+    record { all_read = read_wide configurations holds job strictly p c s lined a.all_read; text = a.text; has_text = a.has_text; says = a.says }
 
 pub wide_is_strict : StrictIsWide → ReadingIsOne → WideIsStrict
-wide_is_strict configurations one files job p q c d s t log other strictly a b =
-    one files (widened job) p q c d s t log other (read_wide configurations (Some files) job strictly p c s log a) b
+wide_is_strict configurations one files job p q c d s t lined other strictly a b =
+    one files (widened job) p q c d s t lined other (read_wide configurations (Some files) job strictly p c s lined a) b

@@ -1,5 +1,6 @@
 ghost use Rattle.one_reading.specs.Laws.{GivenIsOne, GivenStaysWide, ReadingIsOne, StrictStaysWide, WideIsStrict};
 
+use alike_lined::alike_lined_laws;
 use alike_logs::alike_logs_laws;
 use load_laws::configuration_laws;
 use one_outcome::outcome_laws;
@@ -27,6 +28,7 @@ pub fn reading_laws()
     resolved_laws();
     outcome_laws();
     alike_logs_laws();
+    alike_lined_laws();
     state_laws();
 }
 

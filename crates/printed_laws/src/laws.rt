@@ -1,15 +1,19 @@
 ghost use Rattle.printed_laws.specs.Laws.{PrintedIsValid};
-ghost use Rattle.ready_specs.specs.Beside.{IsReady, asked};
+ghost use Rattle.line_steps.specs.Logs.{Asked};
+ghost use Rattle.lined_specs.specs.Beside.{IsReadyOver};
 
-use explained_laws::explained_law;
-use spec_pairs::SpecPairs;
+use lined_verdicts::lined_laws;
 use state_file_laws::printed_law;
+use tied_logs::Lined;
+use tied_steps::tied_laws;
+use tla_terms::Spec;
 
-/// The report of a log that is explained is a file of states, and the states that it says are valid.
-pub fn printed_valid_law(pairs: &SpecPairs<'_>)
-    requires { IsReady pairs.now.spec.now pairs.now.log.now }
-    ensures { PrintedIsValid pairs.now.spec.now pairs.now.log.now (asked pairs.now.stutter pairs.now.within pairs.now.limit) }
+/// The report of logs that are explained is a file of states, and the states that it says are valid.
+pub fn printed_valid_law(spec: &Spec, lined: &Lined)
+    requires { IsReadyOver spec.now lined.now }
+    ensures { (asked : Asked) → PrintedIsValid spec.now lined.now asked }
 {
-    explained_law(pairs);
+    lined_laws(spec, lined);
+    tied_laws();
     printed_law();
 }

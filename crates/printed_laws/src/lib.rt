@@ -1,4 +1,4 @@
-//! The law that what is printed of a log that is explained is read again, and valid.
+//! The law that what is printed of logs that are explained is read again, and valid.
 #![tactic(auto)]
 
 mod laws;

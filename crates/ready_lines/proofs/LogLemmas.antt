@@ -1,5 +1,5 @@
 -- A log that was read under the names of a specification.
-use Rattle.std.proofs.Common.{◌≡◌, ◌+◌, ◌-◌, ◌<◌, ℕ, List, [], ◌∷◌, ◌++◌, length, All, Bool, Some, Result, Ok, Err, sym, subst}
+use Rattle.std.proofs.Common.{◌≡◌, ◌+◌, ◌-◌, ◌<◌, ℕ, List, [], ◌∷◌, ◌++◌, length, map, All, Bool, Some, Result, Ok, Err, sym, subst}
 use Rattle.std.specs.Prelude.{slice_get}
 use Rattle.std.specs.List.{AllZip, AllByRecursion as Each}
 use Rattle.std.proofs.lemmas.List.Elements.{All-append, All-from_recursion, All-get_or, All-nil, All-push, recursion_from_All}
@@ -16,10 +16,14 @@ use Rattle.log_lines.specs.declared.kind.Outcome.{Outcome}
 use Rattle.log_lines.specs.declared.kind.Outcome.TheVariants.{Blank, Init, Step, Refused}
 use Rattle.log_lines.specs.declared.file.FileLines.{FileLines}
 use Rattle.log_lines.specs.declared.file.Refusal.{Refusal}
+use Rattle.tied_logs.specs.declared.logs.Lined.{Lined}
+use Rattle.tied_logs.specs.declared.logs.Lined.TheVariants.{Sequence, Tied}
+use Rattle.tied_logs.specs.declared.logs.Logs.{Logs}
+use Rattle.log_files.specs.Lined.{AreLogsOf, IsLinedOf}
 use Rattle.log_files.specs.Logs.{FilesSay, GoesOn as FilesGoOn, IsLogOf, StandsAt, Together, are_several, first_sees, max_steps, sees_of}
 use Rattle.log_files.specs.declared.logs.LogRefusal.{LogRefusal}
 use Rattle.spec_names.specs.Names.{names_of}
-use Rattle.ready_lines.specs.Laws.{FilesAreReady, HasValues, IsReadyFile, IsReadyLog, LinesAreReady, LogsAreReady, SeesAreReady, TogetherReady}
+use Rattle.ready_lines.specs.Laws.{AreReadyLogs, FilesAreReady, HasValues, HaveValues, IsReadyFile, IsReadyLined, IsReadyLog, LinedAreReady, LinesAreReady, LogsAreReady, SeesAreReady, TogetherReady}
 use Rattle.ready_specs.specs.Ready.{AreOfVariables, IsReadyLine}
 use Rattle.ready_lines.proofs.Events.{FormLaws}
 use Rattle.ready_lines.proofs.LineLemmas.{IfReady, line_ready}
@@ -91,6 +95,41 @@ module _ (s : Spec) (is : IsSpec s) (laws : FormLaws) where
     lines = All-from_recursion (IsReadyLine s) log.lines (lines_stand files of.order log.lines h of.lines (recursion_from_All (λ (line : Line). HasValues line.event) log.lines values));
   }
 
+  -- SEVERAL LOGS
+
+  all_ready : (lines : List Line) → Each (IfValues s) lines → Each (λ line. HasValues line.event) lines → Each (IsReadyLine s) lines
+  all_ready [] ready values = tt
+  all_ready (line ∷ lines) ready values = (ready.0 values.0, all_ready lines ready.1 values.1)
+
+  steps_ready : (f : FileLines) → IsReadyFile s f → All (λ line. HasValues line.event) f.steps → All (IsReadyLine s) f.steps
+  steps_ready f h values =
+      All-from_recursion (IsReadyLine s) f.steps (all_ready f.steps (recursion_from_All (IfValues s) f.steps h.steps) (recursion_from_All (λ (line : Line). HasValues line.event) f.steps values))
+
+  abbrev AllValues : List Line → Type 0
+  AllValues lines = All (λ line. HasValues line.event) lines
+
+  abbrev AllReady : List Line → Type 0
+  AllReady lines = All (IsReadyLine s) lines
+
+  each_ready : (files : List FileLines) → Each (IsReadyFile s) files → Each AllValues (map (λ f. f.steps) files) → Each AllReady (map (λ f. f.steps) files)
+  each_ready [] h values = tt
+  each_ready (f ∷ fs) h values = (steps_ready f h.0 values.0, each_ready fs h.1 values.1)
+
+  logs_of_files : (files : List FileLines) (logs : Logs) → All (IsReadyFile s) files → AreLogsOf files logs → All AllValues logs.files.items → AreReadyLogs s logs
+  logs_of_files files logs h of values =
+      let each = recursion_from_All (IsReadyFile s) files h in
+      let lines : List (List Line) = map (λ f. f.steps) files in
+      let there : All AllValues lines = subst (All AllValues) of.lines values in
+      let ready : All AllReady lines = All-from_recursion AllReady lines (each_ready files each (recursion_from_All AllValues lines there)) in
+      record {
+        init = subst (AreOfVariables s) (sym of.init) (seen_first files each);
+        lines = subst (All AllReady) (sym of.lines) ready;
+      }
+
+  lined_ready : (ties : Bool) (files : List FileLines) (lined : Lined) → All (IsReadyFile s) files → IsLinedOf ties files lined → HaveValues lined → IsReadyLined s lined
+  lined_ready ties files (Sequence log) h of values = log_of_files files log h of.1 values
+  lined_ready ties files (Tied logs) h of values = logs_of_files files logs h of.2 values
+
   log_is : (a b : Log) → ◌≡◌ {A = Result Log LogRefusal} (Ok a) (Ok b) → a ≡ b
   log_is a b e = cc
 
@@ -114,3 +153,6 @@ files_are_ready laws s file many room bytes f is h = file_ready s is laws file m
 
 pub together_are_ready : FormLaws → TogetherReady
 together_are_ready laws s files log is h of values = log_of_files s is laws files log h of values
+
+pub lined_are_ready : FormLaws → LinedAreReady
+lined_are_ready laws s ties files lined is h of values = lined_ready s is laws ties files lined h of values

@@ -12,7 +12,11 @@ use Rattle.log_lines.specs.declared.position.Position.{Position}
 use Rattle.log_lines.specs.declared.kind.Outcome.TheVariants.{Init, Step}
 use Rattle.log_lines.specs.Files.{FileSays, first_line}
 use Rattle.log_lines.specs.declared.file.FileLines.{FileLines}
+use Rattle.log_files.specs.Lined.{IsLinedOf}
 use Rattle.log_files.specs.Logs.{IsLogOf, LogsSay, sees_of}
+use Rattle.tied_logs.specs.declared.logs.Lined.{Lined}
+use Rattle.tied_logs.specs.declared.logs.Lined.TheVariants.{Sequence, Tied}
+use Rattle.tied_logs.specs.declared.logs.Logs.{Logs}
 use Rattle.spec_names.specs.Names.{names_of}
 use Rattle.ready_specs.specs.Ready.{AreOfVariables, IsReadyLine}
 
@@ -25,6 +29,21 @@ HasValues (Some e) = AreValues e.args
 pub record IsReadyLog (s : Spec) (log : Log) : Type 0 where
   pub init : AreOfVariables s log.init
   pub lines : All (IsReadyLine s) log.lines
+
+-- the same of each line of several logs
+pub record AreReadyLogs (s : Spec) (logs : Logs) : Type 0 where
+  pub init : AreOfVariables s logs.init
+  pub lines : All (λ file. All (IsReadyLine s) file) logs.files.items
+
+-- the same of the lines of all logs, in one order or in each that is allowed
+abbrev pub IsReadyLined : Spec → Lined → Type 0
+IsReadyLined s (Sequence log) = IsReadyLog s log
+IsReadyLined s (Tied logs) = AreReadyLogs s logs
+
+-- the arguments of the events of all their lines are values
+abbrev pub HaveValues : Lined → Type 0
+HaveValues (Sequence log) = All (λ line. HasValues line.event) log.lines
+HaveValues (Tied logs) = All (λ file. All (λ line. HasValues line.event) file) logs.files.items
 
 -- what a file says can be asked of the specification, where the arguments of its events are values
 pub record IsReadyFile (s : Spec) (f : FileLines) : Type 0 where
@@ -46,3 +65,7 @@ FilesAreReady = (s : Spec) (file : ℕ) (many : Bool) (room : ℕ) (bytes : List
 -- the log of files that can be asked
 abbrev pub TogetherReady : Type 0
 TogetherReady = (s : Spec) (files : List FileLines) (log : Log) → IsSpec s → All (IsReadyFile s) files → IsLogOf files log → All (λ line. HasValues line.event) log.lines → IsReadyLog s log
+
+-- the lines of all files that can be asked
+abbrev pub LinedAreReady : Type 0
+LinedAreReady = (s : Spec) (ties : Bool) (files : List FileLines) (lined : Lined) → IsSpec s → All (IsReadyFile s) files → IsLinedOf ties files lined → HaveValues lined → IsReadyLined s lined

@@ -1,4 +1,4 @@
-ghost use Rattle.ready_lines.specs.Laws.{FilesAreReady, LinesAreReady, LogsAreReady, SeesAreReady, TogetherReady};
+ghost use Rattle.ready_lines.specs.Laws.{FilesAreReady, LinedAreReady, LinesAreReady, LogsAreReady, SeesAreReady, TogetherReady};
 
 use action_forms::form_laws;
 use sound_laws::operator_law;
@@ -10,6 +10,7 @@ pub fn logs_are_ready()
     ensures logs { LogsAreReady }
     ensures files { FilesAreReady }
     ensures together { TogetherReady }
+    ensures lined { LinedAreReady }
 {
     form_laws();
     operator_law();

@@ -5,4 +5,4 @@ mod laws;
 mod values;
 
 pub use laws::logs_are_ready;
-pub use values::known_values;
+pub use values::{known_values, known_values_over};

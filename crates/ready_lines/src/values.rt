@@ -1,17 +1,41 @@
 //! That the arguments of events are values.
 
 ghost use Rattle.std.specs.Prelude.{All};
-ghost use Rattle.ready_lines.specs.Laws.{HasValues};
+ghost use Rattle.ready_lines.specs.Laws.{HasValues, HaveValues};
 ghost use Rattle.tla_eval.specs.Laws.{AreValues};
 
-use path_updates::{Event, Log};
+use path_updates::{Event, Line, LineList, Log};
+use tied_logs::Lined;
 use tla_values::Value;
 
 /// That the arguments of each line's event are values.
 pub fn known_values(log: &Log)
     ensures { All (λ line. HasValues line.event) log.now.lines }
 {
-    let lines = log.lines.items();
+    values_in_lines(log.lines.items());
+}
+
+/// The same of the lines of all logs.
+pub fn known_values_over(lined: &Lined)
+    ensures { HaveValues lined.now }
+{
+    match lined {
+        Lined::Sequence(log) => known_values(log),
+        Lined::Tied(logs) => values_in_files(logs.files.as_slice()),
+    }
+}
+
+fn values_in_files(files: &[LineList])
+    ensures { All (λ lines. All (λ line. HasValues line.event) lines) files.now }
+{
+    for lines in files {
+        values_in_lines(lines.items());
+    }
+}
+
+fn values_in_lines(lines: &[Line])
+    ensures { All (λ line. HasValues line.event) lines.now }
+{
     for line in lines {
         event_values(&line.event);
     }

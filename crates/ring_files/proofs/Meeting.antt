@@ -25,6 +25,7 @@ ring_meets = record {
   options = record { within_least = omega arith; within_most = omega arith; limit_least = omega arith; limit_most = omega arith };
   why = tt;
   near = tt;
+  ties = tt;
 }
 
 pub meets_as_ring : (job : Job) → job ≡ ring_job → JobMeets job

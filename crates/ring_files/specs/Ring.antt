@@ -48,4 +48,5 @@ ring_job = record {
   why = None;
   near = None;
   wide = false;
+  ties = false;
 }

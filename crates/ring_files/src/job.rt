@@ -34,5 +34,6 @@ fn made(alloc: Global) -> Result<Job, NoMemory>
         why: None,
         near: None,
         wide: false,
+        ties: false,
     })
 }

@@ -5,7 +5,7 @@ use Rattle.tla_ast.specs.declared.config.Config.{Config}
 use Rattle.tla_ast.specs.declared.module.Program.{Program}
 use Rattle.tla_terms.specs.declared.spec.Spec.{Spec}
 use Rattle.tla_core.specs.declared.state.Shown.{Shown}
-use Rattle.path_updates.specs.declared.line.Log.{Log}
+use Rattle.tied_logs.specs.declared.logs.Lined.{Lined}
 use Rattle.state_files.specs.Files.{StateFileSays}
 use Rattle.state_files.specs.declared.refusal.StateRefusal.{StateRefusal}
 use Rattle.run_words.specs.declared.job.Job.{Job}
@@ -36,9 +36,9 @@ pub data IsGivenRefusal (holds : Option (List File)) (before now : ℕ) (job : J
       → HasText holds witness states_limit text → StateFileSays s.variables text (Err refusal)
       → IsGivenRefusal holds before now job witness (states_refusal witness refusal)
 
--- All texts are read and none is refused: this is the specification, this the log, and these are the states that the file gives.
-pub record AllGiven (holds : Option (List File)) (job : Job) (witness : List ℕ) (p : Program) (c : Config) (s : Spec) (log : Log) (w : List Shown) : Type 0 where
-  pub all_read : AllRead holds job p c s log
+-- All texts are read and none is refused: this is the specification, these are the lines of the logs, and these the states that the file gives.
+pub record AllGiven (holds : Option (List File)) (job : Job) (witness : List ℕ) (p : Program) (c : Config) (s : Spec) (lined : Lined) (w : List Shown) : Type 0 where
+  pub all_read : AllRead holds job p c s lined
   pub text : List ℕ
   pub has_text : HasText holds witness states_limit text
   pub says : StateFileSays s.variables text (Ok w)

@@ -22,8 +22,8 @@ use Rattle.spec_forms.specs.Forms.{AreWhole}
 use Rattle.log_lines.specs.Files.{FileSays, first_line}
 use Rattle.log_lines.specs.declared.file.FileLines.{FileLines}
 use Rattle.log_lines.specs.declared.file.Refusal.{Refusal}
-use Rattle.log_files.specs.Logs.{IsLogOf}
-use Rattle.path_updates.specs.declared.line.Log.{Log}
+use Rattle.log_files.specs.Lined.{IsLinedOf}
+use Rattle.tied_logs.specs.declared.logs.Lined.{Lined}
 use Rattle.spec_names.specs.Names.{names_of}
 use Rattle.run_words.specs.declared.job.Job.{Job}
 use Rattle.run_reading.specs.Texts.{HasText, LogsRead, are_several, bytes_left, config_limit, no_logs, steps_left, with_log, without_file}
@@ -82,8 +82,9 @@ pub record Wants (holds : Option (List File)) (job : Job) (name : List ℕ) (lim
   pub reaches : Reaches holds job stage
   pub is_next : IsNext holds job stage name limit
 
--- All texts are read and none is refused: this is the specification, and this the log of all files, in the one order of their lines.
-pub record AllRead (holds : Option (List File)) (job : Job) (p : Program) (c : Config) (s : Spec) (log : Log) : Type 0 where
+-- All texts are read and none is refused: this is the specification, and these are the lines of all logs, in their one order; or, with the word `--ties`,
+-- those of several logs in each order that their clocks leave open.
+pub record AllRead (holds : Option (List File)) (job : Job) (p : Program) (c : Config) (s : Spec) (lined : Lined) : Type 0 where
   pub read : LogsRead
   pub reaches : Reaches holds job (logged p c s read [])
-  pub merged : IsLogOf read.found log
+  pub lines : IsLinedOf job.ties read.found lined

@@ -9,14 +9,19 @@ use Rattle.log_lines.specs.Laws.{Precedes, StepsKeep}
 use Rattle.log_lines.specs.declared.file.FileLines.{FileLines}
 use Rattle.log_lines.specs.declared.file.Refusal.{Refusal}
 use Rattle.path_updates.specs.declared.line.Line.{Line}
-use Rattle.path_updates.specs.declared.line.Log.{Log}
 use Rattle.clock_merge.specs.declared.order.LineRef.{LineRef}
-use Rattle.clock_merge.specs.Orders.{AreFew, NoneFalls, lines_in}
+use Rattle.clock_merge.specs.Orders.{AreFew, Clocks, NoneFalls, lines_in}
 use Rattle.clock_merge.proofs.Counting.{as_long}
-use Rattle.log_files.specs.Logs.{IsLogOf, StandsAt, clocks_in}
+use Rattle.log_cuts.specs.Cuts.{total}
+use Rattle.log_cuts.specs.Orders.{Order, sizes, sizes_of}
+use Rattle.tied_logs.specs.declared.logs.Lined.{Lined}
+use Rattle.tied_logs.specs.declared.logs.Lined.TheVariants.{Sequence, Tied}
+use Rattle.lined_specs.specs.Beside.{lines_of}
+use Rattle.log_files.specs.Lined.{IsLinedOf}
+use Rattle.log_files.specs.Logs.{StandsAt, clocks_in}
 use Rattle.log_files.proofs.KeptFiles as kept
 use Rattle.spec_names.specs.Names.{names_of}
-use Rattle.run_reading.specs.Texts.{HasText, LogsRead, no_logs}
+use Rattle.run_reading.specs.Texts.{HasText, no_logs}
 use Rattle.run_reading.specs.Reaches.{Reaches, Wants, log_next, logged, reads_log}
 use Rattle.run_stages.specs.declared.logs.Course.{Course}
 use Rattle.run_stages.specs.declared.logs.LogsSoFar.{LogsSoFar}
@@ -33,6 +38,11 @@ as_many files [] [] h = refl
 as_many files [] (y ∷ ys) h = absurd h
 as_many files (x ∷ xs) [] h = absurd h
 as_many files (x ∷ xs) (y ∷ ys) h = ap suc (as_many files xs ys h.1)
+
+-- a cut of all lines counts them
+counted : (clocks : Clocks) → total (sizes_of clocks) ≡ lines_in clocks
+counted [] = refl
+counted (cs ∷ clocks) = ap (λ (n : ℕ). length cs + n) (counted clocks)
 
 abbrev pub IsKept : FileLines → Type 0
 IsKept f = AllPairs Precedes f.steps × (length f.steps ≤ 200000)
@@ -98,9 +108,13 @@ module _ (holds : Option (List File)) (course : Course) where
   pub are_few : (so : LogsSoFar) (names : List (List ℕ)) → IsOnTheWay holds course so names → AreFew (clocks_in so.found.items)
   are_few so names way = kept.are_few (length so.found.items) so.found.items (as_kept so names way)
 
-  -- the log of what was read has no more lines than all files may have
-  pub few_lines : (so : LogsSoFar) (names : List (List ℕ)) → IsOnTheWay holds course so names → (log : Log) → IsLogOf so.found.items log → length log.lines ≤ 200000
-  few_lines so names way log is =
-      let lines = as_many so.found.items is.order log.lines is.lines in
-      let long = as_long (clocks_in so.found.items) is.order is.merged in
+  -- what was read has no more lines than all files may have
+  pub few_lines : (so : LogsSoFar) (names : List (List ℕ)) → IsOnTheWay holds course so names → (ties : Bool) (lined : Lined) → IsLinedOf ties so.found.items lined
+      → lines_of lined ≤ 200000
+  few_lines so names way ties (Sequence log) is =
+      let lines = as_many so.found.items is.1.order log.lines is.1.lines in
+      let long = as_long (clocks_in so.found.items) is.1.order is.1.merged in
       omega (arith, lines, long, way.kept.total, way.kept.few)
+  few_lines so names way ties (Tied logs) is =
+      let all : total (sizes logs.order) ≡ total (sizes_of (clocks_in so.found.items)) = ap (λ (o : Order). total (sizes o)) is.2.order in
+      omega (arith, all, counted (clocks_in so.found.items), way.kept.total, way.kept.few)

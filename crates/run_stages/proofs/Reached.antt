@@ -19,7 +19,12 @@ use Rattle.wide_reading.specs.Answers.{IsResolution}
 use Rattle.wide_reading.specs.declared.resolution.Resolution.{Resolution}
 use Rattle.wide_reading.specs.Laws.{PassedAreWellFormed}
 use Rattle.spec_laws.specs.IsSpec.{IsSpec}
-use Rattle.ready_lines.specs.Laws.{FilesAreReady, IsReadyFile}
+use Rattle.tied_logs.specs.declared.logs.Lined.{Lined}
+use Rattle.tied_logs.specs.declared.logs.Lined.TheVariants.{Sequence, Tied}
+use Rattle.log_files.specs.Lined.{AreMadeSo}
+use Rattle.ready_specs.specs.Ready.{IsReadySpec}
+use Rattle.lined_specs.specs.Beside.{IsReadyOver}
+use Rattle.ready_lines.specs.Laws.{FilesAreReady, IsReadyFile, IsReadyLined}
 use Rattle.run_words.specs.declared.job.Job.{Job}
 use Rattle.run_reading.specs.Texts.{LogsRead, are_several, steps_left}
 use Rattle.run_reading.specs.Reaches.{Reaches, configured, given, has_forms, loaded, loads, logged, needs_no_configuration, passes, reads_configuration, reads_log, resolved, resolves}
@@ -67,3 +72,8 @@ files_ready holds job p c s _ _ law is (has_forms _ _ _ reaches whole) = All-nil
 files_ready holds job p c s _ names law is (reads_log _ _ _ read name _ text f reaches log says) =
     All-push (IsReadyFile s) read.found f (files_ready holds job p c s read (name ∷ names) law is reaches)
     (law s (1 + length read.found) (are_several job.logs) (steps_left read) text f is says)
+
+-- and so can the lines of all logs, beside which the specification is ready
+pub ready_over : (s : Spec) (lined : Lined) → IsReadySpec s → IsReadyLined s lined → AreMadeSo lined → IsReadyOver s lined
+ready_over s (Sequence log) ready is made = record { spec = ready; first = is.init; lines = is.lines }
+ready_over s (Tied logs) ready is made = (record { spec = ready; first = is.init; lines = is.lines }, made)

@@ -1,6 +1,6 @@
 ghost use Rattle.std.specs.Prelude.{◌≡◌, ◌≤◌, All, Err, IfErr, IfOk, Ok, length};
 ghost use Rattle.line_steps.specs.Says.{IsState};
-ghost use Rattle.ready_specs.specs.Beside.{IsReady};
+ghost use Rattle.lined_specs.specs.Beside.{IsReadyOver, lines_of};
 ghost use Rattle.state_files.specs.Files.{StateFileSays};
 ghost use Rattle.state_files.specs.declared.refusal.StateRefusal.{StateRefusal};
 ghost use Rattle.run_words.specs.Words.{JobMeets};
@@ -38,9 +38,9 @@ pub fn read_given<F: Files>(
     files: &mut F,
 ) -> Result<Given, Stop>
     requires { JobMeets job.now }
-    ensures accepted { IfOk result (λ g. AllGiven (F.holds files.old) job.now witness.now g.accepted.program g.accepted.config g.accepted.spec g.accepted.log g.states) }
-    ensures ready { IfOk result (λ g. IsReady g.accepted.spec g.accepted.log) }
-    ensures few_lines { IfOk result (λ g. length g.accepted.log.lines ≤ 200000) }
+    ensures accepted { IfOk result (λ g. AllGiven (F.holds files.old) job.now witness.now g.accepted.program g.accepted.config g.accepted.spec g.accepted.lined g.states) }
+    ensures ready { IfOk result (λ g. IsReadyOver g.accepted.spec g.accepted.lined) }
+    ensures few_lines { IfOk result (λ g. lines_of g.accepted.lined ≤ 200000) }
     ensures states { IfOk result (λ g. All (λ x. IsState (length g.accepted.spec.variables) x.state) g.states) }
     ensures stopped { IfErr result (GivenStopsBy (F.holds files.old) (F.faults files.old) (F.faults files.new) job.now witness.now) }
     ensures same { F.holds files.new ≡ F.holds files.old }

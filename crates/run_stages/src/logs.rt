@@ -1,5 +1,6 @@
 ghost use Rattle.std.specs.Prelude.{◌≡◌, ◌≤◌, ◌∷◌, ℕ, List, IfOk, IfErr, length};
-ghost use Rattle.log_files.specs.Logs.{IsLogOf};
+ghost use Rattle.log_files.specs.Lined.{AreMadeSo};
+ghost use Rattle.lined_specs.specs.Beside.{lines_of};
 ghost use Rattle.spec_laws.specs.IsSpec.{IsSpec};
 ghost use Rattle.spec_names.specs.Names.{names_of};
 ghost use Rattle.run_reading.specs.Texts.{LogsRead, no_logs};
@@ -9,13 +10,13 @@ ghost use Rattle.run_stages.specs.Logs.{AreKept, IsOnTheWay};
 
 use crate::stop::Stop;
 use crate::wanted::read_wanted;
-use log_files::log_of;
+use log_files::lined_of;
 use log_lines::{FileLines, line_laws, read_log};
-use path_updates::Log;
 use run_texts::log_refusal;
 use run_words::Job;
 use spec_names::LogNames;
 use std::alloc::Global;
+use tied_logs::Lined;
 use tla_ast::{Config, Program};
 use tla_terms::Spec;
 use trace_base::{Files, Text};
@@ -43,17 +44,18 @@ pub(crate) struct LogsSoFar {
     pub(crate) found: Vec<FileLines>,
 }
 
-/// The log of all files, each read and tested whole before the next.
+/// The lines of all files, each read and tested whole before the next: in one order, or in each that the job leaves open.
 pub(crate) fn read_logs<F: Files>(
     alloc: Global,
     course: Course<'_>,
     files: &mut F,
-) -> Result<Log, Stop>
+) -> Result<Lined, Stop>
     requires ordered { IsSpec course.spec.now }
     requires few { length course.job.now.logs ≤ 64 }
     requires reaches { Reaches (F.holds files.now) course.job.now (logged course.program.now course.config.now course.spec.now no_logs course.job.now.logs) }
     ensures accepted { IfOk result (AllRead (F.holds files.old) course.entry.job.now course.entry.program.now course.entry.config.now course.entry.spec.now) }
-    ensures few { IfOk result (λ log. length log.lines ≤ 200000) }
+    ensures made { IfOk result AreMadeSo }
+    ensures few { IfOk result (λ lined. lines_of lined ≤ 200000) }
     ensures stopped { IfErr result (StopsBy (F.holds files.old) (F.faults files.old) (F.faults files.new) course.entry.job.now) }
     ensures same { F.holds files.new ≡ F.holds files.old }
     ensures later { F.faults files.old ≤ F.faults files.new }
@@ -68,8 +70,8 @@ pub(crate) fn read_logs<F: Files>(
     for name in course.job.logs.items() {
         so = read_next(alloc, course, &names, name, so, files)?;
     }
-    let log = log_of(alloc, so.found)?;
-    Ok(log)
+    let lined = lined_of(alloc, course.job.ties, so.found)?;
+    Ok(lined)
 }
 
 /// Reads the next log.

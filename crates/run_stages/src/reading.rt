@@ -1,5 +1,5 @@
-ghost use Rattle.std.specs.Prelude.{◌≡◌, ◌≤◌, IfOk, IfErr, length};
-ghost use Rattle.ready_specs.specs.Beside.{IsReady};
+ghost use Rattle.std.specs.Prelude.{◌≡◌, ◌≤◌, IfOk, IfErr};
+ghost use Rattle.lined_specs.specs.Beside.{IsReadyOver, lines_of};
 ghost use Rattle.run_words.specs.Words.{JobMeets};
 ghost use Rattle.run_reading.specs.Reaches.{AllRead};
 ghost use Rattle.run_stages.specs.Stops.{StopsBy};
@@ -11,25 +11,25 @@ use crate::modules::load_program;
 use crate::resolving::resolve_spec;
 use crate::stop::Stop;
 use load_laws::configuration_laws;
-use path_updates::Log;
-use ready_lines::{known_values, logs_are_ready};
+use ready_lines::{known_values_over, logs_are_ready};
 use resolved_laws::resolved_laws;
 use run_words::Job;
 use std::alloc::Global;
+use tied_logs::Lined;
 use tla_ast::{Config, Program};
 use tla_terms::Spec;
 use trace_base::Files;
 use wide_load_laws::wide_load_laws;
 use wide_reading::{Resolution, passing_laws};
 
-/// What was made of the texts of a job: the program and its configuration without what is passed over, the specification of both, and the log of all
-/// files.
+/// What was made of the texts of a job: the program and its configuration without what is passed over, the specification of both, and the lines of all
+/// logs.
 #[derive(Drop)]
 pub struct Accepted {
     pub program: Program,
     pub config: Config,
     pub spec: Spec,
-    pub log: Log,
+    pub lined: Lined,
 }
 
 /// Reads the texts of a job in their order: the module and those that it extends, the configuration, then the logs, after names, levels and forms are
@@ -37,9 +37,9 @@ pub struct Accepted {
 /// it.
 pub fn read_all<F: Files>(alloc: Global, job: &Job, files: &mut F) -> Result<Accepted, Stop>
     requires { JobMeets job.now }
-    ensures accepted { IfOk result (λ a. AllRead (F.holds files.old) job.now a.program a.config a.spec a.log) }
-    ensures ready { IfOk result (λ a. IsReady a.spec a.log) }
-    ensures few_lines { IfOk result (λ a. length a.log.lines ≤ 200000) }
+    ensures accepted { IfOk result (λ a. AllRead (F.holds files.old) job.now a.program a.config a.spec a.lined) }
+    ensures ready { IfOk result (λ a. IsReadyOver a.spec a.lined) }
+    ensures few_lines { IfOk result (λ a. lines_of a.lined ≤ 200000) }
     ensures stopped { IfErr result (StopsBy (F.holds files.old) (F.faults files.old) (F.faults files.new) job.now) }
     ensures same { F.holds files.new ≡ F.holds files.old }
     ensures later { F.faults files.old ≤ F.faults files.new }
@@ -63,13 +63,13 @@ pub fn read_all<F: Files>(alloc: Global, job: &Job, files: &mut F) -> Result<Acc
         config: &config,
         spec: &spec,
     };
-    let log = read_logs(alloc, course, files)?;
+    let lined = read_logs(alloc, course, files)?;
     logs_are_ready();
-    known_values(&log);
+    known_values_over(&lined);
     Ok(Accepted {
         program,
         config,
         spec,
-        log,
+        lined,
     })
 }

@@ -5,15 +5,15 @@ use Rattle.std.specs.declared.alloc.AllocError.{AllocError}
 use Rattle.std.proofs.lemmas.Bool.{and_parts}
 use Rattle.run_words.specs.declared.command.Command.{Command}
 use Rattle.run_words.specs.declared.command.Command.TheVariants as command
-use Rattle.run_words.specs.declared.command.Flag.TheVariants.{Stutter, Wide}
+use Rattle.run_words.specs.declared.command.Flag.TheVariants.{Stutter, Ties, Wide}
 use Rattle.run_words.specs.declared.command.Setting.TheVariants.{Config, Within, Limit, Witness, Why, Near}
 use Rattle.run_words.specs.declared.job.Job.{Job}
 use Rattle.run_words.specs.declared.job.Options.{Options}
 use Rattle.run_words.specs.declared.job.Words.{Words}
 use Rattle.run_words.specs.declared.job.Words.TheVariants.{Validate, Check, SelfRun}
 use Rattle.run_words.specs.Line.{Text, Given, Gives, is_given}
-use Rattle.run_words.specs.Job.{IsJob, IsNumber, IsNumberIn, IsNumberOr, IsSet, SetsOptions, times, values_of}
-use Rattle.run_words.specs.Words.{AreWords, Asks, AsksCheck, AsksNumber, IsFew, IsOnlyNumber, IsWitnessed, JobMeets, MeetsRules, OneCommand, OptionsMeet, Reads}
+use Rattle.run_words.specs.Job.{IsJob, IsNumber, IsNumberIn, IsNumberOr, IsSet, IsTied, SetsOptions, StandsAlone, times, values_of}
+use Rattle.run_words.specs.Words.{AreWords, Asks, AsksCheck, AsksNumber, IsFew, IsOnlyNumber, IsWitnessed, JobMeets, MeetsRules, OneCommand, OptionsMeet, Reads, TellsNothing}
 use Rattle.run_words.proofs.ReadLaws.{job_as, number_as, witnessed_as}
 use Rattle.run_words.proofs.Readings.{AllGiven, line_given, one_given}
 
@@ -50,16 +50,17 @@ options_are a b e f g =
     ∙ ap (λ s. let o : Options = record { within = b.within; stutter = s; limit = a.limit } in o) f
     ∙ ap (λ l. let o : Options = record { within = b.within; stutter = b.stutter; limit = l } in o) g
 
-job_are : (a b : Job) → a.module ≡ b.module → a.logs ≡ b.logs → a.config ≡ b.config → a.silent ≡ b.silent → a.options ≡ b.options → a.why ≡ b.why → a.near ≡ b.near → a.wide ≡ b.wide → a ≡ b
-job_are a b e f g h i k l m =
-    ap (λ m. let j : Job = record { «module» = m; logs = a.logs; config = a.config; silent = a.silent; options = a.options; why = a.why; near = a.near; wide = a.wide } in j) e
-    ∙ ap (λ l. let j : Job = record { «module» = b.module; logs = l; config = a.config; silent = a.silent; options = a.options; why = a.why; near = a.near; wide = a.wide } in j) f
-    ∙ ap (λ x. let j : Job = record { «module» = b.module; logs = b.logs; config = x; silent = a.silent; options = a.options; why = a.why; near = a.near; wide = a.wide } in j) g
-    ∙ ap (λ x. let j : Job = record { «module» = b.module; logs = b.logs; config = b.config; silent = x; options = a.options; why = a.why; near = a.near; wide = a.wide } in j) h
-    ∙ ap (λ o. let j : Job = record { «module» = b.module; logs = b.logs; config = b.config; silent = b.silent; options = o; why = a.why; near = a.near; wide = a.wide } in j) i
-    ∙ ap (λ w. let j : Job = record { «module» = b.module; logs = b.logs; config = b.config; silent = b.silent; options = b.options; why = w; near = a.near; wide = a.wide } in j) k
-    ∙ ap (λ n. let j : Job = record { «module» = b.module; logs = b.logs; config = b.config; silent = b.silent; options = b.options; why = b.why; near = n; wide = a.wide } in j) l
-    ∙ ap (λ w. let j : Job = record { «module» = b.module; logs = b.logs; config = b.config; silent = b.silent; options = b.options; why = b.why; near = b.near; wide = w } in j) m
+job_are : (a b : Job) → a.module ≡ b.module → a.logs ≡ b.logs → a.config ≡ b.config → a.silent ≡ b.silent → a.options ≡ b.options → a.why ≡ b.why → a.near ≡ b.near → a.wide ≡ b.wide → a.ties ≡ b.ties → a ≡ b
+job_are a b e f g h i k l m n =
+    ap (λ m. let j : Job = record { «module» = m; logs = a.logs; config = a.config; silent = a.silent; options = a.options; why = a.why; near = a.near; wide = a.wide; ties = a.ties } in j) e
+    ∙ ap (λ l. let j : Job = record { «module» = b.module; logs = l; config = a.config; silent = a.silent; options = a.options; why = a.why; near = a.near; wide = a.wide; ties = a.ties } in j) f
+    ∙ ap (λ x. let j : Job = record { «module» = b.module; logs = b.logs; config = x; silent = a.silent; options = a.options; why = a.why; near = a.near; wide = a.wide; ties = a.ties } in j) g
+    ∙ ap (λ x. let j : Job = record { «module» = b.module; logs = b.logs; config = b.config; silent = x; options = a.options; why = a.why; near = a.near; wide = a.wide; ties = a.ties } in j) h
+    ∙ ap (λ o. let j : Job = record { «module» = b.module; logs = b.logs; config = b.config; silent = b.silent; options = o; why = a.why; near = a.near; wide = a.wide; ties = a.ties } in j) i
+    ∙ ap (λ w. let j : Job = record { «module» = b.module; logs = b.logs; config = b.config; silent = b.silent; options = b.options; why = w; near = a.near; wide = a.wide; ties = a.ties } in j) k
+    ∙ ap (λ x. let j : Job = record { «module» = b.module; logs = b.logs; config = b.config; silent = b.silent; options = b.options; why = b.why; near = x; wide = a.wide; ties = a.ties } in j) l
+    ∙ ap (λ w. let j : Job = record { «module» = b.module; logs = b.logs; config = b.config; silent = b.silent; options = b.options; why = b.why; near = b.near; wide = w; ties = a.ties } in j) m
+    ∙ ap (λ t. let j : Job = record { «module» = b.module; logs = b.logs; config = b.config; silent = b.silent; options = b.options; why = b.why; near = b.near; wide = b.wide; ties = t } in j) n
 
 one_options : (g : Given) (a b : Options) → SetsOptions g a → SetsOptions g b → a ≡ b
 one_options g a b h i = options_are a b
@@ -74,6 +75,7 @@ one_job g a b h i =
     (one_option a.config b.config (sym h.config ∙ i.config)) (one_option a.silent b.silent (sym h.silent ∙ i.silent))
     (one_options g a.options b.options h.options i.options) (one_found (values_of Why g.options) 1 1000 a.why b.why h.why i.why)
     (one_found (values_of Near g.options) 1 1000 a.near b.near h.near i.near) (one_flag (times Wide g.flags) a.wide b.wide h.wide i.wide)
+    (one_flag (times Ties g.flags) a.ties b.ties h.ties.set i.ties.set)
 
 one_asked : (c : Command) (ws : List Text) (a b : Job) → Asks c ws a → Asks c ws b → a ≡ b
 one_asked c ws a b h i = one_job h.given a b h.job_is (job_as i.given h.given b (one_given c ws i.given h.given i.line h.line) i.job_is)
@@ -146,6 +148,17 @@ found_meets (t ∷ []) None h = tt
 found_meets (t ∷ []) (Some n) h = let e : n ≡ h.0 = let same = h.1 in cc in subst IsFew (sym e) (h.2.above, h.2.below)
 found_meets (t ∷ u ∷ ts) o h = absurd h
 
+none_found : (values : List Text) (o : Option ℕ) → values ≡ [] → IsNumberIn values 1 1000 o → o ≡ None
+none_found values o e h = subst (λ vs. IsNumberIn vs 1 1000 o) e h
+
+tells_nothing : (ws ns : List Text) (ties : Bool) (why near : Option ℕ) → IsNumberIn ws 1 1000 why → IsNumberIn ns 1 1000 near → StandsAlone ties ws ns → TellsNothing ties why near
+tells_nothing ws ns false why near h i a = tt
+tells_nothing ws ns true why near h i a = (none_found ws why a.0 h, none_found ns near a.1 i)
+
+-- beside these values `--ties` is no flag of a job
+pub not_alone : (g : Given) → IsSet (times Ties g.flags) true → (StandsAlone true (values_of Why g.options) (values_of Near g.options) → ⊥) → (b : Bool) → IsTied g b → ⊥
+not_alone g set none b i = none (subst (λ t. StandsAlone t (values_of Why g.options) (values_of Near g.options)) (one_flag (times Ties g.flags) b true i.set set) i.alone)
+
 job_meets : (c : Command) (ws : List Text) (g : Given) (j : Job) → Gives c ws g → IsJob g j → JobMeets j
 job_meets c ws g j l h =
     let a = line_is c ws g l in
@@ -160,6 +173,7 @@ job_meets c ws g j l h =
       options = options_meet g j.options h.options;
       why = found_meets (values_of Why g.options) j.why h.why;
       near = found_meets (values_of Near g.options) j.near h.near;
+      ties = tells_nothing (values_of Why g.options) (values_of Near g.options) j.ties j.why j.near h.why h.near h.ties.alone;
     }
 
 witness_meets : (c : Command) (ws : List Text) (g : Given) (w : Text) → Gives c ws g → values_of Witness g.options ≡ w ∷ [] → is_given w ≡ true

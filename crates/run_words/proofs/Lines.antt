@@ -7,7 +7,7 @@ use Rattle.clap.specs.Faults.{fault_of}
 use Rattle.run_words.specs.declared.command.Command.{Command}
 use Rattle.run_words.specs.declared.command.Command.TheVariants.{Validate, Check, SelfRun}
 use Rattle.run_words.specs.declared.command.Flag.{Flag}
-use Rattle.run_words.specs.declared.command.Flag.TheVariants.{Stutter, Wide}
+use Rattle.run_words.specs.declared.command.Flag.TheVariants.{Stutter, Ties, Wide}
 use Rattle.run_words.specs.declared.command.Setting.{Setting}
 use Rattle.run_words.specs.declared.command.Setting.TheVariants.{Config, Within, Silent, Limit, Witness, Why, Near}
 use Rattle.run_words.specs.Line.{Text, Part, apart, joined, flag, positional, Line, flag_name, name_of, has_flag, has_setting, written, written_part, written_parts, written_behind}
@@ -107,6 +107,9 @@ flag_leads c Stutter k h ws rows f g a =
     (a false _ (record { none = refl; skips = g.skips }) refl)
 flag_leads c Wide k h ws rows f g a =
     leads_on c (before k false h) _ (flag_name Wide) ws rows (flags_fault c k Wide h f g.none) (flags c k Wide h f)
+    (a false _ (record { none = refl; skips = g.skips }) refl)
+flag_leads c Ties k h ws rows f g a =
+    leads_on c (before k false h) _ (flag_name Ties) ws rows (flags_fault c k Ties h f g.none) (flags c k Ties h f)
     (a false _ (record { none = refl; skips = g.skips }) refl)
 
 part_leads : (c : Command) (p : Part) (k : Bool) (h : Held) (ws : List Text) (rows : List Row) → Fits c p → Good c h → After c ws (used_part p (rows_held c h)) rows

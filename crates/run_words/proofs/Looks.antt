@@ -11,7 +11,7 @@ use Rattle.clap.specs.Simple.{filled}
 use Rattle.run_words.specs.declared.command.Command.{Command}
 use Rattle.run_words.specs.declared.command.Command.TheVariants.{Validate, Check, SelfRun}
 use Rattle.run_words.specs.declared.command.Flag.{Flag}
-use Rattle.run_words.specs.declared.command.Flag.TheVariants.{Stutter, Wide}
+use Rattle.run_words.specs.declared.command.Flag.TheVariants.{Stutter, Ties, Wide}
 use Rattle.run_words.specs.declared.command.Setting.{Setting}
 use Rattle.run_words.specs.declared.command.Setting.TheVariants.{Config, Within, Silent, Limit, Witness, Why, Near}
 use Rattle.run_words.specs.Line.{Text, has_flag, has_setting}
@@ -122,36 +122,38 @@ other_rule a rs n e = ap (λ b. if not (is_some a.index) && b then Some a else a
 or_nothing : (b : Bool) → b ≡ false → (b || false) ≡ false
 or_nothing b e = ap (λ b. b || false) e
 
--- the arguments of `validate` and `check`, which differ behind `--wide`
+-- the arguments of `validate` and `check`, which differ behind `--ties`
 abbrev behind_silent : Setting → List Rule → List Rule
-behind_silent last others = filled (flag_rule Stutter) ∷ filled (flag_rule Wide) ∷ filled (setting_rule last) ∷ others
+behind_silent last others = filled (flag_rule Stutter) ∷ filled (flag_rule Wide) ∷ filled (flag_rule Ties) ∷ filled (setting_rule last) ∷ others
 
 abbrev behind_config : Setting → List Rule → List Rule
 behind_config last others = filled (setting_rule Within) ∷ filled (setting_rule Silent) ∷ behind_silent last others
 
 other_name : (last : Setting) (others : List Rule) (n : Text) → bytes_eq (codes "config") n ≡ false → bytes_eq (codes "within") n ≡ false → bytes_eq (codes "silent") n ≡ false
-    → bytes_eq (codes "stutter") n ≡ false → bytes_eq (codes "wide") n ≡ false → bytes_eq (id_of last) n ≡ false
+    → bytes_eq (codes "stutter") n ≡ false → bytes_eq (codes "wide") n ≡ false → bytes_eq (codes "ties") n ≡ false → bytes_eq (id_of last) n ≡ false
     → arg_by_long (filled (setting_rule Config) ∷ behind_config last others) n ≡ arg_by_long others n
-other_name last others n p q r s u t =
+other_name last others n p q r s u v t =
     other_rule (filled (setting_rule Config)) (behind_config last others) n (or_nothing _ p)
     ∙ other_rule (filled (setting_rule Within)) (filled (setting_rule Silent) ∷ behind_silent last others) n (or_nothing _ q)
     ∙ other_rule (filled (setting_rule Silent)) (behind_silent last others) n (or_nothing _ r)
-    ∙ other_rule (filled (flag_rule Stutter)) (filled (flag_rule Wide) ∷ filled (setting_rule last) ∷ others) n (or_nothing _ s)
-    ∙ other_rule (filled (flag_rule Wide)) (filled (setting_rule last) ∷ others) n (or_nothing _ u)
+    ∙ other_rule (filled (flag_rule Stutter)) (filled (flag_rule Wide) ∷ filled (flag_rule Ties) ∷ filled (setting_rule last) ∷ others) n (or_nothing _ s)
+    ∙ other_rule (filled (flag_rule Wide)) (filled (flag_rule Ties) ∷ filled (setting_rule last) ∷ others) n (or_nothing _ u)
+    ∙ other_rule (filled (flag_rule Ties)) (filled (setting_rule last) ∷ others) n (or_nothing _ v)
     ∙ other_rule (filled (setting_rule last)) others n (or_nothing _ t)
 
 name_means : (c : Command) (last : Setting) (others : List Rule) (n : Text) → ((f : Flag) → has_flag c f ≡ true) → has_setting c Config ≡ true → has_setting c Within ≡ true → has_setting c Silent ≡ true → has_setting c last ≡ true
     → rules_for c ≡ filled (setting_rule Config) ∷ behind_config last others → (arg_by_long (rules_for c) n ≡ arg_by_long others n → Means c n)
-    → (a b d e g f : Bool) → bytes_eq (codes "config") n ≡ a → bytes_eq (codes "within") n ≡ b → bytes_eq (codes "silent") n ≡ d → bytes_eq (codes "stutter") n ≡ e
-    → bytes_eq (codes "wide") n ≡ g → bytes_eq (id_of last) n ≡ f
+    → (a b d e g x f : Bool) → bytes_eq (codes "config") n ≡ a → bytes_eq (codes "within") n ≡ b → bytes_eq (codes "silent") n ≡ d → bytes_eq (codes "stutter") n ≡ e
+    → bytes_eq (codes "wide") n ≡ g → bytes_eq (codes "ties") n ≡ x → bytes_eq (id_of last) n ≡ f
     → Means c n
-name_means c last others n h i j k l m o true b d e g f p q r s u t = setting Config i (sym (same_bytes _ _ p))
-name_means c last others n h i j k l m o false true d e g f p q r s u t = setting Within j (sym (same_bytes _ _ q))
-name_means c last others n h i j k l m o false false true e g f p q r s u t = setting Silent k (sym (same_bytes _ _ r))
-name_means c last others n h i j k l m o false false false true g f p q r s u t = switch Stutter (h Stutter) (sym (same_bytes _ _ s))
-name_means c last others n h i j k l m o false false false false true f p q r s u t = switch Wide (h Wide) (sym (same_bytes _ _ u))
-name_means c last others n h i j k l m o false false false false false true p q r s u t = setting last l (sym (same_bytes _ _ t))
-name_means c last others n h i j k l m o false false false false false false p q r s u t = o (ap (λ rs. arg_by_long rs n) m ∙ other_name last others n p q r s u t)
+name_means c last others n h i j k l m o true b d e g x f p q r s u v t = setting Config i (sym (same_bytes _ _ p))
+name_means c last others n h i j k l m o false true d e g x f p q r s u v t = setting Within j (sym (same_bytes _ _ q))
+name_means c last others n h i j k l m o false false true e g x f p q r s u v t = setting Silent k (sym (same_bytes _ _ r))
+name_means c last others n h i j k l m o false false false true g x f p q r s u v t = switch Stutter (h Stutter) (sym (same_bytes _ _ s))
+name_means c last others n h i j k l m o false false false false true x f p q r s u v t = switch Wide (h Wide) (sym (same_bytes _ _ u))
+name_means c last others n h i j k l m o false false false false false true f p q r s u v t = switch Ties (h Ties) (sym (same_bytes _ _ v))
+name_means c last others n h i j k l m o false false false false false false true p q r s u v t = setting last l (sym (same_bytes _ _ t))
+name_means c last others n h i j k l m o false false false false false false false p q r s u v t = o (ap (λ rs. arg_by_long rs n) m ∙ other_name last others n p q r s u v t)
 
 -- the arguments of `validate` behind those
 abbrev behind_limit : List Rule
@@ -168,6 +170,6 @@ more_means n false false p q e =
 
 pub means : (c : Command) (n : Text) → Means c n
 means Validate n =
-    name_means Validate Limit behind_limit n (λ f. refl) refl refl refl refl refl (more_means n _ _ refl refl) _ _ _ _ _ _ refl refl refl refl refl refl
-means Check n = name_means Check Witness (word_rule ∷ []) n (λ f. refl) refl refl refl refl refl (λ e. unknown e) _ _ _ _ _ _ refl refl refl refl refl refl
+    name_means Validate Limit behind_limit n (λ f. refl) refl refl refl refl refl (more_means n _ _ refl refl) _ _ _ _ _ _ _ refl refl refl refl refl refl refl
+means Check n = name_means Check Witness (word_rule ∷ []) n (λ f. refl) refl refl refl refl refl (λ e. unknown e) _ _ _ _ _ _ _ refl refl refl refl refl refl refl
 means SelfRun n = unknown refl

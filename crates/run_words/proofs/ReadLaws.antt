@@ -1,19 +1,19 @@
 -- What a line gives decides what a command asks.
-use Rattle.std.proofs.Common.{◌≡◌, ◌∙◌, sym, ap, subst, refl, ℕ, ◌+◌, ◌-◌, ◌<◌, ◌≤◌, List, [], ◌∷◌, length, get_or, take, drop, drop-cons, add-one, suc, length-drop, Option, Some, None, option_map, MatchOption, IfOk, Result, Ok, Err, String, Global, arith}
-use Rattle.std.specs.Prelude.{codes, string_bytes}
+use Rattle.std.proofs.Common.{◌≡◌, ◌↔◌, Bool, true, false, ◌∙◌, sym, ap, subst, refl, ℕ, ◌+◌, ◌-◌, ◌<◌, ◌≤◌, List, [], ◌∷◌, length, get_or, take, drop, drop-cons, add-one, suc, length-drop, Option, Some, None, option_map, MatchOption, IfOk, Result, Ok, Err, String, Global, arith}
+use Rattle.std.specs.Prelude.{IsTrue, codes, string_bytes}
 use Rattle.std.specs.Borrow.{Bor}
 use Rattle.std.specs.declared.alloc.AllocError.{AllocError}
 use Rattle.std.proofs.lemmas.List.{take_rest}
 use Rattle.run_words.specs.declared.command.Command.{Command}
 use Rattle.run_words.specs.declared.command.Command.TheVariants as command
-use Rattle.run_words.specs.declared.command.Flag.TheVariants.{Stutter, Wide}
+use Rattle.run_words.specs.declared.command.Flag.TheVariants.{Stutter, Ties, Wide}
 use Rattle.run_words.specs.declared.command.Setting.TheVariants.{Config, Within, Silent, Limit, Witness, Why, Near}
 use Rattle.run_words.specs.declared.job.Job.{Job}
 use Rattle.run_words.specs.declared.job.Options.{Options}
 use Rattle.run_words.specs.declared.job.Words.{Words}
 use Rattle.run_words.specs.declared.job.Words.TheVariants.{Validate, Check, SelfRun}
 use Rattle.run_words.specs.Line.{Text, Given, Gives, words_of}
-use Rattle.run_words.specs.Job.{AreFiles, IsJob, IsNumberIn, IsNumberOr, SetsOptions}
+use Rattle.run_words.specs.Job.{AreFiles, IsJob, IsNumberIn, IsNumberOr, IsSet, IsTied, SetsOptions, StandsAlone, times, values_of}
 use Rattle.run_words.specs.Parsers.{Agree, Holds, texts_of}
 use Rattle.run_words.specs.Values.{IsValue, NumberFrom, NumberIn}
 use Rattle.run_words.specs.Words.{AreWords, Asks, AsksCheck, AsksNumber, IsOnlyNumber, IsWitnessed}
@@ -34,6 +34,12 @@ options_as g h o a s = record {
   stutter = sym (a.flags Stutter) ∙ s.stutter;
 }
 
+tied_as : (g h : Given) (ties : Bool) → Agree g h → IsTied g ties → IsTied h ties
+tied_as g h ties a i = record {
+  set = sym (a.flags Ties) ∙ i.set;
+  alone = subst (λ ns. StandsAlone ties (values_of Why h.options) ns) (a.settings Near) (subst (λ ws. StandsAlone ties ws (values_of Near g.options)) (a.settings Why) i.alone);
+}
+
 pub job_as : (g h : Given) (j : Job) → Agree g h → IsJob g j → IsJob h j
 job_as g h j a i = record {
   files = subst (λ (ws : List Text). AreFiles ws j.module j.logs) a.positional i.files;
@@ -44,6 +50,7 @@ job_as g h j a i = record {
   why = subst (λ vs. IsNumberIn vs 1 1000 j.why) (a.settings Why) i.why;
   near = subst (λ vs. IsNumberIn vs 1 1000 j.near) (a.settings Near) i.near;
   wide = sym (a.flags Wide) ∙ i.wide;
+  ties = tied_as g h j.ties a i.ties;
 }
 
 pub witnessed_as : (g h : Given) (j : Job) (w : Text) → Agree g h → IsWitnessed g j w → IsWitnessed h j w
@@ -72,6 +79,26 @@ pub many_numbers : (least most : ℕ) (values : List Text) → 2 ≤ length valu
 many_numbers least most [] l o h = omega arith
 many_numbers least most (t ∷ []) l o h = omega arith
 many_numbers least most (t ∷ u ∷ ts) l o h = h
+
+-- ---- whether an option stands
+
+pub one_stands : (values : List Text) (t : Bor Text) → IsValue values (Some t) → IsTrue true ↔ (values ≡ [] → ⊥)
+one_stands values t h = ((λ _ e. let one : t.now ∷ [] ≡ [] = sym h ∙ e in cc), λ _. refl)
+
+pub none_stands : (values : List Text) → IsValue values None → IsTrue false ↔ (values ≡ [] → ⊥)
+none_stands values h = ((λ e. cc), λ some. absurd (some h))
+
+pub many_stand : (values : List Text) → 2 ≤ length values → IsTrue true ↔ (values ≡ [] → ⊥)
+many_stand values l = ((λ _ e. let none : length values ≡ 0 = ap length e in omega arith), λ _. refl)
+
+none_there : (values : List Text) (b : Bool) → IsTrue b ↔ (values ≡ [] → ⊥) → b ≡ false → values ≡ []
+none_there [] b h e = refl
+none_there (v ∷ vs) b h e = let yes : b ≡ true = h.1 (λ n. cc) in cc
+
+pub tied_alone : (g : Given) (whys nears : Bool) → IsSet (times Ties g.flags) true → IsTrue whys ↔ (values_of Why g.options ≡ [] → ⊥) → whys ≡ false
+    → IsTrue nears ↔ (values_of Near g.options ≡ [] → ⊥) → nears ≡ false → IsTied g true
+tied_alone g whys nears set h off i none =
+    record { set = set; alone = (none_there (values_of Why g.options) whys h off, none_there (values_of Near g.options) nears i none) }
 
 -- ---- the number of `selfrun`
 

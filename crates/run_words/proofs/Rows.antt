@@ -13,7 +13,7 @@ use Rattle.clap.specs.declared.builder.value_parser.Reading.{Reading}
 use Rattle.clap.specs.declared.parser.matches.ValueSource.TheVariants.{CommandLine}
 use Rattle.clap.specs.Simple.{filled}
 use Rattle.run_words.specs.declared.command.Flag.{Flag}
-use Rattle.run_words.specs.declared.command.Flag.TheVariants.{Stutter, Wide}
+use Rattle.run_words.specs.declared.command.Flag.TheVariants.{Stutter, Ties, Wide}
 use Rattle.run_words.specs.declared.command.Setting.{Setting}
 use Rattle.run_words.specs.declared.command.Setting.TheVariants.{Config, Within, Silent, Limit, Witness, Why, Near}
 use Rattle.run_words.specs.Job.{is_flag, is_same, times, values_of}
@@ -142,22 +142,30 @@ option_used s t v rows = by_same (is_same s t) refl
 apart_names : (s : Setting) (f : Flag) → (bytes_eq (flag_id f) (id_of s) ≡ false) × (bytes_eq (id_of s) (flag_id f) ≡ false)
 apart_names Config Stutter = (refl, refl)
 apart_names Config Wide = (refl, refl)
+apart_names Config Ties = (refl, refl)
 apart_names Within Stutter = (refl, refl)
 apart_names Within Wide = (refl, refl)
+apart_names Within Ties = (refl, refl)
 apart_names Silent Stutter = (refl, refl)
 apart_names Silent Wide = (refl, refl)
+apart_names Silent Ties = (refl, refl)
 apart_names Limit Stutter = (refl, refl)
 apart_names Limit Wide = (refl, refl)
+apart_names Limit Ties = (refl, refl)
 apart_names Witness Stutter = (refl, refl)
 apart_names Witness Wide = (refl, refl)
+apart_names Witness Ties = (refl, refl)
 apart_names Why Stutter = (refl, refl)
 apart_names Why Wide = (refl, refl)
+apart_names Why Ties = (refl, refl)
 apart_names Near Stutter = (refl, refl)
 apart_names Near Wide = (refl, refl)
+apart_names Near Ties = (refl, refl)
 
 flag_used : (s : Setting) (f : Flag) (rows : List Row) → vals (id_of s) (used (filled (flag_rule f)) [] rows) ≡ vals (id_of s) rows
 flag_used s Stutter rows = vals_other (id_of s) (codes "stutter") _ _ rows (apart_names s Stutter).0
 flag_used s Wide rows = vals_other (id_of s) (codes "wide") _ _ rows (apart_names s Wide).0
+flag_used s Ties rows = vals_other (id_of s) (codes "ties") _ _ rows (apart_names s Ties).0
 
 word_used : (s : Setting) (w : Text) (rows : List Row) → vals (id_of s) (used word_rule (w ∷ []) rows) ≡ vals (id_of s) rows
 word_used Config w rows = vals_other (codes "config") (codes "words") _ _ rows refl
@@ -233,6 +241,7 @@ parts_values s (p ∷ ps) b rows =
 no_flag_word : (f : Flag) (rows : List Row) → vals (codes "words") (used (filled (flag_rule f)) [] rows) ≡ vals (codes "words") rows
 no_flag_word Stutter rows = vals_other (codes "words") (codes "stutter") _ _ rows refl
 no_flag_word Wide rows = vals_other (codes "words") (codes "wide") _ _ rows refl
+no_flag_word Ties rows = vals_other (codes "words") (codes "ties") _ _ rows refl
 
 part_words : (p : Part) (g : Given) (rows : List Row) → vals (codes "words") (used_part p rows) ++ g.positional ≡ vals (codes "words") rows ++ (with_part p g).positional
 part_words (apart s v) g rows = ap (λ vs. vs ++ g.positional) (no_word_used s v rows)
@@ -262,17 +271,24 @@ raised : (f : Flag) (rows : List Row) → flags f (used (filled (flag_rule f)) [
 unfolding flags
 raised Stutter rows = ap length (vals_same (codes "stutter") _ (codes "" ∷ []) rows refl) ∙ length-append (vals (codes "stutter") rows) (codes "" ∷ [])
 raised Wide rows = ap length (vals_same (codes "wide") _ (codes "" ∷ []) rows refl) ∙ length-append (vals (codes "wide") rows) (codes "" ∷ [])
+raised Ties rows = ap length (vals_same (codes "ties") _ (codes "" ∷ []) rows refl) ∙ length-append (vals (codes "ties") rows) (codes "" ∷ [])
 
 one_more : (f g : Flag) (rows : List Row) (fs : List Flag) → flags f (used (filled (flag_rule g)) [] rows) + times f fs ≡ flags f rows + times f (g ∷ fs)
 unfolding flags
 one_more Stutter Stutter rows fs = let one = raised Stutter rows in omega arith
-one_more Wide Wide rows fs = let one = raised Wide rows in omega arith
 one_more Stutter Wide rows fs = ap (λ vs. length vs + times Stutter fs) (vals_other (codes "stutter") (codes "wide") _ _ rows refl)
+one_more Stutter Ties rows fs = ap (λ vs. length vs + times Stutter fs) (vals_other (codes "stutter") (codes "ties") _ _ rows refl)
 one_more Wide Stutter rows fs = ap (λ vs. length vs + times Wide fs) (vals_other (codes "wide") (codes "stutter") _ _ rows refl)
+one_more Wide Wide rows fs = let one = raised Wide rows in omega arith
+one_more Wide Ties rows fs = ap (λ vs. length vs + times Wide fs) (vals_other (codes "wide") (codes "ties") _ _ rows refl)
+one_more Ties Stutter rows fs = ap (λ vs. length vs + times Ties fs) (vals_other (codes "ties") (codes "stutter") _ _ rows refl)
+one_more Ties Wide rows fs = ap (λ vs. length vs + times Ties fs) (vals_other (codes "ties") (codes "wide") _ _ rows refl)
+one_more Ties Ties rows fs = let one = raised Ties rows in omega arith
 
 word_is_none : (f : Flag) (w : Text) (rows : List Row) → vals (flag_id f) (used word_rule (w ∷ []) rows) ≡ vals (flag_id f) rows
 word_is_none Stutter w rows = vals_other (codes "stutter") (codes "words") _ _ rows refl
 word_is_none Wide w rows = vals_other (codes "wide") (codes "words") _ _ rows refl
+word_is_none Ties w rows = vals_other (codes "ties") (codes "words") _ _ rows refl
 
 part_flags : (f : Flag) (p : Part) (g : Given) (rows : List Row) → flags f (used_part p rows) + times f g.flags ≡ flags f rows + times f (with_part p g).flags
 unfolding flags
@@ -366,14 +382,25 @@ times_own f g (v ∷ vs) = by_same (is_flag f g) (times_own f g vs)
 -- how often a flag stands is how many values the matches hold for it
 pub times_in : (rows : List Row) (f : Flag) → times f (given_in rows).flags ≡ length (vals (flag_id f) rows)
 times_in rows Stutter =
-    let both = times_append Stutter (flags_in rows Stutter) (flags_in rows Wide) in
-    let one = times_own Stutter Stutter (vals (flag_id Stutter) rows) in
-    let none = times_own Stutter Wide (vals (flag_id Wide) rows) in
+    let all = times_append Stutter (flags_in rows Stutter) (flags_in rows Wide ++ flags_in rows Ties) in
+    let two = times_append Stutter (flags_in rows Wide) (flags_in rows Ties) in
+    let stutter = times_own Stutter Stutter (vals (flag_id Stutter) rows) in
+    let wide = times_own Stutter Wide (vals (flag_id Wide) rows) in
+    let ties = times_own Stutter Ties (vals (flag_id Ties) rows) in
     omega arith
 times_in rows Wide =
-    let both = times_append Wide (flags_in rows Stutter) (flags_in rows Wide) in
-    let none = times_own Wide Stutter (vals (flag_id Stutter) rows) in
-    let one = times_own Wide Wide (vals (flag_id Wide) rows) in
+    let all = times_append Wide (flags_in rows Stutter) (flags_in rows Wide ++ flags_in rows Ties) in
+    let two = times_append Wide (flags_in rows Wide) (flags_in rows Ties) in
+    let stutter = times_own Wide Stutter (vals (flag_id Stutter) rows) in
+    let wide = times_own Wide Wide (vals (flag_id Wide) rows) in
+    let ties = times_own Wide Ties (vals (flag_id Ties) rows) in
+    omega arith
+times_in rows Ties =
+    let all = times_append Ties (flags_in rows Stutter) (flags_in rows Wide ++ flags_in rows Ties) in
+    let two = times_append Ties (flags_in rows Wide) (flags_in rows Ties) in
+    let stutter = times_own Ties Stutter (vals (flag_id Stutter) rows) in
+    let wide = times_own Ties Wide (vals (flag_id Wide) rows) in
+    let ties = times_own Ties Ties (vals (flag_id Ties) rows) in
     omega arith
 
 pub line_agrees : (l : Line) → Agree (given_of l) (given_in (used_line l))

@@ -12,7 +12,7 @@ use Rattle.clap.specs.declared.error.kind.ErrorKind.TheVariants.{InvalidValue, T
 use Rattle.run_words.specs.declared.command.Command.{Command}
 use Rattle.run_words.specs.declared.command.Command.TheVariants.{Validate, Check, SelfRun}
 use Rattle.run_words.specs.declared.command.Flag.{Flag}
-use Rattle.run_words.specs.declared.command.Flag.TheVariants.{Stutter, Wide}
+use Rattle.run_words.specs.declared.command.Flag.TheVariants.{Stutter, Ties, Wide}
 use Rattle.run_words.specs.declared.command.Setting.{Setting}
 use Rattle.run_words.specs.declared.command.Setting.TheVariants.{Config, Within, Silent, Limit, Witness, Why, Near}
 use Rattle.run_words.specs.Line.{Text, Part, apart, joined, flag, positional, Line, flag_name, name_of, has_flag, has_setting, written, written_part, written_parts, written_behind}
@@ -157,16 +157,21 @@ dashed_joined s v = ap (λ (n : Text). n ++ 61 ∷ v) (dashed s)
 flag_dashed : (f : Flag) → 45 ∷ 45 ∷ flag_id f ≡ flag_name f
 flag_dashed Stutter = refl
 flag_dashed Wide = refl
+flag_dashed Ties = refl
 
 flag_valued : (c : Command) (k : Bool) (f : Flag) (v : Text) (h : Held) → has_flag c f ≡ true → turn c (before k false h) (flag_name f ++ 61 ∷ v) ≡ TooManyValues ∷ []
 flag_valued Validate false Stutter v h i = refl
 flag_valued Validate false Wide v h i = refl
+flag_valued Validate false Ties v h i = refl
 flag_valued Validate true Stutter v h i = refl
 flag_valued Validate true Wide v h i = refl
+flag_valued Validate true Ties v h i = refl
 flag_valued Check false Stutter v h i = refl
 flag_valued Check false Wide v h i = refl
+flag_valued Check false Ties v h i = refl
 flag_valued Check true Stutter v h i = refl
 flag_valued Check true Wide v h i = refl
+flag_valued Check true Ties v h i = refl
 flag_valued SelfRun k f v h i = cc
 
 module _ (c : Command) (ws : List Text) (k : Bool) (h : Held) (g : Good c h) (rest : Rest c ws) where

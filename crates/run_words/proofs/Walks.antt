@@ -13,7 +13,7 @@ use Rattle.run_words.proofs.Faults.{ends_fault, turn}
 use Rattle.run_words.specs.declared.command.Command.{Command}
 use Rattle.run_words.specs.declared.command.Command.TheVariants.{Validate, Check, SelfRun}
 use Rattle.run_words.specs.declared.command.Flag.{Flag}
-use Rattle.run_words.specs.declared.command.Flag.TheVariants.{Stutter, Wide}
+use Rattle.run_words.specs.declared.command.Flag.TheVariants.{Stutter, Ties, Wide}
 use Rattle.run_words.specs.declared.command.Setting.{Setting}
 use Rattle.run_words.specs.declared.command.Setting.TheVariants.{Config, Within, Silent, Limit, Witness, Why, Near}
 use Rattle.run_words.specs.Line.{Text, flag_name, name_of, has_flag, has_setting, begins_with_dash}
@@ -75,12 +75,16 @@ pub flags : (c : Command) (b : Bool) (f : Flag) (h : Held) → has_flag c f ≡ 
 unfolding walked
 flags Validate false Stutter h e = refl
 flags Validate false Wide h e = refl
+flags Validate false Ties h e = refl
 flags Validate true Stutter h e = refl
 flags Validate true Wide h e = refl
+flags Validate true Ties h e = refl
 flags Check false Stutter h e = refl
 flags Check false Wide h e = refl
+flags Check false Ties h e = refl
 flags Check true Stutter h e = refl
 flags Check true Wide h e = refl
+flags Check true Ties h e = refl
 flags SelfRun b f h e = cc
 
 -- what is held while a value is awaited, and behind it
@@ -289,12 +293,16 @@ names_fault SelfRun b s h e g = cc
 pub flags_fault : (c : Command) (b : Bool) (f : Flag) (h : Held) → has_flag c f ≡ true → ends_fault c h ≡ [] → turn c (before b false h) (flag_name f) ≡ []
 flags_fault Validate false Stutter h e g = ap (λ x. or_else (or_else x []) []) g
 flags_fault Validate false Wide h e g = ap (λ x. or_else (or_else x []) []) g
+flags_fault Validate false Ties h e g = ap (λ x. or_else (or_else x []) []) g
 flags_fault Validate true Stutter h e g = ap (λ x. or_else (or_else x []) []) g
 flags_fault Validate true Wide h e g = ap (λ x. or_else (or_else x []) []) g
+flags_fault Validate true Ties h e g = ap (λ x. or_else (or_else x []) []) g
 flags_fault Check false Stutter h e g = ap (λ x. or_else (or_else x []) []) g
 flags_fault Check false Wide h e g = ap (λ x. or_else (or_else x []) []) g
+flags_fault Check false Ties h e g = ap (λ x. or_else (or_else x []) []) g
 flags_fault Check true Stutter h e g = ap (λ x. or_else (or_else x []) []) g
 flags_fault Check true Wide h e g = ap (λ x. or_else (or_else x []) []) g
+flags_fault Check true Ties h e g = ap (λ x. or_else (or_else x []) []) g
 flags_fault SelfRun b f h e g = cc
 
 pub marks_fault : (c : Command) (b : Bool) (h : Held) → turn c (before b false h) (codes "--") ≡ []

@@ -6,7 +6,7 @@ use Rattle.tla_tokens.specs.Shapes.{is_digit}
 use Rattle.run_words.specs.Line.{Text, Given}
 use Rattle.run_words.specs.Names.{IsName, IsModule}
 use Rattle.run_words.specs.declared.command.Flag.{Flag}
-use Rattle.run_words.specs.declared.command.Flag.TheVariants.{Stutter, Wide}
+use Rattle.run_words.specs.declared.command.Flag.TheVariants.{Stutter, Ties, Wide}
 use Rattle.run_words.specs.declared.command.Setting.{Setting}
 use Rattle.run_words.specs.declared.command.Setting.TheVariants.{Config, Within, Silent, Limit, Witness, Why, Near}
 use Rattle.run_words.specs.declared.job.Job.{Job}
@@ -30,6 +30,7 @@ values_of setting (o ∷ os) = if is_same setting o.0 then o.1 ∷ values_of set
 abbrev pub is_flag : Flag → Flag → Bool
 is_flag Stutter Stutter = true
 is_flag Wide Wide = true
+is_flag Ties Ties = true
 is_flag a b = false
 
 -- how often a flag stands
@@ -76,6 +77,16 @@ pub record AreFiles (words : List Text) (path : Text) (logs : List Text) : Type 
   pub some : 1 ≤ length logs
   pub few : length logs ≤ 64
 
+-- where the flag stands, neither of these does
+abbrev pub StandsAlone : Bool → List Text → List Text → Type 0
+StandsAlone false whys nears = Unit {0}
+StandsAlone true whys nears = (whys ≡ []) × (nears ≡ [])
+
+-- The flag `--ties` stands or not, and it does not stand beside `--why` or `--near`: what these tell is of logs in one order.
+pub record IsTied (given : Given) (ties : Bool) : Type 0 where
+  pub set : IsSet (times Ties given.flags) ties
+  pub alone : StandsAlone ties (values_of Why given.options) (values_of Near given.options)
+
 -- the job that a line gives
 pub record IsJob (given : Given) (job : Job) : Type 0 where
   pub files : AreFiles given.positional job.module job.logs
@@ -86,3 +97,4 @@ pub record IsJob (given : Given) (job : Job) : Type 0 where
   pub why : IsNumberIn (values_of Why given.options) 1 1000 job.why
   pub near : IsNumberIn (values_of Near given.options) 1 1000 job.near
   pub wide : IsSet (times Wide given.flags) job.wide
+  pub ties : IsTied given job.ties

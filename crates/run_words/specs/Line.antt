@@ -7,7 +7,7 @@ use Rattle.std.specs.declared.alloc.Global.{Global}
 use Rattle.run_words.specs.declared.command.Command.{Command}
 use Rattle.run_words.specs.declared.command.Command.TheVariants.{Validate, Check, SelfRun}
 use Rattle.run_words.specs.declared.command.Flag.{Flag}
-use Rattle.run_words.specs.declared.command.Flag.TheVariants.{Stutter, Wide}
+use Rattle.run_words.specs.declared.command.Flag.TheVariants.{Stutter, Ties, Wide}
 use Rattle.run_words.specs.declared.command.Setting.{Setting}
 use Rattle.run_words.specs.declared.command.Setting.TheVariants.{Config, Within, Silent, Limit, Witness, Why, Near}
 
@@ -31,6 +31,7 @@ name_of Near = codes "--near"
 abbrev pub flag_name : Flag → Text
 flag_name Stutter = codes "--stutter"
 flag_name Wide = codes "--wide"
+flag_name Ties = codes "--ties"
 
 -- the command has this option
 abbrev pub has_setting : Command → Setting → Bool

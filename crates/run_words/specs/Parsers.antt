@@ -10,7 +10,7 @@ use Rattle.clap.specs.declared.builder.action.ArgAction.TheVariants.{Append}
 use Rattle.run_words.specs.declared.command.Command.{Command}
 use Rattle.run_words.specs.declared.command.Command.TheVariants.{Validate, Check, SelfRun}
 use Rattle.run_words.specs.declared.command.Flag.{Flag}
-use Rattle.run_words.specs.declared.command.Flag.TheVariants.{Stutter, Wide}
+use Rattle.run_words.specs.declared.command.Flag.TheVariants.{Stutter, Ties, Wide}
 use Rattle.run_words.specs.declared.command.Setting.{Setting}
 use Rattle.run_words.specs.declared.command.Setting.TheVariants.{Config, Within, Silent, Limit, Witness, Why, Near}
 use Rattle.run_words.specs.Job.{times, values_of}
@@ -28,6 +28,7 @@ id_of Near = codes "near"
 abbrev pub flag_id : Flag → Text
 flag_id Stutter = codes "stutter"
 flag_id Wide = codes "wide"
+flag_id Ties = codes "ties"
 
 abbrev pub setting_rule : Setting → Rule
 setting_rule s = record (new_rule (id_of s)) { long = Some (id_of s); action = Some Append }
@@ -49,7 +50,7 @@ bare_app name = on_top (λ s. record s { no_binary_name = true; disable_help_fla
 -- the options of a command that takes a module and logs, with one option more
 abbrev pub files_app : Text → Setting → App
 files_app name last =
-    with_rule (with_rule (with_rule (with_rule (with_rule (with_rule (bare_app name) (setting_rule Config)) (setting_rule Within)) (setting_rule Silent)) (flag_rule Stutter)) (flag_rule Wide))
+    with_rule (with_rule (with_rule (with_rule (with_rule (with_rule (with_rule (bare_app name) (setting_rule Config)) (setting_rule Within)) (setting_rule Silent)) (flag_rule Stutter)) (flag_rule Wide)) (flag_rule Ties))
     (setting_rule last)
 
 abbrev pub app_for : Command → App
@@ -77,7 +78,7 @@ flags_in rows f = map (λ _. f) (vals (flag_id f) rows)
 abbrev pub given_in : List Row → Given
 given_in rows = record {
   options = options_in rows Config ++ (options_in rows Within ++ (options_in rows Silent ++ (options_in rows Limit ++ (options_in rows Witness ++ (options_in rows Why ++ options_in rows Near)))));
-  flags = flags_in rows Stutter ++ flags_in rows Wide;
+  flags = flags_in rows Stutter ++ (flags_in rows Wide ++ flags_in rows Ties);
   positional = vals (codes "words") rows;
 }
 

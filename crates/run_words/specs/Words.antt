@@ -1,5 +1,5 @@
 -- The words of the program, without its own name, and the command that they give.
-use Rattle.std.specs.Prelude.{◌≡◌, ℕ, ◌≤◌, List, [], ◌∷◌, true, length, Option, Some, None, IfSome, Result, Ok, Err, codes}
+use Rattle.std.specs.Prelude.{◌≡◌, ℕ, ◌≤◌, Bool, List, [], ◌∷◌, true, false, length, Option, Some, None, IfSome, Result, Ok, Err, codes}
 use Rattle.std.specs.declared.alloc.AllocError.{AllocError}
 use Rattle.std.specs.List.{list_all}
 use Rattle.run_words.specs.Line.{Text, Given, Gives, is_given}
@@ -69,6 +69,11 @@ pub record OptionsMeet (options : Options) : Type 0 where
 abbrev pub IsFew : ℕ → Type 0
 IsFew most = (1 ≤ most) × (most ≤ 1000)
 
+-- nothing is told behind the report where lines may stand in several orders
+abbrev pub TellsNothing : Bool → Option ℕ → Option ℕ → Type 0
+TellsNothing false why near = Unit {0}
+TellsNothing true why near = (why ≡ None) × (near ≡ None)
+
 -- the names, numbers and counts of a job are such as the words may give
 pub record JobMeets (job : Job) : Type 0 where
   pub module_path : IsModule job.module
@@ -80,6 +85,7 @@ pub record JobMeets (job : Job) : Type 0 where
   pub options : OptionsMeet job.options
   pub why : IfSome job.why IsFew
   pub near : IfSome job.near IsFew
+  pub ties : TellsNothing job.ties job.why job.near
 
 abbrev pub MeetsRules : Words → Type 0
 MeetsRules (Validate job) = JobMeets job

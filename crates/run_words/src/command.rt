@@ -28,6 +28,7 @@ pub enum Setting {
 pub enum Flag {
     Stutter,
     Wide,
+    Ties,
 }
 
 impl Flag {
@@ -38,6 +39,7 @@ impl Flag {
         match self {
             Flag::Stutter => "stutter",
             Flag::Wide => "wide",
+            Flag::Ties => "ties",
         }
     }
 }

@@ -29,6 +29,8 @@ pub struct Job {
     pub near: Option<u32>,
     /// Whether what no step of the log needs may be passed over in the files that are read.
     pub wide: bool,
+    /// Whether lines of several logs may stand in each order that their clocks leave open.
+    pub ties: bool,
 }
 
 /// A command with what it needs.

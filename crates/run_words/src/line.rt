@@ -76,6 +76,7 @@ fn with_files<'a>(
     let parser = with_setting(alloc, parser, Setting::Silent)?;
     let parser = with_flag(alloc, parser, Flag::Stutter)?;
     let parser = with_flag(alloc, parser, Flag::Wide)?;
+    let parser = with_flag(alloc, parser, Flag::Ties)?;
     with_setting(alloc, parser, last)
 }
 

@@ -1,7 +1,7 @@
 //! The values of the options of a line.
 
-ghost use Rattle.std.specs.Prelude.{◌≡◌, ◌≢◌, ◌≤◌, [], ◌∷◌, ℕ, Bool, List, Option, MatchOption, MatchResult, length, option_map};
-ghost use Rattle.run_words.specs.Job.{IsNumberIn, IsNumberOr, IsSet, SetsOptions, times, values_of};
+ghost use Rattle.std.specs.Prelude.{◌≡◌, ◌≢◌, ◌↔◌, ◌≤◌, [], ◌∷◌, ℕ, Bool, IsTrue, true, List, Option, MatchOption, MatchResult, length, option_map};
+ghost use Rattle.run_words.specs.Job.{IsNumberIn, IsNumberOr, IsSet, IsTied, SetsOptions, times, values_of};
 ghost use Rattle.run_words.specs.Parsers.{given_by, texts_of};
 ghost use Rattle.run_words.specs.Values.{IsOperator, IsValue, NumberFrom, NumberIn};
 
@@ -102,6 +102,43 @@ pub(crate) fn read_options(matches: &ArgMatches<'_>) -> Option<Options>
         stutter,
         limit,
     })
+}
+
+/// Whether `--ties` stands, which it may once, and neither beside `--why` nor beside `--near`.
+pub(crate) fn ties(matches: &ArgMatches<'_>) -> Option<bool>
+    ensures { MatchOption result ((b : Bool) → ¬ IsTied (given_by matches.now) b) (IsTied (given_by matches.now)) }
+{
+    match is_set(matches, Flag::Ties) {
+        Some(true) => tied_alone(matches),
+        Some(false) => Some(false),
+        None => None,
+    }
+}
+
+#[tactic(auto, using(crate::proofs::JobLaws::not_alone))]
+fn tied_alone(matches: &ArgMatches<'_>) -> Option<bool>
+    requires { IsSet (times Flag.Ties (given_by matches.now).flags) true }
+    ensures { MatchOption result ((b : Bool) → ¬ IsTied (given_by matches.now) b) (IsTied (given_by matches.now)) }
+{
+    if stands(matches, Setting::Why) {
+        return None;
+    }
+    if stands(matches, Setting::Near) {
+        return None;
+    }
+    Some(true)
+}
+
+/// Whether an option stands, once or more often.
+#[tactic(auto, using(crate::proofs::ReadLaws::one_stands, crate::proofs::ReadLaws::none_stands, crate::proofs::ReadLaws::many_stand))]
+fn stands(matches: &ArgMatches<'_>, setting: Setting) -> bool
+    ensures { IsTrue result ↔ (values_of setting (given_by matches.now).options ≢ []) }
+{
+    match value_of(matches, setting) {
+        Ok(Some(_)) => true,
+        Ok(None) => false,
+        Err(_) => true,
+    }
 }
 
 /// Whether a flag stands, which it may once.

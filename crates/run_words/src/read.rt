@@ -12,7 +12,7 @@ use crate::job::{Job, Words};
 use crate::line::{read_line, values};
 use crate::name::is_module;
 use crate::number::number;
-use crate::options::{is_set, most_of, operator, read_options, value_of, witness};
+use crate::options::{is_set, most_of, operator, read_options, ties, value_of, witness};
 use clap::ArgMatches;
 use std::alloc::Global;
 use trace_base::{Names, NoMemory, Text};
@@ -151,6 +151,9 @@ fn read_job(alloc: Global, matches: &ArgMatches<'_>) -> Result<Option<Job>, NoMe
     let Some(wide) = is_set(matches, Flag::Wide) else {
         return Ok(None);
     };
+    let Some(ties) = ties(matches) else {
+        return Ok(None);
+    };
     Ok(Some(Job {
         module: Text::from_text(alloc, path)?,
         logs: names(alloc, logs)?,
@@ -160,6 +163,7 @@ fn read_job(alloc: Global, matches: &ArgMatches<'_>) -> Result<Option<Job>, NoMe
         why,
         near,
         wide,
+        ties,
     }))
 }
 

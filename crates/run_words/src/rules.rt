@@ -4,7 +4,7 @@ ghost use Rattle.std.specs.Prelude.{◌≡◌, ◌↔◌, IsTrue, IfSome, true};
 ghost use Rattle.std.specs.List.{list_all};
 ghost use Rattle.run_words.specs.Line.{is_given};
 ghost use Rattle.run_words.specs.Names.{IsName};
-ghost use Rattle.run_words.specs.Words.{IsFew, JobMeets, MeetsRules, OptionsMeet};
+ghost use Rattle.run_words.specs.Words.{IsFew, JobMeets, MeetsRules, OptionsMeet, TellsNothing};
 
 use crate::job::{Job, Options, Words};
 use crate::line::is_given;
@@ -59,7 +59,21 @@ fn job_meets(job: &Job) -> bool
     if !is_few_or_none(job.near) {
         return false;
     }
+    if !tells_nothing(job.ties, job.why, job.near) {
+        return false;
+    }
     options_meet(&job.options)
+}
+
+/// Whether nothing is told behind the report, where lines may stand in several orders.
+fn tells_nothing(ties: bool, why: Option<u32>, near: Option<u32>) -> bool
+    ensures { IsTrue result ↔ TellsNothing ties why near }
+{
+    match (ties, why, near) {
+        (false, _, _) => true,
+        (true, None, None) => true,
+        _ => false,
+    }
 }
 
 fn is_few_or_none(most: Option<u32>) -> bool

@@ -3,7 +3,7 @@ mod Orders
 mod Fixed
 mod Asking
 mod Told
-mod Keeping
+pub mod Keeping
 mod Seen
 mod Led
 mod Answering

@@ -6,13 +6,14 @@ use Rattle.std.proofs.lemmas.Grind.{common_steps}
 use Rattle.tla_core.specs.System.{System, Begins}
 use Rattle.tla_core.specs.Sets.{IsList, HasAtMost, HasMoreThan}
 use Rattle.tla_core.specs.Runs.{Run, start, wait, go, Layer, Entry, Upto, IsUpto}
+use Rattle.state_layers.specs.Answers.{IsTotalLimit}
 use Rattle.state_layers.specs.Moves.{entries, entry, at_layer, IsClear}
 use Rattle.state_layers.specs.Kept.{node, first_of, IsInitClear, Linked, begins, IsDone, Kept, Starts}
 use Rattle.state_layers.specs.declared.node.Node.{Node}
 use Rattle.state_layers.specs.declared.node.Move.{Move}
 use Rattle.state_layers.specs.declared.node.Move.TheVariants.{Wait, Go}
 use Rattle.state_layers.proofs.Members.{in_map, map_in, distinct_map, get_in, get_same, get_below}
-use Rattle.state_layers.proofs.LayerLaws.{run_begin}
+use Rattle.state_layers.proofs.LayerLaws.{run_begin, layer_after}
 use Rattle.state_layers.proofs.Grow.{at_most, at_most_more}
 
 module _ {A : Type 0} where
@@ -54,8 +55,11 @@ module _ {A : Type 0} where
   first_places [] = refl
   first_places (s ∷ ss) = ap (λ (ps : List (Entry A)). entry 0 0 s ∷ ps) (first_places ss)
 
-  pub first_total : (y : System A) (ss : List A) (k : ℕ) → IsList (Begins y) ss → k < length ss → HasMoreThan (Upto y 0 0) k
-  first_total y ss k l lt = (at_layer 0 0 ss, (first_upto y ss (first_list y ss l)).are, (let e : length (at_layer 0 0 ss) ≡ length ss = simp length-map in omega arith))
+  pub first_total : (y : System A) (ss : List A) → 1 ≤ y.within → IsList (Begins y) ss → y.total < length ss → IsTotalLimit y 0 0
+  first_total y ss one l lt = record {
+    layer = layer_after y 0 one (omega arith);
+    more = (at_layer 0 0 ss, (first_upto y ss (first_list y ss l)).are, (let e : length (at_layer 0 0 ss) ≡ length ss = simp length-map in omega arith));
+  }
 
   pub kept_first : (y : System A) (ss : List A) → IsInitClear y → IsList (Begins y) ss → length ss ≤ y.limit → length ss ≤ y.total
       → Kept y 0 0 (first_of ss) (length (first_of ss))

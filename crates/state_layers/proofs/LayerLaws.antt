@@ -1,7 +1,9 @@
 -- How layers are made of earlier layers.
 use Rattle.std.proofs.Common.{◌≡◌, ◌≤◌, ◌<◌, ◌-◌, ℕ, suc, List, arith, refl, subst, ◌⊎◌, inl, inr}
+use Rattle.std.proofs.lemmas.Bool.{cases_lt}
 use Rattle.tla_core.specs.System.{System, Begins}
 use Rattle.tla_core.specs.Runs.{Run, start, wait, go, Layer, Entry, Upto, IsUpto}
+use Rattle.state_layers.specs.Answers.{HasLayer}
 use Rattle.state_layers.specs.Moves.{IsSource, line_of, silents_of, line_after, silents_after, IsOpen, Moves, entry}
 use Rattle.state_layers.specs.declared.node.Move.{Move}
 use Rattle.state_layers.specs.declared.node.Move.TheVariants.{Wait, Go}
@@ -51,6 +53,14 @@ module _ {A : Type 0} where
   run_lines y n j t v (start s i e) = omega arith
   run_lines y n j t v (wait m k s u w r lt le h) = omega arith
   run_lines y n j t v (go m k s u w r lt h) = omega arith
+
+  -- the layer after a line, and the one that a move leads to, are there
+  pub layer_after : (y : System A) (n : ℕ) → 1 ≤ y.within → n ≤ y.count → HasLayer y n 0
+  layer_after y n one le = elim (cases_lt n y.count) [ inl lt ↦ inl (lt, omega (arith, one)) | inr ge ↦ inr (omega (arith, ge), refl) ]
+
+  pub layer_moved : (y : System A) (move : Move) → 1 ≤ y.within → IsOpen y move → HasLayer y (line_after move) (silents_after move)
+  layer_moved y (Wait n j) one o = inl o
+  layer_moved y (Go n) one o = layer_after y (suc n) one (omega (arith, o))
 
   -- the layers up to the one that a move leads to
   pub upto_source : (y : System A) (move : Move) (m k : ℕ) (s : A) → 1 ≤ y.within → IsSource move m k → Layer y m k s → Upto y (line_of move) (silents_of y move) (entry m k s)

@@ -1,5 +1,5 @@
 -- What each answer says of a specification beside a log.
-use Rattle.std.specs.Prelude.{◌≡◌, ℕ, suc, ◌<◌, ◌≤◌, List}
+use Rattle.std.specs.Prelude.{◌≡◌, ◌⊎◌, ℕ, suc, ◌<◌, ◌≤◌, List}
 use Rattle.trace_base.specs.declared.place.LineAt.{LineAt}
 use Rattle.trace_base.specs.declared.place.Place.{Place}
 use Rattle.tla_values.specs.declared.fault.EvalKind.{EvalKind}
@@ -73,6 +73,16 @@ pub record IsStateFault {A : Type 0} (y : System A) (n j : ℕ) (state : Values)
   pub shows : y.state_of member ≡ state
   pub faults : (t : A) × Faults y n j member t f
 
+-- There is such a layer: below the last line with fewer silent steps than are allowed up to the next line, or after the last
+-- line with none.
+abbrev pub HasLayer : {A : Type 0} → System A → ℕ → ℕ → Type 0
+HasLayer y n j = ((n < y.count) × (j < y.within)) ⊎ ((n ≡ y.count) × (j ≡ 0))
+
+-- There is such a layer, and together with the layers before it it has more members than all layers may have.
+pub record IsTotalLimit {A : Type 0} (y : System A) (n j : ℕ) : Type 0 where
+  pub layer : HasLayer y n j
+  pub more : HasMoreThan (Upto y n j) y.total
+
 -- The answer is true of the specification beside the log. All but the two on an assumption say besides that each
 -- assumption is TRUE.
 abbrev pub IsAnswer : {A : Type 0} → System A → Answer → Type 0
@@ -84,4 +94,4 @@ IsAnswer y (StateFault n j state kind at) = AllAssumed y × IsStateFault y n j s
 IsAnswer y (AssumeFault kind at) = IsAssumeFault y (fault kind at)
 IsAnswer y (AssumeFalse at) = IsAssumeFalse y at
 IsAnswer y (LayerLimit n j) = AllAssumed y × HasMoreThan (Layer y n j) y.limit
-IsAnswer y (TotalLimit n j) = AllAssumed y × HasMoreThan (Upto y n j) y.total
+IsAnswer y (TotalLimit n j) = AllAssumed y × IsTotalLimit y n j

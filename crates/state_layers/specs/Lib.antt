@@ -6,4 +6,3 @@ pub mod Says
 pub mod Kept
 pub mod Repeats
 pub mod Last
-pub mod Table

@@ -2,9 +2,9 @@
 use Rattle.std.specs.Prelude.{List}
 use Rattle.tla_core.specs.System.{System}
 use Rattle.tla_core.specs.Sets.{IsList, HasMoreThan}
-use Rattle.tla_core.specs.Runs.{Layer, Upto}
+use Rattle.tla_core.specs.Runs.{Layer}
 use Rattle.tla_core.specs.declared.fault.Fault.{Fault}
-use Rattle.state_layers.specs.Answers.{fault, IsAssumeFault, IsAssumeFalse, IsExplained, IsNotExplained, IsNoInitial, IsStateFault}
+use Rattle.state_layers.specs.Answers.{fault, IsAssumeFault, IsAssumeFalse, IsExplained, IsNotExplained, IsNoInitial, IsStateFault, IsTotalLimit}
 use Rattle.state_layers.specs.Moves.{Moves, MoveFaults, MoveSeen}
 use Rattle.state_layers.specs.declared.answer.Answer.{Answer}
 use Rattle.state_layers.specs.declared.answer.Answer.TheVariants.{Explained, NotExplained, NoInitial, InitFault, Fault as StateFault, AssumeFault, AssumeFalse, LayerLimit, TotalLimit}
@@ -22,7 +22,7 @@ Says y (StateFault n j state kind at) = IsStateFault y n j state (fault kind at)
 Says y (AssumeFault kind at) = ⊥
 Says y (AssumeFalse at) = ⊥
 Says y (LayerLimit n j) = HasMoreThan (Layer y n j) y.limit
-Says y (TotalLimit n j) = HasMoreThan (Upto y n j) y.total
+Says y (TotalLimit n j) = IsTotalLimit y n j
 
 -- What an answer says with which the search stops before its end: all but that lines are explained.
 abbrev pub Ends : {A : Type 0} → System A → Answer → Type 0

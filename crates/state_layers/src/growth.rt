@@ -1,6 +1,7 @@
 ghost use Rattle.std.specs.Prelude.{◌≡◌, ◌⊎◌, ◌≤◌, ◌<◌, ◌+◌, ◌-◌, ◌++◌, IfOk, IfErr, OnOk, length};
 ghost use Rattle.tla_core.specs.Sets.{AreOf, IsList};
 ghost use Rattle.tla_core.specs.Runs.{Layer, Upto};
+ghost use Rattle.state_layers.specs.Answers.{HasLayer};
 ghost use Rattle.state_layers.specs.Gives.{Gives, IsSmall};
 ghost use Rattle.state_layers.specs.Found.{members_of};
 ghost use Rattle.state_layers.specs.Moves.{IsSource, line_of, silents_of, line_after, silents_after, IsOpen, Moves, MoveFaults, MoveSeen, entries, at_layer, IsRange, Grown};
@@ -111,6 +112,7 @@ fn check_size<S: Steps>(
     line: u32,
     silents: u32,
 ) -> Result<(), Stop>
+    requires layer { HasLayer (S.system steps.now) line silents }
     requires part { AreOf (Layer (S.system steps.now) line silents) (members_of layer.now.entries) }
     requires together { AreOf (Upto (S.system steps.now) line silents) (entries nodes.now ++ at_layer line silents (members_of layer.now.entries)) }
     ensures limit { OnOk result (length layer.now.entries ≤ (S.system steps.now).limit) }

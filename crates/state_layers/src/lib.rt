@@ -19,6 +19,3 @@ pub use last::Searched;
 pub use member::Member;
 pub use search::{search_entries, search_layers};
 pub use steps::{StepFault, Steps};
-
-#[cfg(test)]
-mod tests;

@@ -6,9 +6,11 @@ use Rattle.tla_core.specs.declared.state.Mark.TheVariants.{Init, Silent, Line as
 use Rattle.tla_core.specs.declared.state.Shown.{Shown}
 use Rattle.clock_merge.specs.declared.order.LineRef.{LineRef}
 use Rattle.path_updates.specs.declared.line.Line.{Line}
+use Rattle.path_updates.specs.declared.line.Log.{Log}
 use Rattle.log_cuts.specs.Cuts.{Cut, after}
 use Rattle.log_cuts.specs.Orders.{IsReadyAt, Order, start}
-use Rattle.tied_logs.specs.Lines.{StandsIn}
+use Rattle.tied_logs.specs.Lines.{IsLined, StandsIn}
+use Rattle.tied_logs.specs.declared.logs.Logs.{Logs}
 
 -- the mark's line, if it has one, before these
 abbrev pub name_of : Mark → List LineAt → List LineAt
@@ -34,3 +36,10 @@ IsChosen files o c at l = IsReadyAt o c l
 -- mark of its number, at the cut of those before it.
 abbrev pub KeepsTo : List (List Line) → Order → List Shown → List LineRef → Type 0
 KeepsTo files o w order = (n : ℕ) (l : LineRef) → slice_get order n ≡ Some l → IsChosen files o (after (start o) (take n order)) (slice_get (names w) n) l
+
+-- the log of all lines in the order that the marks name
+pub record IsNamedLog (logs : Logs) (w : List Shown) (log : Log) : Type 0 where
+  pub init : log.init ≡ logs.init
+  pub order : List LineRef
+  pub lined : IsLined logs.files.items logs.order order log.lines
+  pub keeps : KeepsTo logs.files.items logs.order w order

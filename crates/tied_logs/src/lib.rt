@@ -3,6 +3,8 @@
 
 mod laws;
 mod logs;
+mod named;
 
 pub use laws::{mark_laws, naming_laws};
-pub use logs::Logs;
+pub use logs::{Lined, Logs};
+pub use named::named_log;

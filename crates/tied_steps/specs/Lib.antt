@@ -1,3 +1,4 @@
+pub mod Beside
 pub mod InOrder
 pub mod Languages
 pub mod Laws

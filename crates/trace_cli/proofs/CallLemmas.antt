@@ -9,16 +9,19 @@ use Rattle.tla_ast.specs.declared.config.Config.{Config}
 use Rattle.tla_ast.specs.declared.module.Program.{Program}
 use Rattle.tla_terms.specs.declared.spec.Spec.{Spec}
 use Rattle.path_updates.specs.declared.line.Log.{Log}
+use Rattle.tied_logs.specs.declared.logs.Lined.{Lined}
+use Rattle.tied_logs.specs.declared.logs.Lined.TheVariants.{Sequence, Tied}
+use Rattle.tied_logs.specs.declared.logs.Logs.{Logs}
 use Rattle.tla_core.specs.declared.state.Shown.{Shown}
-use Rattle.line_steps.specs.Logs.{system}
-use Rattle.state_layers.specs.Answers.{AllAssumed, IsAnswer}
-use Rattle.state_layers.specs.Says.{IsUnassumed}
+use Rattle.line_steps.specs.Logs.{Asked, system}
+use Rattle.state_layers.specs.Answers.{IsAnswer}
+use Rattle.lined_specs.specs.Answers.{AreAssumedOf, IsTrueOf, IsUnassumedOf}
+use Rattle.lined_specs.specs.Beside.{lines_of}
 use Rattle.state_layers.specs.declared.answer.Answer.{Answer}
 use Rattle.state_layers.specs.declared.answer.Answer.TheVariants.{Explained, NotExplained, NoInitial, InitFault, Fault, AssumeFault, AssumeFalse, LayerLimit, TotalLimit}
-use Rattle.state_verdicts.specs.Verdicts.{IsVerdict}
 use Rattle.state_verdicts.specs.declared.verdict.Verdict.{Verdict}
 use Rattle.state_verdicts.specs.declared.verdict.Verdict.TheVariants as verdict
-use Rattle.spec_pairs.specs.Filling.{pair_asks}
+use Rattle.lined_verdicts.specs.Verdicts.{IsJudgedOf}
 use Rattle.ring_files.specs.Ring.{ring_files, ring_job}
 use Rattle.run_words.specs.declared.job.Job.{Job}
 use Rattle.run_words.specs.declared.job.Words.TheVariants.{Validate, Check, SelfRun}
@@ -33,7 +36,7 @@ use Rattle.run_stages.specs.GivenStops.{GivenStopsBy}
 use Rattle.trace_cli.specs.declared.judge.Judged.{Judged}
 use Rattle.trace_cli.specs.declared.call.Status.{Status}
 use Rattle.trace_cli.specs.declared.call.Status.TheVariants as status
-use Rattle.trace_cli.specs.Calls.{Answers, AnswersGiven, Calls, CallsGiven, asked_by, is_answered, is_answered_given, is_judged, is_refused, is_refused_given, is_unassumed, named_beside, named_in, status_of, status_of_verdict}
+use Rattle.trace_cli.specs.Calls.{Answers, AnswersGiven, Calls, CallsGiven, IsReportOf, asked_by, is_answered, is_answered_given, is_judged, is_refused, is_refused_given, is_unassumed, named_beside, named_in, status_of, status_of_verdict}
 use Rattle.run_reading.specs.Refusals.{all_files}
 use Rattle.run_texts.specs.Answers.{Named, answer_text}
 use Rattle.run_texts.specs.Verdicts.{verdict_text}
@@ -125,25 +128,25 @@ status_no_device (TotalLimit after silent) e = cc
 
 calls_no_device : (holds : Option (List File)) (b n : ℕ) (job : Job) (s : Status) (report : List ℕ) → Calls holds b n job s report → s ≡ status.Device → ⊥
 calls_no_device holds b n job s report (is_refused _ refusal) e = cc
-calls_no_device holds b n job s report (is_answered p c g log _ _ read answers) e = status_no_device answers.answer (sym answers.status_is ∙ e)
+calls_no_device holds b n job s report (is_answered p c g lined _ _ read answers) e = status_no_device answers.answer (sym answers.status_is ∙ e)
 
 verdict_no_device : (v : Verdict) → status_of_verdict v ≡ status.Device → ⊥
 verdict_no_device verdict.Valid e = cc
 verdict_no_device (verdict.Invalid index reason) e = cc
 verdict_no_device (verdict.Fault index kind at) e = cc
 
-answers_no_device : (job : Job) (p : Program) (c : Config) (g : Spec) (log : Log) (w : List Shown) (s : Status) (report : List ℕ)
-    → AnswersGiven job p c g log w s report → s ≡ status.Device → ⊥
-answers_no_device job p c g log w s report (is_unassumed answer is at told) e = status_no_device answer (sym at ∙ e)
-answers_no_device job p c g log w s report (is_judged v all is at told) e = verdict_no_device v (sym at ∙ e)
+answers_no_device : (job : Job) (p : Program) (c : Config) (g : Spec) (lined : Lined) (w : List Shown) (s : Status) (report : List ℕ)
+    → AnswersGiven job p c g lined w s report → s ≡ status.Device → ⊥
+answers_no_device job p c g lined w s report (is_unassumed answer is at told) e = status_no_device answer (sym at ∙ e)
+answers_no_device job p c g lined w s report (is_judged v all is at told) e = verdict_no_device v (sym at ∙ e)
 
 given_no_device : (holds : Option (List File)) (b n : ℕ) (job : Job) (witness : List ℕ) (s : Status) (report : List ℕ) → CallsGiven holds b n job witness s report
     → s ≡ status.Device → ⊥
 given_no_device holds b n job witness s report (is_refused_given _ refusal) e = cc
-given_no_device holds b n job witness s report (is_answered_given p c g log w _ _ read answers) e = answers_no_device job p c g log w s report answers e
+given_no_device holds b n job witness s report (is_answered_given p c g lined w _ _ read answers) e = answers_no_device job p c g lined w s report answers e
 
 smoke_no_device : (count : ℕ) (s : Status) (report : List ℕ) → SmokeTests count s report → s ≡ status.Device → ⊥
-smoke_no_device count s report (is_sure p c g log w widest read is valid) e = cc
+smoke_no_device count s report (is_sure p c g lined w widest read is valid) e = cc
 smoke_no_device count s report (is_not_explained _ _ calls other) e = calls_no_device (Some (ring_files count)) 0 0 ring_job s report calls e
 
 pub runs_no_device : (words : List (List ℕ)) (holds : Option (List File)) (b n : ℕ) (s : Status) (report : List ℕ) → Runs words holds b n s report
@@ -179,80 +182,103 @@ device_part r words holds b n old new name piece wanted is whole part =
     of_device name wanted (subst (λ (p : List ℕ). AppendedPart old p new) is (put_part r old new piece whole part))
 
 -- what a job calls for, all texts being read
-pub calls_answered : (holds : Option (List File)) (b n : ℕ) (job : Job) (p : Program) (c : Config) (s : Spec) (log : Log) (r : Result Judged Stop)
-    → AllRead holds job p c s log → IfOk r (λ j. Answers job p c s log j.status (string_bytes j.report))
+pub calls_answered : (holds : Option (List File)) (b n : ℕ) (job : Job) (p : Program) (c : Config) (s : Spec) (lined : Lined) (r : Result Judged Stop)
+    → AllRead holds job p c s lined → IfOk r (λ j. Answers job p c s lined j.status (string_bytes j.report))
     → IfOk r (λ j. Calls holds b n job j.status (string_bytes j.report))
-calls_answered holds b n job p c s log (Ok j) read answers = is_answered p c s log j.status (string_bytes j.report) read answers
-calls_answered holds b n job p c s log (Err x) read answers = tt
+calls_answered holds b n job p c s lined (Ok j) read answers = is_answered p c s lined j.status (string_bytes j.report) read answers
+calls_answered holds b n job p c s lined (Err x) read answers = tt
 
 -- what a job of `check` calls for, all texts being read
-pub given_answered : (holds : Option (List File)) (b n : ℕ) (job : Job) (witness : List ℕ) (p : Program) (c : Config) (s : Spec) (log : Log) (w : List Shown) (r : Result Judged Stop)
-    → AllGiven holds job witness p c s log w → IfOk r (λ j. AnswersGiven job p c s log w j.status (string_bytes j.report))
+pub given_answered : (holds : Option (List File)) (b n : ℕ) (job : Job) (witness : List ℕ) (p : Program) (c : Config) (s : Spec) (lined : Lined) (w : List Shown) (r : Result Judged Stop)
+    → AllGiven holds job witness p c s lined w → IfOk r (λ j. AnswersGiven job p c s lined w j.status (string_bytes j.report))
     → IfOk r (λ j. CallsGiven holds b n job witness j.status (string_bytes j.report))
-given_answered holds b n job witness p c s log w (Ok j) read answers = is_answered_given p c s log w j.status (string_bytes j.report) read answers
-given_answered holds b n job witness p c s log w (Err x) read answers = tt
+given_answered holds b n job witness p c s lined w (Ok j) read answers = is_answered_given p c s lined w j.status (string_bytes j.report) read answers
+given_answered holds b n job witness p c s lined w (Err x) read answers = tt
+
+-- the report of an answer, where nothing is asked for behind it
+alone_of : (s : Spec) (lined : Lined) (asked : Asked) (named : Named) (a : Answer) (report : List ℕ) → report ≡ answer_text named a → IsReportOf s lined asked named None None a report
+alone_of s (Sequence log) asked named a report told = unasked_report s log asked named a report told
+alone_of s (Tied logs) asked named a report told = told
 
 -- an answer with its status and its report, where nothing is asked for behind it
-pub answer_alone : (job : Job) (p : Program) (c : Config) (s : Spec) (log : Log) (a : Answer) (x : Status) (report : List ℕ) → job.why ≡ None → job.near ≡ None
-    → IsAnswer (system s log (asked_by job.options)) a → x ≡ status_of a → report ≡ answer_text (named_in job p c s log) a → Answers job p c s log x report
-answer_alone job p c s log a x report unasked no_near is at told =
+pub answer_alone : (job : Job) (p : Program) (c : Config) (s : Spec) (lined : Lined) (a : Answer) (x : Status) (report : List ℕ) → job.why ≡ None → job.near ≡ None
+    → IsTrueOf s (asked_by job.options) lined a → x ≡ status_of a → report ≡ answer_text (named_in job p c s lined) a → Answers job p c s lined x report
+answer_alone job p c s lined a x report unasked no_near is at told =
     let asked = asked_by job.options in
-    let named = named_in job p c s log in
+    let named = named_in job p c s lined in
     record {
       answer = a;
       is_true = is;
       status_is = at;
-      report_is = subst (λ (why : Option ℕ). IsReport s log asked named why job.near a report) (sym unasked)
-          (subst (λ (near : Option ℕ). IsReport s log asked named None near a report) (sym no_near) (unasked_report s log asked named a report told));
+      report_is = subst (λ (why : Option ℕ). IsReportOf s lined asked named why job.near a report) (sym unasked)
+          (subst (λ (near : Option ℕ). IsReportOf s lined asked named None near a report) (sym no_near) (alone_of s lined asked named a report told));
     }
 
--- an answer with its status, and with the whole report, by what the labels are
-pub answered_whole : (job : Job) (p : Program) (c : Config) (s : Spec) (log : Log) (lines : ℕ) (files : List (List ℕ)) (a : Answer) (x : Status) (report : List ℕ)
-    → files ≡ all_files p c → lines ≡ length log.lines → IsAnswer (system s log (asked_by job.options)) a → x ≡ status_of a
-    → IsReport s log (asked_by job.options) (labelled job s files lines) job.why job.near a report → Answers job p c s log x report
-answered_whole job p c s log lines files a x report are count is at told =
+-- an answer of logs whose lines may stand in several orders, with its status and its report
+answer_of_ties : (job : Job) (p : Program) (c : Config) (s : Spec) (lined : Lined) (logs : Logs) (a : Answer) (x : Status) (report : List ℕ) → lined ≡ Tied logs
+    → IsTrueOf s (asked_by job.options) lined a → x ≡ status_of a → report ≡ answer_text (named_in job p c s lined) a → Answers job p c s lined x report
+answer_of_ties job p c s lined logs a x report ties is at told = record {
+  answer = a;
+  is_true = is;
+  status_is = at;
+  report_is = subst (λ (l : Lined). IsReportOf s l (asked_by job.options) (named_in job p c s lined) job.why job.near a report) (sym ties) told;
+}
+
+pub told_ties : (job : Job) (p : Program) (c : Config) (s : Spec) (lined : Lined) (logs : Logs) (a : Answer) (r : Result Judged Stop) → lined ≡ Tied logs
+    → IsTrueOf s (asked_by job.options) lined a → IfOk r (λ j. j.status ≡ status_of a) → IfOk r (λ j. string_bytes j.report ≡ answer_text (named_in job p c s lined) a)
+    → IfOk r (λ j. Answers job p c s lined j.status (string_bytes j.report))
+told_ties job p c s lined logs a (Ok j) ties is at told = answer_of_ties job p c s lined logs a j.status (string_bytes j.report) ties is at told
+told_ties job p c s lined logs a (Err x) ties is at told = tt
+
+-- an answer beside one log with its status, and with the whole report, by what the labels are
+pub answered_whole : (job : Job) (p : Program) (c : Config) (s : Spec) (lined : Lined) (log : Log) (lines : ℕ) (files : List (List ℕ)) (a : Answer) (x : Status) (report : List ℕ)
+    → lined ≡ Sequence log → files ≡ all_files p c → lines ≡ length log.lines → IsAnswer (system s log (asked_by job.options)) a → x ≡ status_of a
+    → IsReport s log (asked_by job.options) (labelled job s files lines) job.why job.near a report → Answers job p c s lined x report
+answered_whole job p c s lined log lines files a x report one are count is at told =
     let options = asked_by job.options in
     let of_files = subst (λ (fs : List (List ℕ)). IsReport s log options (labelled job s fs lines) job.why job.near a report) are told in
     let of_lines = subst (λ (n : ℕ). IsReport s log options (named_beside job p c s n) job.why job.near a report) count of_files in
+    let there : Answers job p c s (Sequence log) x report =
     record {
       answer = a;
       is_true = is;
       status_is = at;
       report_is = of_lines;
-    }
+    } in
+    subst (λ (l : Lined). Answers job p c s l x report) (sym one) there
 
 -- an answer with its status and its report
-pub answered : (job : Job) (p : Program) (c : Config) (s : Spec) (log : Log) (a : Answer) (r : Result Judged Stop) → job.why ≡ None → job.near ≡ None
-    → IsAnswer (system s log (asked_by job.options)) a → IfOk r (λ j. j.status ≡ status_of a)
-    → IfOk r (λ j. string_bytes j.report ≡ answer_text (named_in job p c s log) a) → IfOk r (λ j. Answers job p c s log j.status (string_bytes j.report))
-answered job p c s log a (Ok j) unasked no_near is at told = answer_alone job p c s log a j.status (string_bytes j.report) unasked no_near is at told
-answered job p c s log a (Err x) unasked no_near is at told = tt
+pub answered : (job : Job) (p : Program) (c : Config) (s : Spec) (lined : Lined) (a : Answer) (r : Result Judged Stop) → job.why ≡ None → job.near ≡ None
+    → IsTrueOf s (asked_by job.options) lined a → IfOk r (λ j. j.status ≡ status_of a)
+    → IfOk r (λ j. string_bytes j.report ≡ answer_text (named_in job p c s lined) a) → IfOk r (λ j. Answers job p c s lined j.status (string_bytes j.report))
+answered job p c s lined a (Ok j) unasked no_near is at told = answer_alone job p c s lined a j.status (string_bytes j.report) unasked no_near is at told
+answered job p c s lined a (Err x) unasked no_near is at told = tt
 
--- the same where the lines of the log are counted apart
-pub answered_beside : (job : Job) (p : Program) (c : Config) (s : Spec) (log : Log) (lines : ℕ) (a : Answer) (r : Result Judged Stop) → lines ≡ length log.lines
-    → job.why ≡ None → job.near ≡ None → IsAnswer (system s log (asked_by job.options)) a → IfOk r (λ j. j.status ≡ status_of a)
-    → IfOk r (λ j. string_bytes j.report ≡ answer_text (named_beside job p c s lines) a) → IfOk r (λ j. Answers job p c s log j.status (string_bytes j.report))
-answered_beside job p c s log lines a r count unasked no_near is at told =
-    answered job p c s log a r unasked no_near is at (subst (λ (n : ℕ). IfOk r (λ j. string_bytes j.report ≡ answer_text (named_beside job p c s n) a)) count told)
+-- the same where the lines are counted apart
+pub answered_beside : (job : Job) (p : Program) (c : Config) (s : Spec) (lined : Lined) (lines : ℕ) (a : Answer) (r : Result Judged Stop) → lines ≡ lines_of lined
+    → job.why ≡ None → job.near ≡ None → IsTrueOf s (asked_by job.options) lined a → IfOk r (λ j. j.status ≡ status_of a)
+    → IfOk r (λ j. string_bytes j.report ≡ answer_text (named_beside job p c s lines) a) → IfOk r (λ j. Answers job p c s lined j.status (string_bytes j.report))
+answered_beside job p c s lined lines a r count unasked no_near is at told =
+    answered job p c s lined a r unasked no_near is at (subst (λ (n : ℕ). IfOk r (λ j. string_bytes j.report ≡ answer_text (named_beside job p c s n) a)) count told)
 
--- the report of an answer, where the lines of the log are counted apart
-pub counted_told : (job : Job) (p : Program) (c : Config) (s : Spec) (log : Log) (lines : ℕ) (a : Answer) (r : Result Judged Stop) → lines ≡ length log.lines
-    → IfOk r (λ j. string_bytes j.report ≡ answer_text (named_beside job p c s lines) a) → IfOk r (λ j. string_bytes j.report ≡ answer_text (named_in job p c s log) a)
-counted_told job p c s log lines a r count told = subst (λ (n : ℕ). IfOk r (λ j. string_bytes j.report ≡ answer_text (named_beside job p c s n) a)) count told
+-- the report of an answer, where the lines are counted apart
+pub counted_told : (job : Job) (p : Program) (c : Config) (s : Spec) (lined : Lined) (lines : ℕ) (a : Answer) (r : Result Judged Stop) → lines ≡ lines_of lined
+    → IfOk r (λ j. string_bytes j.report ≡ answer_text (named_beside job p c s lines) a) → IfOk r (λ j. string_bytes j.report ≡ answer_text (named_in job p c s lined) a)
+counted_told job p c s lined lines a r count told = subst (λ (n : ℕ). IfOk r (λ j. string_bytes j.report ≡ answer_text (named_beside job p c s n) a)) count told
 
 -- an assumption that is not TRUE, beside given states
-pub unassumed_told : (job : Job) (p : Program) (c : Config) (s : Spec) (log : Log) (w : List Shown) (a : Answer) (r : Result Judged Stop)
-    → IsUnassumed (system s log (asked_by job.options)) a → IfOk r (λ j. j.status ≡ status_of a)
-    → IfOk r (λ j. string_bytes j.report ≡ answer_text (named_in job p c s log) a) → IfOk r (λ j. AnswersGiven job p c s log w j.status (string_bytes j.report))
-unassumed_told job p c s log w a (Ok j) is at told = is_unassumed a is at told
-unassumed_told job p c s log w a (Err x) is at told = tt
+pub unassumed_told : (job : Job) (p : Program) (c : Config) (s : Spec) (lined : Lined) (w : List Shown) (a : Answer) (r : Result Judged Stop)
+    → IsUnassumedOf s (asked_by job.options) lined a → IfOk r (λ j. j.status ≡ status_of a)
+    → IfOk r (λ j. string_bytes j.report ≡ answer_text (named_in job p c s lined) a) → IfOk r (λ j. AnswersGiven job p c s lined w j.status (string_bytes j.report))
+unassumed_told job p c s lined w a (Ok j) is at told = is_unassumed a is at told
+unassumed_told job p c s lined w a (Err x) is at told = tt
 
 -- a verdict with its status and its report
-pub judged_told : (job : Job) (p : Program) (c : Config) (s : Spec) (log : Log) (w : List Shown) (v : Verdict) (r : Result Judged Stop)
-    → AllAssumed (system s log (asked_by job.options)) → IsVerdict (pair_asks s log (asked_by job.options)) w v → IfOk r (λ j. j.status ≡ status_of_verdict v)
-    → IfOk r (λ j. string_bytes j.report ≡ verdict_text (all_files p c) (length w) v) → IfOk r (λ j. AnswersGiven job p c s log w j.status (string_bytes j.report))
-judged_told job p c s log w v (Ok j) all is at told = is_judged v all is at told
-judged_told job p c s log w v (Err x) all is at told = tt
+pub judged_told : (job : Job) (p : Program) (c : Config) (s : Spec) (lined : Lined) (w : List Shown) (v : Verdict) (r : Result Judged Stop)
+    → AreAssumedOf s (asked_by job.options) lined → IsJudgedOf s (asked_by job.options) lined w v → IfOk r (λ j. j.status ≡ status_of_verdict v)
+    → IfOk r (λ j. string_bytes j.report ≡ verdict_text (all_files p c) (length w) v) → IfOk r (λ j. AnswersGiven job p c s lined w j.status (string_bytes j.report))
+judged_told job p c s lined w v (Ok j) all is at told = is_judged v all is at told
+judged_told job p c s lined w v (Err x) all is at told = tt
 
 -- the report of a verdict, by the files and the number of states
 pub verdict_told : (p : Program) (c : Config) (w : List Shown) (v : Verdict) (files : List (List ℕ)) (count : ℕ) (report : List ℕ) → files ≡ all_files p c → count ≡ length w

@@ -1,6 +1,7 @@
 -- From what is true of the module Ring beside its log to what the smoke test calls for.
-use Rattle.std.proofs.Common.{arith, ◌≡◌, ◌∙◌, ℕ, List, Some, None, Result, Ok, Err, All, IfOk, length, refl, string_bytes, subst, sym}
-use Rattle.std.specs.Prelude.{◌≢◌}
+use Rattle.std.proofs.Common.{arith, ◌≡◌, ◌∙◌, ℕ, List, Some, None, Result, Ok, Err, IfOk, refl, string_bytes, subst, sym}
+use Rattle.std.specs.Prelude.{◌≢◌, false}
+use Rattle.std.proofs.Common.{true≢false}
 use Rattle.trace_base.specs.Device.{File}
 use Rattle.trace_base.specs.declared.place.Place.{Place}
 use Rattle.tla_values.specs.declared.fault.EvalKind.{EvalKind}
@@ -8,19 +9,21 @@ use Rattle.tla_ast.specs.declared.config.Config.{Config}
 use Rattle.tla_ast.specs.declared.module.Program.{Program}
 use Rattle.tla_terms.specs.declared.spec.Spec.{Spec}
 use Rattle.tla_core.specs.declared.state.Shown.{Shown}
-use Rattle.path_updates.specs.declared.line.Log.{Log}
-use Rattle.line_steps.specs.Logs.{Asked, system}
-use Rattle.line_steps.specs.Says.{IsState}
-use Rattle.state_layers.specs.Answers.{IsAnswer}
+use Rattle.line_steps.specs.Logs.{Asked}
+use Rattle.log_lines.specs.declared.file.FileLines.{FileLines}
+use Rattle.log_files.specs.Lined.{IsLinedOf}
+use Rattle.tied_logs.specs.declared.logs.Lined.{Lined}
+use Rattle.tied_logs.specs.declared.logs.Lined.TheVariants.{Sequence, Tied}
+use Rattle.lined_specs.specs.Answers.{IsTrueOf}
+use Rattle.lined_specs.specs.Beside.{AreTellable}
 use Rattle.state_layers.specs.declared.answer.Answer.{Answer}
 use Rattle.state_layers.specs.declared.answer.Answer.TheVariants.{Explained}
-use Rattle.state_verdicts.specs.Verdicts.{IsVerdict}
-use Rattle.state_verdicts.specs.Laws.{AreOne, HaveOne}
+use Rattle.state_verdicts.specs.Laws.{AreOne}
 use Rattle.state_verdicts.specs.declared.verdict.Reason.{Reason}
 use Rattle.state_verdicts.specs.declared.verdict.Verdict.{Verdict}
 use Rattle.state_verdicts.specs.declared.verdict.Verdict.TheVariants.{Valid, Invalid, Fault}
-use Rattle.spec_pairs.specs.Filling.{pair_asks}
-use Rattle.explained_laws.specs.Laws.{BehavesOverStates, ExplainedIsValid}
+use Rattle.lined_verdicts.specs.Laws.{ExplainedIsJudgedValid, HaveOneOf}
+use Rattle.lined_verdicts.specs.Verdicts.{IsJudgedOf}
 use Rattle.ring_files.specs.Ring.{ring_files, ring_job}
 use Rattle.run_words.specs.declared.job.Job.{Job}
 use Rattle.run_reading.specs.Reaches.{AllRead}
@@ -38,33 +41,28 @@ use Rattle.trace_cli.specs.Smoke.{IsSmokeStop, SmokeTests, is_not_explained, is_
 use Rattle.trace_cli.specs.Tested.{IsTested, tested_other, tested_sure}
 
 -- the states that explain the log, with the report of the smoke test
-pub tested_surely : (n : ℕ) (job : Job) (p : Program) (c : Config) (s : Spec) (log : Log) (w : List Shown) (widest : ℕ) (r : Result Judged Stop)
-    → IsAnswer (system s log (asked_by job.options)) (Explained w widest) → IsVerdict (pair_asks s log (asked_by job.options)) w Valid
+pub tested_surely : (n : ℕ) (job : Job) (p : Program) (c : Config) (s : Spec) (lined : Lined) (w : List Shown) (widest : ℕ) (r : Result Judged Stop)
+    → IsTrueOf s (asked_by job.options) lined (Explained w widest) → IsJudgedOf s (asked_by job.options) lined w Valid
     → IfOk r (λ j. j.status ≡ status.Done) → IfOk r (λ j. string_bytes j.report ≡ smoke_text n widest s.variables w)
-    → IfOk r (λ j. IsTested n job p c s log j.status (string_bytes j.report))
-tested_surely n job p c s log w widest (Ok j) is valid at told =
-    subst (λ (x : Status). IsTested n job p c s log x (string_bytes j.report)) (sym at)
-    (subst (λ (x : List ℕ). IsTested n job p c s log status.Done x) (sym told) (tested_sure w widest is valid))
-tested_surely n job p c s log w widest (Err x) is valid at told = tt
+    → IfOk r (λ j. IsTested n job p c s lined j.status (string_bytes j.report))
+tested_surely n job p c s lined w widest (Ok j) is valid at told =
+    subst (λ (x : Status). IsTested n job p c s lined x (string_bytes j.report)) (sym at)
+    (subst (λ (x : List ℕ). IsTested n job p c s lined status.Done x) (sym told) (tested_sure w widest is valid))
+tested_surely n job p c s lined w widest (Err x) is valid at told = tt
 
 -- another answer with its status and its report
-pub tested_otherwise : (n : ℕ) (job : Job) (p : Program) (c : Config) (s : Spec) (log : Log) (a : Answer) (r : Result Judged Stop) → job.why ≡ None → job.near ≡ None
-    → IsAnswer (system s log (asked_by job.options)) a → status_of a ≢ status.Done → IfOk r (λ j. j.status ≡ status_of a)
-    → IfOk r (λ j. string_bytes j.report ≡ answer_text (named_in job p c s log) a)
-    → IfOk r (λ j. IsTested n job p c s log j.status (string_bytes j.report))
-tested_otherwise n job p c s log a (Ok j) unasked no_near is other at told =
-    tested_other j.status (string_bytes j.report) (answer_alone job p c s log a j.status (string_bytes j.report) unasked no_near is at told) (λ e. other (sym at ∙ e))
-tested_otherwise n job p c s log a (Err x) unasked no_near is other at told = tt
+pub tested_otherwise : (n : ℕ) (job : Job) (p : Program) (c : Config) (s : Spec) (lined : Lined) (a : Answer) (r : Result Judged Stop) → job.why ≡ None → job.near ≡ None
+    → IsTrueOf s (asked_by job.options) lined a → status_of a ≢ status.Done → IfOk r (λ j. j.status ≡ status_of a)
+    → IfOk r (λ j. string_bytes j.report ≡ answer_text (named_in job p c s lined) a)
+    → IfOk r (λ j. IsTested n job p c s lined j.status (string_bytes j.report))
+tested_otherwise n job p c s lined a (Ok j) unasked no_near is other at told =
+    tested_other j.status (string_bytes j.report) (answer_alone job p c s lined a j.status (string_bytes j.report) unasked no_near is at told) (λ e. other (sym at ∙ e))
+tested_otherwise n job p c s lined a (Err x) unasked no_near is other at told = tt
 
 -- the answer is that the log is explained
-pub is_explained : (s : Spec) (log : Log) (job : Job) (a : Answer) (w : List Shown) (widest : ℕ) → a ≡ Explained w widest
-    → IsAnswer (system s log (asked_by job.options)) a → IsAnswer (system s log (asked_by job.options)) (Explained w widest)
-is_explained s log job a w widest e is = subst (λ (x : Answer). IsAnswer (system s log (asked_by job.options)) x) e is
-
--- the states that explain the log are states of the specification
-pub valid_states : (s : Spec) (log : Log) (asked : Asked) (w : List Shown) (widest : ℕ) → BehavesOverStates s log asked
-    → IsAnswer (system s log asked) (Explained w widest) → All (λ x. IsState (length s.variables) x.state) w
-valid_states s log asked w widest over is = over _ w is.1.behaves
+pub is_explained : (s : Spec) (lined : Lined) (job : Job) (a : Answer) (w : List Shown) (widest : ℕ) → a ≡ Explained w widest
+    → IsTrueOf s (asked_by job.options) lined a → IsTrueOf s (asked_by job.options) lined (Explained w widest)
+is_explained s lined job a w widest e is = subst (λ (x : Answer). IsTrueOf s (asked_by job.options) lined x) e is
 
 valid_alone : (v : Verdict) → AreOne Valid v → v ≡ Valid
 valid_alone Valid e = refl
@@ -72,9 +70,9 @@ valid_alone (Invalid i r) e = absurd e
 valid_alone (Fault i kind at) e = absurd e
 
 -- they have no other verdict than that they are valid
-pub is_valid : (s : Spec) (log : Log) (asked : Asked) (w : List Shown) (widest : ℕ) (v : Verdict) → ExplainedIsValid s log asked → HaveOne (pair_asks s log asked)
-    → IsAnswer (system s log asked) (Explained w widest) → IsVerdict (pair_asks s log asked) w v → v ≡ Valid
-is_valid s log asked w widest v valid one is judged = valid_alone v (one w Valid v (valid w widest is) judged)
+pub is_valid : (s : Spec) (lined : Lined) (asked : Asked) (w : List Shown) (widest : ℕ) (v : Verdict) → ExplainedIsJudgedValid s lined asked → HaveOneOf s lined asked → AreTellable lined
+    → IsTrueOf s asked lined (Explained w widest) → IsJudgedOf s asked lined w v → v ≡ Valid
+is_valid s lined asked w widest v valid one tellable is judged = valid_alone v (one tellable w Valid v (valid w widest is) judged)
 
 pub not_invalid : (v : Verdict) (i : ℕ) (r : Reason) → v ≡ Valid → v ≡ Invalid i r → ⊥
 not_invalid v i r valid is = cc
@@ -82,19 +80,19 @@ not_invalid v i r valid is = cc
 pub not_fault : (v : Verdict) (i : ℕ) (kind : EvalKind) (at : Place) → v ≡ Valid → v ≡ Fault i kind at → ⊥
 not_fault v i kind at valid is = cc
 
-tests_of : (n : ℕ) (p : Program) (c : Config) (s : Spec) (log : Log) (x : Status) (report : List ℕ) → AllRead (Some (ring_files n)) ring_job p c s log
-    → IsTested n ring_job p c s log x report → SmokeTests n x report
-tests_of n p c s log x report read (tested_sure w widest is valid) = is_sure p c s log w widest read is valid
-tests_of n p c s log x report read (tested_other _ _ answers other) = is_not_explained x report (is_answered p c s log x report read answers) other
+tests_of : (n : ℕ) (p : Program) (c : Config) (s : Spec) (lined : Lined) (x : Status) (report : List ℕ) → AllRead (Some (ring_files n)) ring_job p c s lined
+    → IsTested n ring_job p c s lined x report → SmokeTests n x report
+tests_of n p c s lined x report read (tested_sure w widest is valid) = is_sure p c s lined w widest read is valid
+tests_of n p c s lined x report read (tested_other _ _ answers other) = is_not_explained x report (is_answered p c s lined x report read answers) other
 
 -- what the smoke test calls for, the module and its log being read
-pub smoke_tested : (n : ℕ) (files : List File) (job : Job) (p : Program) (c : Config) (s : Spec) (log : Log) (r : Result Judged Stop) → files ≡ ring_files n
-    → job ≡ ring_job → AllRead (Some files) job p c s log → IfOk r (λ j. IsTested n job p c s log j.status (string_bytes j.report))
+pub smoke_tested : (n : ℕ) (files : List File) (job : Job) (p : Program) (c : Config) (s : Spec) (lined : Lined) (r : Result Judged Stop) → files ≡ ring_files n
+    → job ≡ ring_job → AllRead (Some files) job p c s lined → IfOk r (λ j. IsTested n job p c s lined j.status (string_bytes j.report))
     → IfOk r (λ j. SmokeTests n j.status (string_bytes j.report))
-smoke_tested n files job p c s log (Ok j) held is read tested =
-    let own = subst (λ (x : List File). AllRead (Some x) ring_job p c s log) held (subst (λ (x : Job). AllRead (Some files) x p c s log) is read) in
-    tests_of n p c s log j.status (string_bytes j.report) own (subst (λ (x : Job). IsTested n x p c s log j.status (string_bytes j.report)) is tested)
-smoke_tested n files job p c s log (Err x) held is read tested = tt
+smoke_tested n files job p c s lined (Ok j) held is read tested =
+    let own = subst (λ (x : List File). AllRead (Some x) ring_job p c s lined) held (subst (λ (x : Job). AllRead (Some files) x p c s lined) is read) in
+    tests_of n p c s lined j.status (string_bytes j.report) own (subst (λ (x : Job). IsTested n x p c s lined j.status (string_bytes j.report)) is tested)
+smoke_tested n files job p c s lined (Err x) held is read tested = tt
 
 stop_of_ring : (n : ℕ) (x : Stop) → StopsBy (Some (ring_files n)) 0 0 ring_job x → IsSmokeStop n x
 stop_of_ring n (stop.Refused report) by = is_not_explained status.Reading (string_bytes report) (is_refused (string_bytes report) by) (λ e. cc)
@@ -106,3 +104,13 @@ pub smoke_stop : (n : ℕ) (files : List File) (job : Job) (x : Stop) → files 
     → IsSmokeStop n x
 smoke_stop n files job x held is by =
     stop_of_ring n x (subst (λ (fs : List File). StopsBy (Some fs) 0 0 ring_job x) held (subst (λ (k : Job). StopsBy (Some files) 0 0 k x) is by))
+
+-- without the word `--ties` the lines stand in one order
+one_order : (files : List FileLines) (lined : Lined) → IsLinedOf false files lined → AreTellable lined
+one_order files (Sequence log) is = tt
+one_order files (Tied logs) is = absurd (true≢false (sym is.0))
+
+pub ring_in_order : (n : ℕ) (files : List File) (job : Job) (p : Program) (c : Config) (s : Spec) (lined : Lined) → job ≡ ring_job → AllRead (Some files) job p c s lined → AreTellable lined
+ring_in_order n files job p c s lined is read =
+    let own = subst (λ (x : Job). AllRead (Some files) x p c s lined) is read in
+    one_order own.read.found lined own.lines

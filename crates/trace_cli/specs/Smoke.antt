@@ -4,13 +4,11 @@ use Rattle.tla_ast.specs.declared.config.Config.{Config}
 use Rattle.tla_ast.specs.declared.module.Program.{Program}
 use Rattle.tla_terms.specs.declared.spec.Spec.{Spec}
 use Rattle.tla_core.specs.declared.state.Shown.{Shown}
-use Rattle.path_updates.specs.declared.line.Log.{Log}
-use Rattle.line_steps.specs.Logs.{system}
-use Rattle.state_layers.specs.Answers.{IsAnswer}
+use Rattle.tied_logs.specs.declared.logs.Lined.{Lined}
 use Rattle.state_layers.specs.declared.answer.Answer.TheVariants.{Explained}
-use Rattle.state_verdicts.specs.Verdicts.{IsVerdict}
 use Rattle.state_verdicts.specs.declared.verdict.Verdict.TheVariants.{Valid}
-use Rattle.spec_pairs.specs.Filling.{pair_asks}
+use Rattle.lined_specs.specs.Answers.{IsTrueOf}
+use Rattle.lined_verdicts.specs.Verdicts.{IsJudgedOf}
 use Rattle.ring_files.specs.Ring.{ring_files, ring_job}
 use Rattle.run_reading.specs.Reaches.{AllRead}
 use Rattle.run_stages.specs.declared.stop.Stop.{Stop}
@@ -23,8 +21,8 @@ use Rattle.trace_cli.specs.Calls.{Calls, asked_by}
 -- What the smoke test over n lines calls for: what `validate` says of the module Ring and its log; but where they are explained, the states being valid,
 -- its own report.
 pub data SmokeTests (n : ℕ) : Status → List ℕ → Type 0 where
-  is_sure : (p : Program) (c : Config) (s : Spec) (log : Log) (w : List Shown) (widest : ℕ) → AllRead (Some (ring_files n)) ring_job p c s log
-      → IsAnswer (system s log (asked_by ring_job.options)) (Explained w widest) → IsVerdict (pair_asks s log (asked_by ring_job.options)) w Valid
+  is_sure : (p : Program) (c : Config) (s : Spec) (lined : Lined) (w : List Shown) (widest : ℕ) → AllRead (Some (ring_files n)) ring_job p c s lined
+      → IsTrueOf s (asked_by ring_job.options) lined (Explained w widest) → IsJudgedOf s (asked_by ring_job.options) lined w Valid
       → SmokeTests n Done (smoke_text n widest s.variables w)
   is_not_explained : (s : Status) (report : List ℕ) → Calls (Some (ring_files n)) 0 0 ring_job s report → s ≢ Done → SmokeTests n s report
 

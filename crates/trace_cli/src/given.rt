@@ -1,25 +1,21 @@
-ghost use Rattle.std.specs.Prelude.{◌≡◌, ◌≤◌, All, IfErr, IfOk, MatchOption, length, string_bytes};
-ghost use Rattle.line_steps.specs.Logs.{system};
+ghost use Rattle.std.specs.Prelude.{◌≡◌, ◌≤◌, All, IfErr, IfOk, length, string_bytes};
 ghost use Rattle.line_steps.specs.Says.{IsState};
-ghost use Rattle.state_layers.specs.Answers.{AllAssumed};
-ghost use Rattle.state_layers.specs.Says.{IsUnassumed};
-ghost use Rattle.ready_specs.specs.Beside.{IsReady};
+ghost use Rattle.lined_specs.specs.Beside.{IsReadyOver, lines_of};
 ghost use Rattle.run_words.specs.Words.{JobMeets};
 ghost use Rattle.run_stages.specs.GivenStops.{GivenStopsBy};
 ghost use Rattle.run_stages.specs.declared.stop.Stop.TheVariants.{NoMemory};
 ghost use Rattle.run_texts.specs.Verdicts.{verdict_text};
 ghost use Rattle.run_reading.specs.Refusals.{all_files};
 ghost use Rattle.trace_cli.specs.Calls.{AnswersGiven, CallsGiven, asked_by, status_of_verdict};
+ghost use Rattle.trace_cli.specs.Found.{AreAllAssumed};
 
 use crate::call::Status;
 use crate::judge::{Judged, told};
-use run_stages::{Accepted, Given, Stop, all_files, read_given};
+use crate::searching::unassumed;
+use lined_verdicts::{LinedPairs, verdict_over};
+use run_stages::{Given, Stop, all_files, read_given};
 use run_texts::verdict_text;
 use run_words::Job;
-use spec_pairs::SpecPairs;
-use spec_steps::SpecSteps;
-use spec_verdicts::verdict_on;
-use state_layers::{Answer, judge};
 use state_verdicts::Verdict;
 use std::alloc::Global;
 use trace_base::{Files, Text};
@@ -44,10 +40,10 @@ pub(crate) fn judge_given<F: Files>(
 /// What is true of the given states: the first assumption that is not TRUE goes before the verdict on them.
 fn answer_given(alloc: Global, job: &Job, given: &Given) -> Result<Judged, Stop>
     requires meets { JobMeets job.now }
-    requires ready { IsReady given.now.accepted.spec given.now.accepted.log }
-    requires few_lines { length given.now.accepted.log.lines ≤ 200000 }
+    requires ready { IsReadyOver given.now.accepted.spec given.now.accepted.lined }
+    requires few_lines { lines_of given.now.accepted.lined ≤ 200000 }
     requires states { All (λ x. IsState (length given.now.accepted.spec.variables) x.state) given.now.states }
-    ensures answers { IfOk result (λ j. AnswersGiven job.now given.now.accepted.program given.now.accepted.config given.now.accepted.spec given.now.accepted.log
+    ensures answers { IfOk result (λ j. AnswersGiven job.now given.now.accepted.program given.now.accepted.config given.now.accepted.spec given.now.accepted.lined
         given.now.states j.status (string_bytes j.report)) }
     ensures stopped { IfErr result (λ stop. stop ≡ NoMemory) }
 {
@@ -58,45 +54,25 @@ fn answer_given(alloc: Global, job: &Job, given: &Given) -> Result<Judged, Stop>
     }
 }
 
-/// The answer on the first assumption that is not TRUE, or none.
-fn unassumed(alloc: Global, job: &Job, accepted: &Accepted) -> Result<Option<Answer>, Stop>
-    requires meets { JobMeets job.now }
-    requires ready { IsReady accepted.now.spec accepted.now.log }
-    requires few_lines { length accepted.now.log.lines ≤ 200000 }
-    ensures assumed { IfOk result (λ o. MatchOption o (AllAssumed (system accepted.now.spec accepted.now.log (asked_by job.now.options)))
-        (IsUnassumed (system accepted.now.spec accepted.now.log (asked_by job.now.options)))) }
-    ensures stopped { IfErr result (λ stop. stop ≡ NoMemory) }
-{
-    let steps = SpecSteps {
-        spec: &accepted.spec,
-        log: &accepted.log,
-        stutter: job.options.stutter,
-        within: job.options.within,
-        limit: job.options.limit,
-    };
-    let answer = judge(alloc, &steps)?;
-    Ok(answer)
-}
-
 /// The verdict on the given states, all assumptions being TRUE.
 fn judge_states(alloc: Global, job: &Job, given: &Given) -> Result<Judged, Stop>
     requires meets { JobMeets job.now }
-    requires ready { IsReady given.now.accepted.spec given.now.accepted.log }
-    requires few_lines { length given.now.accepted.log.lines ≤ 200000 }
+    requires ready { IsReadyOver given.now.accepted.spec given.now.accepted.lined }
+    requires few_lines { lines_of given.now.accepted.lined ≤ 200000 }
     requires states { All (λ x. IsState (length given.now.accepted.spec.variables) x.state) given.now.states }
-    requires assumed { AllAssumed (system given.now.accepted.spec given.now.accepted.log (asked_by job.now.options)) }
-    ensures answers { IfOk result (λ j. AnswersGiven job.now given.now.accepted.program given.now.accepted.config given.now.accepted.spec given.now.accepted.log
+    requires assumed { AreAllAssumed given.now.accepted.spec (asked_by job.now.options) given.now.accepted.lined }
+    ensures answers { IfOk result (λ j. AnswersGiven job.now given.now.accepted.program given.now.accepted.config given.now.accepted.spec given.now.accepted.lined
         given.now.states j.status (string_bytes j.report)) }
     ensures stopped { IfErr result (λ stop. stop ≡ NoMemory) }
 {
-    let pairs = SpecPairs {
+    let pairs = LinedPairs {
         spec: &given.accepted.spec,
-        log: &given.accepted.log,
+        lined: &given.accepted.lined,
         stutter: job.options.stutter,
         within: job.options.within,
         limit: job.options.limit,
     };
-    let verdict = verdict_on(alloc, &pairs, &given.states)?;
+    let verdict = verdict_over(alloc, &pairs, &given.states)?;
     told_verdict(alloc, given, verdict)
 }
 

@@ -1,27 +1,28 @@
-ghost use Rattle.std.specs.Prelude.{◌≡◌, ◌≤◌, ℕ, List, IfOk, IfErr, None, length, string_bytes};
+ghost use Rattle.std.specs.Prelude.{◌≡◌, ◌≤◌, ℕ, List, IfOk, IfErr, None, string_bytes};
 ghost use Rattle.run_words.specs.Line.{words_of};
 ghost use Rattle.run_words.specs.Words.{AreWords, JobMeets, MeetsRules};
 ghost use Rattle.run_stages.specs.Stops.{StopsBy};
 ghost use Rattle.run_stages.specs.declared.stop.Stop.TheVariants.{NoMemory};
 ghost use Rattle.run_texts.specs.Files.{words_text};
 ghost use Rattle.run_texts.specs.Answers.{answer_text};
-ghost use Rattle.ready_specs.specs.Beside.{IsReady};
-ghost use Rattle.trace_cli.specs.Calls.{Answers, Calls, asked_by, named_beside, named_in, status_of};
+ghost use Rattle.tied_logs.specs.declared.logs.Lined.TheVariants.{Tied};
+ghost use Rattle.tied_logs.specs.declared.logs.Logs.{Logs};
+ghost use Rattle.lined_specs.specs.Beside.{IsReadyOver, lines_of};
+ghost use Rattle.trace_cli.specs.Calls.{Answers, Calls, named_beside, named_in, status_of};
 ghost use Rattle.trace_cli.specs.Run.{IsStop, Runs};
-ghost use Rattle.why_report.specs.Searched.{IsSearched};
 
 use crate::call::Status;
 use crate::given::judge_given;
+use crate::searching::true_answer;
 use crate::smoke::judge_smoke;
 use crate::whole::told_whole;
 use run_stages::{Accepted, Stop, all_files, read_all};
 use run_texts::{Labels, answer_text, words_text};
 use run_words::{Job, Words, read_words};
-use spec_steps::{SpecSteps, small_law};
-use state_layers::{Answer, Searched, search_entries};
+use state_layers::Answer;
 use std::alloc::Global;
+use tied_logs::Lined;
 use tla_ast::{Config, Program};
-use tla_core::State;
 use tla_terms::Spec;
 use trace_base::Files;
 
@@ -86,44 +87,39 @@ fn judge_job<F: Files>(alloc: Global, job: &Job, files: &mut F) -> Result<Judged
     answer(alloc, job, accepted)
 }
 
-/// What is true of the specification beside the log.
+/// What is true of the specification beside the lines of its logs.
 fn answer(alloc: Global, job: &Job, accepted: Accepted) -> Result<Judged, Stop>
     requires meets { JobMeets job.now }
-    requires ready { IsReady accepted.spec accepted.log }
-    requires few_lines { length accepted.log.lines ≤ 200000 }
-    ensures answers { IfOk result (λ j. Answers job.now accepted.program accepted.config accepted.spec accepted.log j.status (string_bytes j.report)) }
+    requires ready { IsReadyOver accepted.spec accepted.lined }
+    requires few_lines { lines_of accepted.lined ≤ 200000 }
+    ensures answers { IfOk result (λ j. Answers job.now accepted.program accepted.config accepted.spec accepted.lined j.status (string_bytes j.report)) }
     ensures stopped { IfErr result (λ stop. stop ≡ NoMemory) }
 {
-    let searched = search_log(alloc, job, &accepted)?;
     match (job.why, job.near) {
-        (None, None) => told_alone(alloc, job, accepted, searched),
-        _ => told_whole(alloc, job, &accepted, searched),
+        (None, None) => told_alone(alloc, job, accepted),
+        _ => told_with_more(alloc, job, &accepted),
     }
 }
 
-/// The status and the report of an answer alone, where nothing is asked for behind it. The log is let go before the report is made, which may be as large.
-fn told_alone(
-    alloc: Global,
-    job: &Job,
-    accepted: Accepted,
-    searched: Searched<State>,
-) -> Result<Judged, Stop>
+/// The status and the report of an answer alone, where nothing is asked for behind it. The lines are let go before the report is made, which may be as large.
+fn told_alone(alloc: Global, job: &Job, accepted: Accepted) -> Result<Judged, Stop>
+    requires meets { JobMeets job.now }
+    requires ready { IsReadyOver accepted.spec accepted.lined }
+    requires few_lines { lines_of accepted.lined ≤ 200000 }
     requires unasked { job.now.why ≡ None }
     requires no_near { job.now.near ≡ None }
-    requires searched { IsSearched accepted.spec accepted.log (asked_by job.now.options) searched.answer searched.last.items }
-    ensures answers { IfOk result (λ j. Answers job.now accepted.program accepted.config accepted.spec accepted.log j.status (string_bytes j.report)) }
+    ensures answers { IfOk result (λ j. Answers job.now accepted.program accepted.config accepted.spec accepted.lined j.status (string_bytes j.report)) }
     ensures stopped { IfErr result (λ stop. stop ≡ NoMemory) }
 {
-    let Searched { answer, last } = searched;
-    drop(last);
+    let answer = true_answer(alloc, job, &accepted)?;
+    let lines = line_count(&accepted);
     let Accepted {
         program,
         config,
         spec,
-        log,
+        lined,
     } = accepted;
-    let lines = log.lines.len();
-    drop(log);
+    drop(lined);
     let heading = Heading {
         program: &program,
         config: &config,
@@ -133,28 +129,43 @@ fn told_alone(
     told_beside(alloc, job, heading, &answer)
 }
 
-/// The answer of a search for what explains the log, and what the lines that are explained lead to, where that is not all of them.
-pub(crate) fn search_log(
-    alloc: Global,
-    job: &Job,
-    accepted: &Accepted,
-) -> Result<Searched<State>, Stop>
+/// The status and the report of an answer with what is asked for behind it, which is told beside lines in one order alone.
+fn told_with_more(alloc: Global, job: &Job, accepted: &Accepted) -> Result<Judged, Stop>
     requires meets { JobMeets job.now }
-    requires ready { IsReady accepted.now.spec accepted.now.log }
-    requires few_lines { length accepted.now.log.lines ≤ 200000 }
-    ensures searched { IfOk result (λ searched. IsSearched accepted.now.spec accepted.now.log (asked_by job.now.options) searched.answer searched.last.items) }
+    requires ready { IsReadyOver accepted.now.spec accepted.now.lined }
+    requires few_lines { lines_of accepted.now.lined ≤ 200000 }
+    ensures answers { IfOk result (λ j. Answers job.now accepted.now.program accepted.now.config accepted.now.spec accepted.now.lined j.status (string_bytes j.report)) }
     ensures stopped { IfErr result (λ stop. stop ≡ NoMemory) }
 {
-    let steps = SpecSteps {
-        spec: &accepted.spec,
-        log: &accepted.log,
-        stutter: job.options.stutter,
-        within: job.options.within,
-        limit: job.options.limit,
-    };
-    small_law(&steps);
-    let searched = search_entries(alloc, &steps)?;
-    Ok(searched)
+    match &accepted.lined {
+        Lined::Sequence(log) => told_whole(alloc, job, accepted, log),
+        Lined::Tied(_) => told_of_ties(alloc, job, accepted),
+    }
+}
+
+/// The status and the report of an answer of logs whose lines may stand in several orders.
+fn told_of_ties(alloc: Global, job: &Job, accepted: &Accepted) -> Result<Judged, Stop>
+    requires meets { JobMeets job.now }
+    requires ready { IsReadyOver accepted.now.spec accepted.now.lined }
+    requires few_lines { lines_of accepted.now.lined ≤ 200000 }
+    requires ties { (logs : Logs) × (accepted.now.lined ≡ Tied logs) }
+    ensures answers { IfOk result (λ j. Answers job.now accepted.now.program accepted.now.config accepted.now.spec accepted.now.lined j.status (string_bytes j.report)) }
+    ensures stopped { IfErr result (λ stop. stop ≡ NoMemory) }
+{
+    let answer = true_answer(alloc, job, accepted)?;
+    told(alloc, job, accepted, &answer)
+}
+
+/// How many lines all logs have.
+fn line_count(accepted: &Accepted) -> usize
+    requires ready { IsReadyOver accepted.now.spec accepted.now.lined }
+    requires few_lines { lines_of accepted.now.lined ≤ 200000 }
+    ensures { result ≡ lines_of accepted.now.lined }
+{
+    match &accepted.lined {
+        Lined::Sequence(log) => log.lines.len(),
+        Lined::Tied(logs) => logs.count() as usize,
+    }
 }
 
 /// What a report tells of what was accepted, beside the answer: the lines of the log are only counted.
@@ -173,16 +184,18 @@ pub(crate) fn told(
     accepted: &Accepted,
     answer: &Answer,
 ) -> Result<Judged, Stop>
+    requires ready { IsReadyOver accepted.now.spec accepted.now.lined }
+    requires few_lines { lines_of accepted.now.lined ≤ 200000 }
     ensures status { IfOk result (λ j. j.status ≡ status_of answer.now) }
     ensures report { IfOk result (λ j. string_bytes j.report
-        ≡ answer_text (named_in job.now accepted.now.program accepted.now.config accepted.now.spec accepted.now.log) answer.now) }
+        ≡ answer_text (named_in job.now accepted.now.program accepted.now.config accepted.now.spec accepted.now.lined) answer.now) }
     ensures stopped { IfErr result (λ stop. stop ≡ NoMemory) }
 {
     let heading = Heading {
         program: &accepted.program,
         config: &accepted.config,
         spec: &accepted.spec,
-        lines: accepted.log.lines.len(),
+        lines: line_count(accepted),
     };
     told_beside(alloc, job, heading, answer)
 }

@@ -4,6 +4,7 @@
 mod call;
 mod given;
 mod judge;
+mod searching;
 mod smoke;
 mod whole;
 

@@ -1,28 +1,24 @@
-ghost use Rattle.std.specs.Prelude.{◌≡◌, ◌≢◌, ◌≤◌, IfErr, IfOk, MatchOption, None, length, string_bytes};
-ghost use Rattle.line_steps.specs.Logs.{system};
-ghost use Rattle.state_layers.specs.Answers.{IsAnswer};
+ghost use Rattle.std.specs.Prelude.{◌≡◌, ◌≢◌, ◌≤◌, IfErr, IfOk, MatchOption, None, string_bytes};
 ghost use Rattle.state_layers.specs.declared.answer.Answer.TheVariants.{Explained};
-ghost use Rattle.state_verdicts.specs.Laws.{HaveOne};
-ghost use Rattle.ready_specs.specs.Beside.{IsReady, asked};
-ghost use Rattle.spec_pairs.specs.Filling.{pair_asks};
+ghost use Rattle.lined_specs.specs.Beside.{AreTellable, IsReadyOver, lines_of};
 ghost use Rattle.run_words.specs.Words.{JobMeets};
 ghost use Rattle.run_stages.specs.declared.stop.Stop.TheVariants.{NoMemory};
 ghost use Rattle.run_texts.specs.Smoke.{smoke_text};
 ghost use Rattle.trace_cli.specs.Calls.{asked_by, status_of};
+ghost use Rattle.trace_cli.specs.Found.{IsFound};
 ghost use Rattle.trace_cli.specs.Smoke.{IsSmokeStop, SmokeTests};
 ghost use Rattle.trace_cli.specs.Tested.{IsTested};
 
 use crate::call::Status;
-use crate::judge::{Judged, search_log, told};
-use explained_laws::explained_law;
+use crate::judge::{Judged, told};
+use crate::searching::true_answer;
+use lined_verdicts::{LinedPairs, lined_laws, verdict_over};
 use ring_files::{ring_files, ring_job};
 use run_stages::{Accepted, Stop, read_all};
 use run_texts::smoke_text;
 use run_words::Job;
-use spec_pairs::SpecPairs;
-use spec_verdicts::verdict_on;
 use state_layers::Answer;
-use state_verdicts::{Verdict, one_law};
+use state_verdicts::Verdict;
 use std::alloc::Global;
 use tla_core::Behaviour;
 
@@ -41,16 +37,16 @@ pub(crate) fn judge_smoke(alloc: Global, lines: u32) -> Result<Judged, Stop>
 /// What is true of the module beside its log.
 fn answer_smoke(alloc: Global, lines: u32, job: &Job, accepted: &Accepted) -> Result<Judged, Stop>
     requires meets { JobMeets job.now }
-    requires ready { IsReady accepted.now.spec accepted.now.log }
-    requires few_lines { length accepted.now.log.lines ≤ 200000 }
+    requires ready { IsReadyOver accepted.now.spec accepted.now.lined }
+    requires few_lines { lines_of accepted.now.lined ≤ 200000 }
+    requires one_order { AreTellable accepted.now.lined }
     requires unasked { job.now.why ≡ None }
     requires no_near { job.now.near ≡ None }
-    ensures tested { IfOk result (λ j. IsTested lines job.now accepted.now.program accepted.now.config accepted.now.spec accepted.now.log j.status
+    ensures tested { IfOk result (λ j. IsTested lines job.now accepted.now.program accepted.now.config accepted.now.spec accepted.now.lined j.status
         (string_bytes j.report)) }
     ensures stopped { IfErr result (λ stop. stop ≡ NoMemory) }
 {
-    let searched = search_log(alloc, job, accepted)?;
-    let answer = searched.answer;
+    let answer = true_answer(alloc, job, accepted)?;
     match explaining(&answer) {
         Some((behaviour, widest)) => told_valid(alloc, lines, job, accepted, behaviour, widest),
         None => told(alloc, job, accepted, &answer),
@@ -84,35 +80,28 @@ fn told_valid(
     widest: u32,
 ) -> Result<Judged, Stop>
     requires meets { JobMeets job.now }
-    requires ready { IsReady accepted.now.spec accepted.now.log }
-    requires few_lines { length accepted.now.log.lines ≤ 200000 }
-    requires explained { IsAnswer (system accepted.now.spec accepted.now.log (asked_by job.now.options)) (Explained behaviour.now widest) }
-    ensures tested { IfOk result (λ j. IsTested lines job.now accepted.now.program accepted.now.config accepted.now.spec accepted.now.log j.status
+    requires ready { IsReadyOver accepted.now.spec accepted.now.lined }
+    requires few_lines { lines_of accepted.now.lined ≤ 200000 }
+    requires one_order { AreTellable accepted.now.lined }
+    requires explained { IsFound accepted.now.spec (asked_by job.now.options) accepted.now.lined (Explained behaviour.now widest) }
+    ensures tested { IfOk result (λ j. IsTested lines job.now accepted.now.program accepted.now.config accepted.now.spec accepted.now.lined j.status
         (string_bytes j.report)) }
     ensures stopped { IfErr result (λ stop. stop ≡ NoMemory) }
 {
-    let pairs = SpecPairs {
+    let pairs = LinedPairs {
         spec: &accepted.spec,
-        log: &accepted.log,
+        lined: &accepted.lined,
         stutter: job.options.stutter,
         within: job.options.within,
         limit: job.options.limit,
     };
-    explained_law(&pairs);
-    one_verdict(&pairs);
-    let verdict = verdict_on(alloc, &pairs, behaviour)?;
+    lined_laws(&accepted.spec, &accepted.lined);
+    let verdict = verdict_over(alloc, &pairs, behaviour)?;
     match verdict {
         Verdict::Valid => tell_smoke(alloc, lines, accepted, behaviour, widest),
         Verdict::Invalid { .. } => unreachable!(),
         Verdict::Fault { .. } => unreachable!(),
     }
-}
-
-/// States have one verdict.
-fn one_verdict(pairs: &SpecPairs<'_>)
-    ensures { HaveOne (pair_asks pairs.now.spec.now pairs.now.log.now (asked pairs.now.stutter pairs.now.within pairs.now.limit)) }
-{
-    one_law(pairs);
 }
 
 /// The status and the report of the smoke test, the states being valid.

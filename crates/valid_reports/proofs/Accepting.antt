@@ -10,16 +10,22 @@ use Rattle.wide_modules.specs.declared.unread.Unread.{Unread}
 use Rattle.tla_terms.specs.declared.spec.Spec.{Spec}
 use Rattle.tla_levels.specs.Resolved.{Resolved, accepted}
 use Rattle.specification_names.proofs.Readings.{resolved_with}
-use Rattle.path_updates.specs.declared.line.Log.{Log}
+use Rattle.line_steps.specs.Logs.{Asked}
+use Rattle.tied_logs.specs.declared.logs.Lined.{Lined}
+use Rattle.tied_logs.specs.declared.logs.Lined.TheVariants.{Sequence, Tied}
+use Rattle.tla_core.specs.declared.state.Shown.{Shown}
+use Rattle.state_layers.specs.declared.answer.Answer.TheVariants.{Explained}
+use Rattle.lined_specs.specs.Answers.{AreAssumedOf, IsTrueOf}
 use Rattle.state_verdicts.specs.declared.verdict.Verdict.TheVariants.{Valid}
 use Rattle.run_words.specs.declared.job.Job.{Job}
 use Rattle.run_reading.specs.Reaches.{AllRead, Reaches, configured, given, has_forms, logged, needs_no_configuration, passes, reads_configuration, reads_log, resolved, resolves}
 use Rattle.run_reading.specs.Texts.{LogsRead}
 use Rattle.unchecked_laws.specs.Laws.{HasNoFeed, UncheckedAreLines}
 use Rattle.wide_reading.specs.Laws.{PassedAreLines}
-use Rattle.printed_laws.specs.Laws.{IsPlaced, PrintedIsValid}
+use Rattle.printed_laws.specs.Laws.{ArePlaced, PrintedIsValid}
 use Rattle.trace_cli.specs.Calls.{asked_by, is_answered_given, is_judged, named_in}
 use Rattle.valid_reports.specs.Laws.{IsCheckedValid, PrintsValid}
+use Rattle.valid_reports.proofs.Searching.{all_read_so, assumed_so, judged_so}
 
 -- What is known of the texts that the report has behind NOT CHECKED: those of a configuration that is read are lines, and what is passed over adds lines.
 pub record LinesKnown : Type 0 where
@@ -49,15 +55,23 @@ logged_lines : (holds : Option (List File)) (job : Job) (p : Program) (c : Confi
 logged_lines holds job p c s _ _ law (has_forms _ _ _ reaches whole) = resolved_lines holds job p c s law reaches
 logged_lines holds job p c s _ names law (reads_log _ _ _ read name _ text f reaches log says) = logged_lines holds job p c s read (name ∷ names) law reaches
 
-pub accepted_lines : (holds : Option (List File)) (job : Job) (p : Program) (c : Config) (s : Spec) (log : Log) → LinesKnown → AllRead holds job p c s log → All HasNoFeed s.unchecked
-accepted_lines holds job p c s log law all = logged_lines holds job p c s all.read _ law all.reaches
+pub accepted_lines : (holds : Option (List File)) (job : Job) (p : Program) (c : Config) (s : Spec) (lined : Lined) → LinesKnown → AllRead holds job p c s lined → All HasNoFeed s.unchecked
+accepted_lines holds job p c s lined law all = logged_lines holds job p c s all.read _ law all.reaches
 
-pub prints_valid : (job : Job) (p : Program) (c : Config) (s : Spec) (log : Log) → PrintedIsValid s log (asked_by job.options) → All HasNoFeed s.unchecked → All IsUtf8 s.variables
-    → All IsPlaced log.lines → PrintsValid job p c s log
-prints_valid job p c s log law lines texts places w widest a =
-    law (named_in job p c s log) w widest (record { variables = refl; texts = texts; unchecked = lines; places = places }) a
+pub prints_valid : (job : Job) (p : Program) (c : Config) (s : Spec) (lined : Lined) → PrintedIsValid s lined (asked_by job.options) → All HasNoFeed s.unchecked → All IsUtf8 s.variables
+    → ArePlaced lined → PrintsValid job p c s lined
+prints_valid job p c s lined law lines texts places w widest a =
+    law (named_in job p c s lined) w widest (record { variables = refl; texts = texts; unchecked = lines; places = places }) a
 
-pub is_checked_valid : (job : Job) (p : Program) (c : Config) (s : Spec) (log : Log) → PrintsValid job p c s log → IsCheckedValid job p c s log
-is_checked_valid job p c s log valid w widest a holds before now witness all has =
+-- where the lines are explained each assumption is TRUE
+explained_assumed : (s : Spec) (lined : Lined) (asked : Asked) (w : List Shown) (widest : ℕ) → IsTrueOf s asked lined (Explained w widest) → AreAssumedOf s asked lined
+explained_assumed s (Sequence log) asked w widest a = a.0
+explained_assumed s (Tied logs) asked w widest a = a.0
+
+pub is_checked_valid : (job : Job) (p : Program) (c : Config) (s : Spec) (lined : Lined) → PrintsValid job p c s lined → IsCheckedValid job p c s lined
+is_checked_valid job p c s lined valid w widest a limit why near holds before now witness all has =
     let v = valid w widest a in
-    is_answered_given p c s log w _ _ (record { all_read = all; text = _; has_text = has; says = v.0 }) (is_judged Valid a.0 v.1 refl refl)
+    let read = all_read_so limit why near holds job p c s lined all in
+    let assumed = assumed_so s lined (asked_by job.options) limit (explained_assumed s lined (asked_by job.options) w widest a) in
+    let judged = judged_so s lined (asked_by job.options) limit w v.1 in
+    is_answered_given p c s lined w _ _ (record { all_read = read; text = _; has_text = has; says = v.0 }) (is_judged Valid assumed judged refl refl)

@@ -1,2 +1,3 @@
 mod UpTo
 mod Accepting
+pub mod Searching

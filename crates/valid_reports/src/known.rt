@@ -1,9 +1,10 @@
 //! What the types of names and of lines tell a proof.
 
 ghost use Rattle.std.specs.Prelude.{All, IsUtf8};
-ghost use Rattle.printed_laws.specs.Laws.{IsPlaced};
+ghost use Rattle.printed_laws.specs.Laws.{ArePlaced, IsPlaced};
 
-use path_updates::{Line, Log};
+use path_updates::{Line, LineList};
+use tied_logs::Lined;
 use trace_base::{Names, Text};
 
 /// That names are UTF-8.
@@ -22,10 +23,21 @@ fn are_texts(texts: &[Text])
 }
 
 /// That each line has its place: numbers of 32 bits.
-pub(crate) fn known_places(log: &Log)
-    ensures { All IsPlaced log.now.lines }
+pub(crate) fn known_places(lined: &Lined)
+    ensures { ArePlaced lined.now }
 {
-    are_placed(log.lines.items());
+    match lined {
+        Lined::Sequence(log) => are_placed(log.lines.items()),
+        Lined::Tied(logs) => all_placed(logs.files.as_slice()),
+    }
+}
+
+fn all_placed(files: &[LineList])
+    ensures { All (λ lines. All IsPlaced lines) files.now }
+{
+    for lines in files {
+        are_placed(lines.items());
+    }
 }
 
 fn are_placed(lines: &[Line])

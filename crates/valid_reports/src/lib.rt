@@ -1,4 +1,4 @@
-//! The law that what `validate` prints of a log that is explained is valid, as `check` reads it again.
+//! The law that what `validate` prints of logs that are explained is valid, as `check` reads it again.
 #![tactic(auto)]
 
 mod known;

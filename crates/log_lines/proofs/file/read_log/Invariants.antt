@@ -3,8 +3,8 @@ use Rattle.log_lines.specs.Files.{first_line}
 use Rattle.log_lines.proofs.WalkLemmas.{IsWalked}
 use Rattle.log_lines.proofs.file.read_log.Given as goal
 
-abbrev pub invariant-loop-walked : goal.invariant-loop-walked
-invariant-loop-walked g l = IsWalked (g.N.SpecNames.setting l.names) (first_line l.fn.file l.fn.many l.fn.room) l.fn.bytes l.walk l.rest
+abbrev pub invariant-loop-scratch : goal.invariant-loop-scratch
+invariant-loop-scratch g l = IsWalked (g.N.SpecNames.setting l.names) (first_line l.fn.file l.fn.many l.fn.room) l.fn.bytes l.walk l.rest
 
-abbrev pub decreases-loop-walked : goal.decreases-loop-walked
-decreases-loop-walked g l = length l.rest
+abbrev pub decreases-loop-scratch : goal.decreases-loop-scratch
+decreases-loop-scratch g l = length l.rest

@@ -17,7 +17,7 @@ returns-clause-read c = read_not_refused (record {
     plain_form = c.configuration_laws.ensures.plain_form;
     outcome = c.outcome_laws.ensures.one;
     files = c.alike_logs_laws.ensures.files;
-    logs = c.alike_logs_laws.ensures.logs;
+    lines = c.alike_lined_laws.ensures.lines;
     states = c.state_laws.ensures.file;
   };
   forms = record {
@@ -48,7 +48,7 @@ returns-clause-given c = given_not_refused (record {
     plain_form = c.configuration_laws.ensures.plain_form;
     outcome = c.outcome_laws.ensures.one;
     files = c.alike_logs_laws.ensures.files;
-    logs = c.alike_logs_laws.ensures.logs;
+    lines = c.alike_lined_laws.ensures.lines;
     states = c.state_laws.ensures.file;
   };
   forms = record {

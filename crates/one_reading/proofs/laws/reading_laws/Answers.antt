@@ -16,7 +16,7 @@ returns-clause-reading c = reading_is_one (record {
   plain_form = c.configuration_laws.ensures.plain_form;
   outcome = c.outcome_laws.ensures.one;
   files = c.alike_logs_laws.ensures.files;
-  logs = c.alike_logs_laws.ensures.logs;
+  lines = c.alike_lined_laws.ensures.lines;
   states = c.state_laws.ensures.file;
 })
 
@@ -35,6 +35,6 @@ returns-clause-given c = given_is_one (record {
   plain_form = c.configuration_laws.ensures.plain_form;
   outcome = c.outcome_laws.ensures.one;
   files = c.alike_logs_laws.ensures.files;
-  logs = c.alike_logs_laws.ensures.logs;
+  lines = c.alike_lined_laws.ensures.lines;
   states = c.state_laws.ensures.file;
 })

@@ -10,14 +10,14 @@ returns-in_err-so-clause-stopped g c =
     err_later (g.F.Files.holds c.args.files.now) (g.F.Files.holds c.loop-name.files) (g.F.Files.faults c.args.files.now) (g.F.Files.faults c.loop-name.files) (g.F.Files.faults c.read_next.new.files)
     c.args.course.job.now c.from_residual-in_err-so.result c.loop-name.invariant.0 c.loop-name.invariant.1 q
 
-pub log_of-requires-clause-none_falls : goal.log_of-requires-clause-none_falls
-log_of-requires-clause-none_falls g c =
+pub lined_of-requires-clause-none_falls : goal.lined_of-requires-clause-none_falls
+lined_of-requires-clause-none_falls g c =
     none_falls (g.F.Files.holds c.args.files.now) c.args.course c.loop-name.so _ c.loop-name.invariant.3
 
-pub log_of-requires-clause-few_lines : goal.log_of-requires-clause-few_lines
-log_of-requires-clause-few_lines g c =
+pub lined_of-requires-clause-few_lines : goal.lined_of-requires-clause-few_lines
+lined_of-requires-clause-few_lines g c =
     are_few (g.F.Files.holds c.args.files.now) c.args.course c.loop-name.so _ c.loop-name.invariant.3
 
 pub returns-clause-few : goal.returns-clause-few
 returns-clause-few g c =
-    few_lines (g.F.Files.holds c.args.files.now) c.args.course c.loop-name.so _ c.loop-name.invariant.3 c.in_ok-log.log c.in_ok-log.ensures
+    few_lines (g.F.Files.holds c.args.files.now) c.args.course c.loop-name.so _ c.loop-name.invariant.3 _ c.in_ok-lined.lined c.in_ok-lined.ensures.lined

@@ -7,7 +7,7 @@ use Rattle.run_reading.specs.Reaches.{Reaches, given, has_forms}
 use Rattle.run_reading.specs.Refusals.{all_files}
 use Rattle.run_stages.specs.Resolving.{IsUnresolved}
 use Rattle.run_stages.specs.Stops.{RefusedWith, StopsBy}
-use Rattle.run_stages.proofs.Reached.{files_ready, one_form, resolution_in_order, resolution_reached, spelled}
+use Rattle.run_stages.proofs.Reached.{files_ready, one_form, ready_over, resolution_in_order, resolution_reached, spelled}
 use Rattle.run_stages.proofs.Stopping.{err_later, err_mapped, forms_stop, unresolved_stop}
 use Rattle.run_stages.proofs.reading.read_all.Goals as goal
 
@@ -66,11 +66,11 @@ read_logs-requires-clause-reaches g c =
     has_forms r.program r.config r.spec
     (resolution_reached (g.F.Files.holds c.read_config.new.files) c.args.job.now m.program m.notes k r reaches c.in_ok-resolved.ensures.accepted) c.in_ok-test_forms.ensures.accepted
 
-pub returns-in_err-log-clause-stopped : goal.returns-in_err-log-clause-stopped
-returns-in_err-log-clause-stopped g c =
-    let q : IfErr c.from_residual-in_err-log.result (StopsBy (g.F.Files.holds c.read_config.new.files) (g.F.Files.faults c.read_config.new.files) (g.F.Files.faults c.read_logs.new.files) c.args.job.now) = search (rules, c.from_residual-in_err-log.ensures, c.in_err-log.ensures.stopped, c.in_err-log.is) in
+pub returns-in_err-lined-clause-stopped : goal.returns-in_err-lined-clause-stopped
+returns-in_err-lined-clause-stopped g c =
+    let q : IfErr c.from_residual-in_err-lined.result (StopsBy (g.F.Files.holds c.read_config.new.files) (g.F.Files.faults c.read_config.new.files) (g.F.Files.faults c.read_logs.new.files) c.args.job.now) = search (rules, c.from_residual-in_err-lined.ensures, c.in_err-lined.ensures.stopped, c.in_err-lined.is) in
     err_later (g.F.Files.holds c.args.files.now) (g.F.Files.holds c.read_config.new.files) (g.F.Files.faults c.args.files.now) (g.F.Files.faults c.read_config.new.files)
-    (g.F.Files.faults c.read_logs.new.files) c.args.job.now c.from_residual-in_err-log.result (c.read_config.ensures.same ∙ c.load_program.ensures.same)
+    (g.F.Files.faults c.read_logs.new.files) c.args.job.now c.from_residual-in_err-lined.result (c.read_config.ensures.same ∙ c.load_program.ensures.same)
     (omega (arith, c.load_program.ensures.later, c.read_config.ensures.later)) q
 
 pub returns-clause-ready : goal.returns-clause-ready
@@ -79,7 +79,7 @@ returns-clause-ready g c =
     let r = c.in_ok-resolved.resolved in
     let is = resolution_in_order (g.F.Files.holds c.load_program.new.files) c.args.job.now m.program m.notes c.in_ok-config.config r
     c.wide_load_laws.ensures.well_formed c.passing_laws.ensures.well_formed c.resolved_laws.ensures.in_order c.in_ok-config.ensures.accepted c.in_ok-resolved.ensures.accepted in
-    let read = c.in_ok-log.ensures.accepted in
+    let read = c.in_ok-lined.ensures.accepted in
     let files = files_ready (g.F.Files.holds c.read_config.new.files) c.args.job.now r.program r.config r.spec read.read [] c.logs_are_ready.ensures.files is read.reaches in
-    let log = c.logs_are_ready.ensures.together r.spec read.read.found c.in_ok-log.log is files read.merged c.known_values.ensures in
-    record { spec = c.in_ok-test_forms.ensures.ready; first = log.init; lines = log.lines }
+    let lined = c.logs_are_ready.ensures.lined r.spec c.args.job.now.ties read.read.found c.in_ok-lined.lined is files read.lines c.known_values_over.ensures in
+    ready_over r.spec c.in_ok-lined.lined c.in_ok-test_forms.ensures.ready lined c.in_ok-lined.ensures.made

@@ -1,4 +1,4 @@
-use Rattle.std.proofs.Common.{◌≡◌, ◌∙◌, sym, eqb-true}
+use Rattle.std.proofs.Common.{◌∙◌, sym, eqb-true}
 use Rattle.run_words.proofs.ReadLaws.{many_logs, no_logs, no_words}
 use Rattle.run_words.proofs.read.files.Goals as goal
 

@@ -1,6 +1,7 @@
 use Rattle.std.proofs.Common.{◌<◌, length, arith, refl}
 use Rattle.std.proofs.lemmas.Option.{slice_get_read}
 use Rattle.state_layers.proofs.Grow.{node_layer, part_step, part_are, together, growing_nil, growing_step, grown}
+use Rattle.state_layers.proofs.LayerLaws.{layer_moved}
 use Rattle.state_layers.specs.Repeats.{lent}
 use Rattle.state_layers.proofs.RepeatLaws.{gone_more, gone_nil, growing_skip}
 use Rattle.state_layers.proofs.growth.grow.Goals as goal
@@ -16,6 +17,11 @@ expand-requires-clause-reached g c =
     let lt : c.loop-index.index < length c.args.nodes.now = omega arith in
     let at = slice_get_read c.args.nodes.now _ c.loop-index.index c.index-nodes-index.result refl lt c.index-nodes-index.is in
     node_layer _ _ _ c.args.nodes.now c.requires.kept c.loop-index.index c.index-nodes-index.result at
+
+pub check_size-requires-clause-layer : goal.check_size-requires-clause-layer
+check_size-requires-clause-layer g c =
+    rw (c.line_after_move-line.ensures, c.silents_after_move-silents.ensures)
+    (layer_moved (g.S.Steps.system c.args.steps.now) c.args.step c.requires.small.some c.requires.opens)
 
 pub check_size-requires-clause-part : goal.check_size-requires-clause-part
 check_size-requires-clause-part g c =

@@ -6,7 +6,7 @@ pub returns-then-len-limit-clause-stopped : goal.returns-then-len-limit-clause-s
 returns-then-len-limit-clause-stopped g c = first_limit (g.S.Steps.system c.args.steps.now) c.args.list.items _ c.requires.listed (omega arith)
 
 pub returns-then-len-total-clause-stopped : goal.returns-then-len-total-clause-stopped
-returns-then-len-total-clause-stopped g c = first_total (g.S.Steps.system c.args.steps.now) c.args.list.items _ c.requires.listed (omega arith)
+returns-then-len-total-clause-stopped g c = first_total (g.S.Steps.system c.args.steps.now) c.args.list.items c.requires.small.some c.requires.listed (omega arith)
 
 pub returns-clause-first : goal.returns-clause-first
 returns-clause-first g c = rw c.in_ok-first_items.ensures (kept_first (g.S.Steps.system c.args.steps.now) c.args.list.items c.requires.clear c.requires.listed (omega arith) (omega arith))

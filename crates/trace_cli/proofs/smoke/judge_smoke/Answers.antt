@@ -4,7 +4,7 @@ use Rattle.run_stages.specs.Stops.{StopsBy}
 use Rattle.run_stages.specs.declared.stop.Stop.TheVariants.{NoMemory}
 use Rattle.run_stages.proofs.Stopping.{err_mapped}
 use Rattle.trace_cli.specs.Smoke.{IsSmokeStop}
-use Rattle.trace_cli.proofs.SmokeLemmas.{smoke_stop, smoke_tested}
+use Rattle.trace_cli.proofs.SmokeLemmas.{ring_in_order, smoke_stop, smoke_tested}
 use Rattle.trace_cli.proofs.smoke.judge_smoke.Goals as goal
 
 pub returns-in_err-accepted-clause-stopped : goal.returns-in_err-accepted-clause-stopped
@@ -13,6 +13,11 @@ returns-in_err-accepted-clause-stopped c =
     let by = StopsBy (Some c.in_ok-files.files.files) 0 0 c.in_ok-job.job in
     let stopped : IfErr r.result by = search (rules, r.ensures, c.in_err-accepted.ensures.stopped, c.in_err-accepted.is) in
     err_mapped by (IsSmokeStop c.args.lines) r.result (λ stop why. smoke_stop _ _ _ stop c.in_ok-files.ensures c.in_ok-job.ensures.job why) stopped
+
+pub answer_smoke-requires-clause-one_order : goal.answer_smoke-requires-clause-one_order
+answer_smoke-requires-clause-one_order c =
+    let a = c.in_ok-accepted.accepted in
+    ring_in_order c.args.lines _ _ a.program a.config a.spec a.lined c.in_ok-job.ensures.job c.in_ok-accepted.ensures.accepted
 
 pub answer_smoke-requires-clause-unasked : goal.answer_smoke-requires-clause-unasked
 answer_smoke-requires-clause-unasked c = ap (λ (job : Job). job.why) c.in_ok-job.ensures.job

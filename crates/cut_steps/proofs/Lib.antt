@@ -1,0 +1,9 @@
+pub mod Adding
+pub mod Beginning
+pub mod Below
+pub mod Placed
+pub mod Reaching
+pub mod Small
+pub mod Taking
+pub mod Told
+pub mod Untied

@@ -1,0 +1,4 @@
+pub mod Assumed
+pub mod Entries
+pub mod Listing
+pub mod Spoken

@@ -1,0 +1,7 @@
+//! Values of JSON read from a text token by token, so that the room for reading is kept from text to text.
+#![tactic(auto)]
+
+mod numbers;
+mod reading;
+
+pub use reading::{Unread, read_value};

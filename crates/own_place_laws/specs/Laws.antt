@@ -1,0 +1,14 @@
+-- Where the lines of several logs stand.
+use Rattle.std.specs.Prelude.{List, Option}
+use Rattle.trace_base.specs.Device.{File}
+use Rattle.tla_ast.specs.declared.config.Config.{Config}
+use Rattle.tla_ast.specs.declared.module.Program.{Program}
+use Rattle.tla_terms.specs.declared.spec.Spec.{Spec}
+use Rattle.tied_logs.specs.declared.logs.Lined.{Lined}
+use Rattle.lined_specs.specs.Beside.{AreTellable}
+use Rattle.run_words.specs.declared.job.Job.{Job}
+use Rattle.run_reading.specs.Reaches.{AllRead}
+
+-- No two lines of logs that are read, and whose lines may stand in several orders, have one place.
+abbrev pub ReadAreTellable : Type 0
+ReadAreTellable = (holds : Option (List File)) (job : Job) (p : Program) (c : Config) (s : Spec) (lined : Lined) → AllRead holds job p c s lined → AreTellable lined
