@@ -1,5 +1,6 @@
 """What several small logs with clocks come to beside the module Steps, by the words alone: any line may be the next that is the next of its log, where no line
-that is left has a smaller clock. Without `--ties` it is that of the least clock, and of equal clocks that of the first log."""
+that is left has a smaller clock. Without `--ties` it is that of the least clock, and of equal clocks that of the first log. Where the clocks are objects, any line may
+be the next whose clock is above that of no line that is left, with the word and without it."""
 import json
 
 MODULE = """---- MODULE Steps ----
@@ -33,6 +34,28 @@ def made(chance):
     return logs
 
 
+def made_of_nodes(chance):
+    """The same with clocks of nodes: each log is that of a node, which at some lines has heard of the others' lines so far."""
+    logs = [[] for _ in range(chance.randint(2, 4))]
+    known = [[0] * len(logs) for _ in logs]
+    for _ in range(chance.randint(1, 7)):
+        file, other = chance.randrange(len(logs)), chance.randrange(len(logs))
+        if chance.random() < 0.4:
+            known[file] = list(map(max, known[file], known[other]))
+        known[file][file] += 1
+        clock = {f"n{node}": number for node, number in enumerate(known[file]) if number or chance.random() < 0.3}
+        logs[file].append((clock, chance.choices(list(KINDS), [4, 2, 3, 1, 1])[0], chance.randint(0, 3)))
+    return logs
+
+
+def follows(clock, other):
+    """Whether the clock is above the other."""
+    if not isinstance(clock, dict):
+        return clock > other
+    pairs = [(clock.get(node, 0), other.get(node, 0)) for node in {*clock, *other}]
+    return all(here >= there for here, there in pairs) and any(here > there for here, there in pairs)
+
+
 def text_of(log):
     return "".join(json.dumps({"clock": clock, **KINDS[kind][1](number)}) + "\n" for clock, kind, number in log)
 
@@ -41,9 +64,9 @@ def ready(logs, cut, ties):
     """The logs whose next line may be the next of all, where so many lines of each are taken."""
     left = [(log[taken][0], file) for file, (log, taken) in enumerate(zip(logs, cut)) if taken < len(log)]
     behind = [line[0] for log, taken in zip(logs, cut) for line in log[taken:]]
-    if not ties:
+    if not ties and not any(isinstance(clock, dict) for clock, _ in left):
         return [min(left)[1]] if left else []
-    return [file for clock, file in left if all(clock <= other for other in behind)]
+    return [file for clock, file in left if not any(follows(clock, other) for other in behind)]
 
 
 def layers(logs, ties):

@@ -11,7 +11,6 @@ use Rattle.tla_terms.specs.Lists.{terms_list}
 use Rattle.tla_terms.specs.TermViews.{terms_of}
 use Rattle.tla_terms.specs.Terms as term
 use Rattle.tla_terms.specs.Terms.{Term, Placed, Meaning, Terms, level_of}
-use Rattle.term_parts.specs.Slots.{MentionsBelow}
 use Rattle.tla_eval.specs.Contexts.{Table}
 use Rattle.tla_eval.specs.Unchanged.{behind, unchanged_of}
 use Rattle.tla_actions.specs.declared.which.Which.{Which}
@@ -20,6 +19,7 @@ use Rattle.tla_actions.specs.declared.fault.FormFault.{FormFault}
 use Rattle.tla_actions.specs.Forms.{is_taken, unchanged_form, test}
 use Rattle.tla_actions.specs.Reads.{VariableSet, Ends, with_variable}
 use Rattle.tla_actions.specs.Outcomes.{FormOutcome, early_meaning, early_variable, form_outcome, next, through, unless}
+use Rattle.early_reads.specs.Levels.{StaysBelow}
 use Rattle.early_reads.specs.declared.walking.Walk.{Walk}
 use Rattle.early_reads.specs.Orderly.{IsSoundThroughout, itself}
 use Rattle.early_reads.specs.Follow.{IsBehind}
@@ -30,7 +30,7 @@ use Rattle.early_reads.specs.Sets.{shown}
 use Rattle.early_reads.proofs.Each.{each-item}
 use Rattle.early_reads.proofs.Ends.{ends-in, orderly-terms}
 use Rattle.early_reads.proofs.Early.{action-taken, if-taken, IsStill, still-items}
-use Rattle.early_reads.proofs.Staying.{list_of_items, item_at_index, mentions-terms, behind-is, found-walked}
+use Rattle.early_reads.proofs.Staying.{list_of_items, item_at_index, items-stay, behind-is, found-walked}
 use Rattle.action_forms.specs.Says.{Says, SaysAt, SaysItems, SaysKept, SaysStays, SaysStill, outcome_at}
 use Rattle.action_forms.proofs.Outcomes.{form-of, outcome-still}
 use Rattle.action_forms.proofs.Ordering.{term-items}
@@ -45,7 +45,7 @@ pub item-says : (w : Walk) (bound : ℕ) (C : VariableSet) (at p : Place) (l : L
 item-says w bound C at p l ts zero i x r walked is says = absurd walked.fits.ends
 item-says w bound C at p l ts (suc k) i x r walked is says =
     let ops : Table = table_of w in
-    let below : MentionsBelow bound x = each-item (MentionsBelow bound) (terms_list ts) i x is (mentions-terms ops bound p l (term.Tuple ts) walked.ready.smaller walked.fits.below) in
+    let below : StaysBelow bound x = each-item (StaysBelow bound) (terms_list ts) i x is (items-stay w bound (suc k) p l ts walked walked.fits.below) in
     let orderly : IsSoundThroughout ops w.variables x = each-item (IsSoundThroughout ops w.variables) (terms_list ts) i x is (orderly-terms ops w.variables p l (term.Tuple ts) walked.fits.orderly) in
     elim (ends-in ops k p l (term.Tuple ts) walked.fits.ends) [
       | inr each ↦ says k record { ready = walked.ready; within = walked.within; fits = record { below = below; orderly = orderly; ends = each-item (Ends ops k) (terms_list ts) i x is each } }

@@ -38,12 +38,15 @@ pub row-in : (w : Walk) (bound k : ℕ) (at : Place) (l : Level) (m : Meaning) �
 row-in w bound k at l m taken walked = record {
   ready = walked.ready;
   within = walked.within;
-  below = λ i ts q. (subst (λ (y : Meaning). MentionsBelow bound (Placed at l y)) q walked.fits.below) i (used at l i ts);
-  fit = fits-terms (table_of w) w.variables bound k at l m walked.ready.smaller walked.fits.below walked.fits.orderly (elim (ends-in (table_of w) k at l m walked.fits.ends) [
+  below = λ i ts q. (subst (λ (y : Meaning). MentionsBelow bound (Placed at l y)) q below) i (used at l i ts);
+  fit = fits-terms (table_of w) w.variables bound k at l m walked.ready.smaller below walked.fits.orderly (elim (ends-in (table_of w) k at l m walked.fits.ends) [
     | inl c ↦ absurd (not_constant w.which l taken c)
     | inr each ↦ each
   ]);
 }
+  where
+    below : MentionsBelow bound (Placed at l m)
+    below = elim walked.fits.below [ inl c ↦ absurd (not_constant w.which l taken c) | inr h ↦ h ]
 
 pub row-fixed : (w : Walk) (bound : ℕ) (B : VariableSet) (e : Term) (at : Place) (l : Level) (m : Meaning) (r : Result ℕ FormFault) → Placed at l m ≡ e → is_taken w.which l ≡ true → SaysRow w bound B at l m r → SaysFixed w bound B e r
 row-fixed w bound B e at l m r seen taken says = subst (λ (f : Term). SaysFixed w bound B f r) seen whole

@@ -19,6 +19,7 @@ use Rattle.early_reads.specs.Keeping.{Fits}
 use Rattle.early_reads.specs.Ready.{table_of, IsWalked}
 use Rattle.early_reads.specs.Opened.{early_at, IsRow}
 use Rattle.early_reads.specs.Sets.{shown}
+use Rattle.early_reads.proofs.Within.{body-stays}
 use Rattle.early_reads.proofs.Each.{each-left, each-right, each-item}
 use Rattle.early_reads.proofs.Staying.{list_of_items, item_at_index}
 use Rattle.action_forms.specs.Says.{AreWalked, SaysAnywhere, SaysBody, SaysFixed, outcome_at}
@@ -112,4 +113,4 @@ body-some w bound B i o r lt q says at ts k row =
     let inner : Each (Fits (table_of w) w.variables bound k) (body_of (slice_get (table_of w) i)) = each-right (Fits (table_of w) w.variables bound k) (terms_list ts) (body_of (slice_get (table_of w) i)) row.fit in
     let one : Each (Fits (table_of w) w.variables bound k) (o.body ∷ []) = subst (λ (z : Option Operator). Each (Fits (table_of w) w.variables bound k) (body_of z)) q inner in
     says-along r (outcome_at w k o.body B) (through (outcome_at w k) (body_of (slice_get (table_of w) i)) B) (ap (λ (z : Option Operator). through (outcome_at w k) (body_of z) B) q ∙ next-ok (outcome_at w k o.body B))
-    (says k record { ready = row.ready; within = omega (arith, row.within); fits = record { below = row.ready.smaller i o q; orderly = one.0.orderly; ends = one.0.ends } })
+    (says k record { ready = row.ready; within = omega (arith, row.within); fits = record { below = body-stays (table_of w) i o row.ready.smaller q; orderly = one.0.orderly; ends = one.0.ends } })

@@ -1,5 +1,5 @@
 -- What is said of a whole specification.
-use Rattle.std.proofs.Common.{◌≡◌, ◌∙◌, ap, sym, refl, subst, length, arith}
+use Rattle.std.proofs.Common.{◌≡◌, ◌∙◌, ap, inr, sym, refl, subst, length, arith}
 use Rattle.std.specs.Prelude.{◌≤◌, ℕ, not, Option, Some, None, Result, Ok, Err}
 use Rattle.tla_terms.specs.Terms.{Term, place_of}
 use Rattle.term_parts.specs.Slots.{MentionsBelow, UsesSmaller}
@@ -27,7 +27,7 @@ said_at w n k e B r ends few smaller below orderly whole kept q says =
     as_outcome (setting_of w) e B k r ends (says k record {
       ready = record { few = few; smaller = smaller; whole = whole; kept = kept };
       within = omega arith;
-      fits = record { below = subst (λ (i : ℕ). MentionsBelow i e) (sym q) below; orderly = orderly; ends = ends };
+      fits = record { below = inr (subst (λ (i : ℕ). MentionsBelow i e) (sym q) below); orderly = orderly; ends = ends };
     })
 
 pub form-says : (w : Walk) (n : ℕ) (e : Term) (B : VariableSet) (r : Result ℕ FormFault) → w.variables ≤ 64 → UsesSmaller (table_of w) → MentionsBelow (length (table_of w)) e → IsSoundThroughout (table_of w) w.variables e → length w.reads.items ≡ length (table_of w) → AreKept (table_of w) w.variables w.reads.items → n ≡ length (table_of w) → SaysFixed w n B e r → FormSays (setting_of w) e B r

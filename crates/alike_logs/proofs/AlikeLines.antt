@@ -1,5 +1,5 @@
 -- What a line says over one setting, it says over one that is alike, but for the numbers of definitions.
-use Rattle.std.proofs.Common.{◌≡◌, ◌⊎◌, ◌<ℤ◌, ℕ, List, [], ◌∷◌, length, map, Bool, true, false, Option, Some, None, Result, Ok, Err, inl, inr, refl, ap, sym, ◌∙◌, subst}
+use Rattle.std.proofs.Common.{◌≡◌, ◌⊎◌, ℕ, List, [], ◌∷◌, length, map, Bool, true, false, Option, Some, None, Result, Ok, Err, inl, inr, refl, ap, sym, ◌∙◌, subst}
 use Rattle.std.specs.Prelude.{MatchBool, is_some, unwrap_or}
 use Rattle.std.specs.List.{list_all}
 use Rattle.serde_json.specs.Data.{Members}
@@ -14,9 +14,11 @@ use Rattle.line_shapes.specs.declared.key.Key.TheVariants as key
 use Rattle.path_updates.specs.Paths.{KeyPath}
 use Rattle.path_updates.specs.declared.update.See.{See}
 use Rattle.path_updates.specs.declared.update.Update.{Update}
+use Rattle.path_updates.specs.declared.clock.Clock.{Clock}
+use Rattle.log_lines.specs.Clocks.{IsMissing, IsOtherForm, clock_or}
 use Rattle.log_lines.specs.Setting.{Setting}
 use Rattle.log_lines.specs.Values.{EachOf, PathReads, SeeReads, UpdateReads}
-use Rattle.log_lines.specs.Lines.{ArgsSay, ClocksSay, EventIs, FormSays, HasNoForm, HasUnknown, InitSays, IsBlank, IsJson, IsMissing, LineSays, NamesSay, ObjectSays, OnValue, SeesSay, ShapeSays, StepSays, TestsSay, TextSays, Unless, UpdatesSay, clock_or, event_with, params_of, step_line}
+use Rattle.log_lines.specs.Lines.{ArgsSay, ClocksSay, EventIs, FormSays, HasNoForm, HasUnknown, InitSays, IsBlank, IsJson, LineSays, NamesSay, ObjectSays, OnBack, OnValue, SeesSay, ShapeSays, StepSays, TestsSay, TextSays, Unless, UpdatesSay, event_with, params_of, step_line}
 use Rattle.log_lines.specs.declared.position.Position.{Position}
 use Rattle.log_lines.specs.declared.kind.LogKind.{LogKind}
 use Rattle.log_lines.specs.declared.kind.LogKind.TheVariants as kind
@@ -78,6 +80,10 @@ module _ (ops all : List Operator) where
   unless_carried Bad Worse why Q R o there back next (inl a) = (Refused why, inl (there a.0, refl), refused_alike why o a.1)
   unless_carried Bad Worse why Q R o there back next (inr a) = let n = next a.1 in (n.0, inr (λ w. a.0 (back w), n.1), n.2)
 
+  back_carried : (before clock : Clock) (Q R : Outcome → Type 0) (o : Outcome) → (Q o → Carried R o) → OnBack before clock Q o → Carried (OnBack before clock R) o
+  back_carried before clock Q R o next (inl a) = (Refused a.0, inl (a.0, a.1, refl), refused_alike a.0 o a.2)
+  back_carried before clock Q R o next (inr a) = let n = next a.1 in (n.0, inr (a.0, n.1), n.2)
+
   value_carried : {A : Type 0} (P S : A → Type 0) (Same : A → A → Type 0) (why : LogKind) (Q R : A → Outcome → Type 0) (o : Outcome) → ((a : A) → P a → (b : A) × S b × Same a b)
       → ((b : A) → S b → (a : A) × P a) → ((a b : A) → Same a b → Q a o → Carried (R b) o) → OnValue P why Q o → Carried (OnValue S why R) o
   value_carried P S Same why Q R o there back next (inl a) = let b = there a.0 a.1 in let n = next a.0 b.0 b.2 a.2 in (n.0, inl (b.0, b.1, n.1), n.2)
@@ -107,7 +113,7 @@ module _ (ops all : List Operator) (g h : Setting) (alike : TellAlike ops all g 
 
   line_alike : (at : Position) (s : LineShape) (e f : Option (ℕ × ℕ)) (args : List Val) (us : List Update) (sees : List See) → AlikeTold ops all e f
       → AlikeOutcomes ops all (step_line at s (record { event = e; args = args; updates = us; sees = sees })) (step_line at s (record { event = f; args = args; updates = us; sees = sees }))
-  line_alike at s e f args us sees told = both_step _ _ (record { at = refl; clock = refl; event = events_alike ops all e f args told; updates = refl; sees = refl })
+  line_alike at s e f args us sees told = both_step _ _ _ (record { at = refl; clock = refl; event = events_alike ops all e f args told; updates = refl; sees = refl })
 
   form_carried : (at : Position) (s : LineShape) (e f : Option (ℕ × ℕ)) (args : List Val) (us : List Update) (sees : List See) (o : Outcome) → AlikeTold ops all e f
       → FormSays g at s (record { event = e; args = args; updates = us; sees = sees }) o
@@ -137,12 +143,14 @@ module _ (ops all : List Operator) (g h : Setting) (alike : TellAlike ops all g 
       → ClocksSay g at s (record { event = e; args = args; updates = us; sees = sees }) o
       → Carried ops all (ClocksSay h at s (record { event = f; args = args; updates = us; sees = sees })) o
   clocks_carried at s e f args us sees o told =
-      let why : LogKind = kind.ClockBack at.clock (clock_or at.clock s.clock) in
-      let Falls : Type 0 = clock_or at.clock s.clock <ℤ at.clock in
+      let after : Clock = clock_or at.clock s.clock in
       let Says : Outcome → Type 0 = NamesSay g at s (record { event = e; args = args; updates = us; sees = sees }) in
       let Other : Outcome → Type 0 = NamesSay h at s (record { event = f; args = args; updates = us; sees = sees }) in
-      unless_carried ops all (IsMissing at.many s.clock) (IsMissing at.many s.clock) kind.NoClock (Unless Falls why Says) (Unless Falls why Other) o (λ b. b) (λ b. b)
-      (unless_carried ops all Falls Falls why Says Other o (λ b. b) (λ b. b) (names_carried at s e f args us sees o told))
+      let Form : Type 0 = IsOtherForm at.form s.clock in
+      unless_carried ops all (IsMissing at.many s.clock) (IsMissing at.many s.clock) kind.NoClock (Unless Form kind.ClockKind (OnBack at.clock after Says))
+      (Unless Form kind.ClockKind (OnBack at.clock after Other)) o (λ b. b) (λ b. b)
+      (unless_carried ops all Form Form kind.ClockKind (OnBack at.clock after Says) (OnBack at.clock after Other) o (λ b. b) (λ b. b)
+      (back_carried ops all at.clock after Says Other o (names_carried at s e f args us sees o told)))
 
   tests_carried : (at : Position) (s : LineShape) (e f : Option (ℕ × ℕ)) (args : List Val) (us : List Update) (sees : List See) (o : Outcome) → AlikeTold ops all e f
       → TestsSay g at s (record { event = e; args = args; updates = us; sees = sees }) o

@@ -1,14 +1,16 @@
 -- Files that are alike have logs that are alike: the clocks are the same, and so is the one order of the lines.
 use Rattle.std.proofs.Common.{◌≡◌, ℕ, zero, suc, List, [], ◌∷◌, ◌++◌, map, Some, None, refl, sym, ◌∙◌, subst}
-use Rattle.std.specs.Prelude.{slice_get}
-use Rattle.std.specs.List.{AllZip}
+use Rattle.std.specs.Prelude.{◌||◌, slice_get}
+use Rattle.std.specs.List.{AllZip, list_any}
 use Rattle.tla_terms.specs.declared.operator.Operator.{Operator}
+use Rattle.path_updates.specs.Clocks.{is_vector, number_in, vector_in}
+use Rattle.path_updates.specs.declared.clock.Clock.{Clock}
 use Rattle.path_updates.specs.declared.line.Line.{Line}
 use Rattle.path_updates.specs.declared.line.Log.{Log}
 use Rattle.clock_merge.specs.Orders.{Clocks, IsMerged, IsOnlyOrder}
 use Rattle.clock_merge.specs.declared.order.LineRef.{LineRef}
 use Rattle.log_lines.specs.declared.file.FileLines.{FileLines}
-use Rattle.log_files.specs.Logs.{IsLogOf, StandsAt, clocks_in, first_sees, sees_of}
+use Rattle.log_files.specs.Logs.{IsLogOf, StandsAt, are_vectors, numbers_in, first_sees, sees_of, vectors_in}
 use Rattle.alike_steps.specs.AlikeLogs.{AreAlikeLines, AreAlikeLogs}
 use Rattle.alike_logs.specs.AlikeFiles.{AreAlikeFiles}
 
@@ -39,17 +41,37 @@ zip_both R S T (x ∷ xs) (y ∷ ys) [] both p q = absurd q
 zip_both R S T (x ∷ xs) (y ∷ ys) (z ∷ zs) both p q = (both x y z p.0 q.0, zip_both R S T xs ys zs both p.1 q.1)
 
 module _ (ops all : List Operator) where
-  clocks_same : (ls ms : List Line) → AllZip (AreAlikeLines ops all) ls ms → map (λ (l : Line). l.clock) ls ≡ map (λ (l : Line). l.clock) ms
-  clocks_same [] [] h = refl
-  clocks_same [] (m ∷ ms) h = absurd h
-  clocks_same (l ∷ ls) [] h = absurd h
-  clocks_same (l ∷ ls) (m ∷ ms) h = λ i. h.0.clock i ∷ clocks_same ls ms h.1 i
+  module _ {K : Type 0} (of : Clock → K) where
+    steps_same : (ls ms : List Line) → AllZip (AreAlikeLines ops all) ls ms → map (λ (l : Line). of l.clock) ls ≡ map (λ (l : Line). of l.clock) ms
+    steps_same [] [] h = refl
+    steps_same [] (m ∷ ms) h = absurd h
+    steps_same (l ∷ ls) [] h = absurd h
+    steps_same (l ∷ ls) (m ∷ ms) h = λ i. of (h.0.clock i) ∷ steps_same ls ms h.1 i
 
-  pub all_clocks_same : (fs gs : List FileLines) → AllZip (AreAlikeFiles ops all) fs gs → clocks_in fs ≡ clocks_in gs
-  all_clocks_same [] [] h = refl
-  all_clocks_same [] (g ∷ gs) h = absurd h
-  all_clocks_same (f ∷ fs) [] h = absurd h
-  all_clocks_same (f ∷ fs) (g ∷ gs) h = λ i. clocks_same f.steps g.steps h.0.steps i ∷ all_clocks_same fs gs h.1 i
+    files_same : (fs gs : List FileLines) → AllZip (AreAlikeFiles ops all) fs gs
+        → map (λ (f : FileLines). map (λ (l : Line). of l.clock) f.steps) fs ≡ map (λ (f : FileLines). map (λ (l : Line). of l.clock) f.steps) gs
+    files_same [] [] h = refl
+    files_same [] (g ∷ gs) h = absurd h
+    files_same (f ∷ fs) [] h = absurd h
+    files_same (f ∷ fs) (g ∷ gs) h = λ i. steps_same f.steps g.steps h.0.steps i ∷ files_same fs gs h.1 i
+
+  pub all_clocks_same : (fs gs : List FileLines) → AllZip (AreAlikeFiles ops all) fs gs → numbers_in fs ≡ numbers_in gs
+  all_clocks_same fs gs h = files_same number_in fs gs h
+
+  pub all_vectors_same : (fs gs : List FileLines) → AllZip (AreAlikeFiles ops all) fs gs → vectors_in fs ≡ vectors_in gs
+  all_vectors_same fs gs h = files_same vector_in fs gs h
+
+  some_vector_same : (ls ms : List Line) → AllZip (AreAlikeLines ops all) ls ms → list_any (λ (l : Line). is_vector l.clock) ls ≡ list_any (λ (l : Line). is_vector l.clock) ms
+  some_vector_same [] [] h = refl
+  some_vector_same [] (m ∷ ms) h = absurd h
+  some_vector_same (l ∷ ls) [] h = absurd h
+  some_vector_same (l ∷ ls) (m ∷ ms) h = λ i. is_vector (h.0.clock i) || some_vector_same ls ms h.1 i
+
+  pub are_vectors_same : (fs gs : List FileLines) → AllZip (AreAlikeFiles ops all) fs gs → are_vectors fs ≡ are_vectors gs
+  are_vectors_same [] [] h = refl
+  are_vectors_same [] (g ∷ gs) h = absurd h
+  are_vectors_same (f ∷ fs) [] h = absurd h
+  are_vectors_same (f ∷ fs) (g ∷ gs) h = λ i. some_vector_same f.steps g.steps h.0.steps i || are_vectors_same fs gs h.1 i
 
   pub sees_same : (fs gs : List FileLines) → AllZip (AreAlikeFiles ops all) fs gs → first_sees fs ≡ first_sees gs
   sees_same [] [] h = refl
@@ -64,8 +86,8 @@ module _ (ops all : List Operator) where
 
   pub logs_alike : IsOnlyOrder → (fs gs : List FileLines) (log m : Log) → AllZip (AreAlikeFiles ops all) fs gs → IsLogOf fs log → IsLogOf gs m → AreAlikeLogs ops all log m
   logs_alike only fs gs log m h p q =
-      let merged : IsMerged (clocks_in fs) q.order = subst (λ (c : Clocks). IsMerged c q.order) (sym (all_clocks_same fs gs h)) q.merged in
-      let order : q.order ≡ p.order = only (clocks_in fs) q.order p.order merged p.merged in
+      let merged : IsMerged (numbers_in fs) q.order = subst (λ (c : Clocks). IsMerged c q.order) (sym (all_clocks_same fs gs h)) q.merged in
+      let order : q.order ≡ p.order = only (numbers_in fs) q.order p.order merged p.merged in
       let there : AllZip (StandsAt gs) p.order m.lines = subst (λ (o : List LineRef). AllZip (StandsAt gs) o m.lines) order q.lines in
       record {
         init = p.init ∙ (sees_same fs gs h ∙ sym q.init);

@@ -4,6 +4,7 @@ use Rattle.std.specs.List.{AllZip}
 use Rattle.tla_terms.specs.declared.operator.Operator.{Operator}
 use Rattle.path_updates.specs.declared.line.Line.{Line}
 use Rattle.path_updates.specs.declared.update.See.{See}
+use Rattle.log_lines.specs.declared.clocks.ClockForm.{ClockForm}
 use Rattle.log_lines.specs.declared.kind.LogKind.{LogKind}
 use Rattle.log_lines.specs.declared.kind.Outcome.{Outcome}
 use Rattle.log_lines.specs.declared.kind.Outcome.TheVariants.{Blank, Init, Step, Refused}
@@ -15,13 +16,14 @@ use Rattle.alike_steps.specs.AlikeLogs.{AreAlikeLines}
 pub data AlikeOutcomes (ops all : List Operator) : Outcome → Outcome → Type 0 where
   both_blank : AlikeOutcomes ops all Blank Blank
   both_init : (sees : List See) → AlikeOutcomes ops all (Init sees) (Init sees)
-  both_step : (l m : Line) → AreAlikeLines ops all l m → AlikeOutcomes ops all (Step l) (Step m)
+  both_step : (l m : Line) (form : ClockForm) → AreAlikeLines ops all l m → AlikeOutcomes ops all (Step l form) (Step m form)
   both_refused : (why : LogKind) → AlikeOutcomes ops all (Refused why) (Refused why)
 
--- the same is seen at first, and the steps are alike one by one
+-- the same is seen at first, the steps are alike one by one, and the clocks have one form
 pub record AreAlikeFiles (ops all : List Operator) (f g : FileLines) : Type 0 where
   pub init : f.init ≡ g.init
   pub steps : AllZip (AreAlikeLines ops all) f.steps g.steps
+  pub form : f.form ≡ g.form
 
 -- both files are accepted, or both are refused at one line for one reason
 abbrev pub AreAlikeResults : List Operator → List Operator → Result FileLines Refusal → Result FileLines Refusal → Type 0

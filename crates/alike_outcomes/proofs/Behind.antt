@@ -1,13 +1,14 @@
 -- Behind alike names stand alike terms: as many names as there are definitions may follow each other, so that no following ends early.
-use Rattle.std.proofs.Common.{◌≡◌, sym, refl, subst, inl, inr, arith}
-use Rattle.std.specs.Prelude.{◌<◌, ◌⊎◌, ℕ, zero, suc, min, Some, None, Option, length, slice_get}
+use Rattle.std.proofs.Common.{◌≡◌, ◌∙◌, ap, sym, refl, subst, inl, inr, arith}
+use Rattle.std.specs.Prelude.{◌≢◌, ◌<◌, ◌⊎◌, ℕ, zero, suc, min, Some, None, Option, length, slice_get}
 use Rattle.std.proofs.lemmas.Option.{slice_get_within}
 use Rattle.trace_base.specs.declared.place.Place.{Place}
 use Rattle.tla_terms.specs.declared.level.Level.TheVariants as levels
 use Rattle.tla_terms.specs.declared.operator.Operator.{Operator}
 use Rattle.tla_terms.specs.Terms as term
-use Rattle.tla_terms.specs.Terms.{Term, Meaning, Terms, Placed}
+use Rattle.tla_terms.specs.Terms.{Term, Meaning, Terms, Placed, level_of}
 use Rattle.term_parts.specs.Slots.{Mentions, used}
+use Rattle.term_parts.proofs.Ordering.{higher_below}
 use Rattle.alike_terms.specs.Alike.{AlikeMeanings, AlikeTerms, AlikeRows}
 use Rattle.alike_terms.specs.Laws.{AreOne}
 use Rattle.alike_terms.proofs.Inverted.{alike_is, use_is, none_is}
@@ -54,10 +55,11 @@ alike_name ops all at k f a =
     let q : u.1 ≡ term.NoTerms = none_is AreOne ops all u.1 u.4 in
     (u.0, subst (λ (us : Terms). f ≡ Placed at levels.State (term.Use u.0 us)) q (subst (λ (n : Meaning). f ≡ Placed at levels.State n) u.2 w.1), u.3)
 
--- a body names smaller numbers alone
+-- a body that is a name is of level 1, so it names a smaller number
 body_suffices : (ops : Table) → AreOrdered ops → (k n : ℕ) (o : Operator) → slice_get ops k ≡ Some o → k < suc n → Suffices n o.body
 body_suffices ops ordered k n o q l at j r =
-    let small : j < k = ordered k o q j (subst (λ (e : Term). Mentions e j) (sym r) (used at levels.State j term.NoTerms)) in
+    let higher : level_of o.body ≢ levels.Constant = λ c. absurd (let e : levels.State ≡ levels.Constant = ap level_of (sym r) ∙ c in cc) in
+    let small : j < k = higher_below ops k o ordered q higher j (subst (λ (e : Term). Mentions e j) (sym r) (used at levels.State j term.NoTerms)) in
     omega arith
 
 module _ (ops all : Table) (here : AreOrdered ops) (there : AreOrdered all) where

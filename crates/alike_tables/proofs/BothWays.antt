@@ -32,4 +32,4 @@ module _ (Same : Val → Val → Type 0) (itself : (v : Val) → Same v v) (ops 
 
   pub alike_through : (n : ℕ) → AreAlikeNames Same (Through n) names others → (sc tc : List Local) (t : Tree) (e f : Term) → AlikeLocals (Through n) sc tc → Means names ops sc t e → Means others all tc t f → AlikeBy Same IsOneVariable (AlikeUpTo Same IsOneVariable ops all n) e f
   alike_through n are sc tc t e f s g h =
-      tree_alike Same ops all (AlikeUpTo Same IsOneVariable ops all n) (heads_up_to Same IsOneVariable ops all n) (fewer Same IsOneVariable ops all n) (λ k. Unit {0}) names others (λ k o q u j m. tt) are itself sc tc t e f s (λ k m. tt) g h
+      tree_alike Same ops all (AlikeUpTo Same IsOneVariable ops all n) (heads_up_to Same IsOneVariable ops all n) (fewer Same IsOneVariable ops all n) (λ k. Unit {0}) names others (λ k o q apart u j m. tt) are itself sc tc t e f s (λ k m. tt) g h

@@ -12,6 +12,7 @@ use Rattle.tla_scopes.specs.Scopes.{bind}
 use Rattle.tla_program.specs.InUnits.{definitions_in}
 use Rattle.tla_program.specs.Names.{Numbers}
 use Rattle.tla_tables.specs.Tables.{IsTable, IsTabled, MeansThere, unit_operator}
+use Rattle.term_parts.proofs.Ordering.{apart_below}
 use Rattle.alike_terms.specs.Alike.{SameHeads}
 use Rattle.alike_tables.specs.Places.{AlikeLocals, no_locals_alike, AreAlikeNames, AreMentioned, BodiesStay, ValuesAre}
 use Rattle.alike_tables.proofs.BothWays.{same_level}
@@ -60,10 +61,10 @@ module _ (Same : Val → Val → Type 0) (itself : (v : Val) → Same v v) (p : 
     -- the bodies have one level, where the heads of smaller numbers are the same
     body_level : (d : Definition) (k j : ℕ) → RowsAre (HeadsBelow k) → (b : InBoth d k j) → level_of b.body ≡ level_of b.other
     body_level d k j rows b =
-        let stay : BodiesStay ops (λ m. m < k) = λ n o e lt i m. (let less : i < n = first.smaller n o e i m in omega (arith, less, lt)) in
+        let stay : BodiesStay ops (λ m. m < k) = λ n o e apart lt i m. (let less : i < n = apart_below ops n o first.smaller e apart i m in omega (arith, less, lt)) in
         let names : AreAlikeNames Same (HeadsBelow k) b.means.names b.means_there.names = names_alike (HeadsBelow k) rows d.params d.body b.body b.other b.means b.means_there in
         let places : AlikeLocals (HeadsBelow k) (bind [] d.params) (bind [] d.params) = all_bound (HeadsBelow k) [] [] d.params no_locals_alike in
-        let below : AreMentioned (λ m. m < k) b.body = first.smaller k (unit_operator d b.body) b.here in
+        let below : AreMentioned (λ m. m < k) b.body = apart_below ops k (unit_operator d b.body) first.smaller b.here refl in
         same_level Same itself ops all b.means.names b.means_there.names k stay names (bind [] d.params) (bind [] d.params) d.body b.body b.other places below b.means.means b.means_there.means
 
     heads_below : (n : ℕ) → RowsAre (HeadsBelow n)
@@ -80,6 +81,7 @@ module _ (Same : Val → Val → Type 0) (itself : (v : Val) → Same v v) (p : 
           outer = refl;
           params = refl;
           level = body_level d k j rest b;
+          own = refl;
         }
 
     pub same_heads : RowsAre (SameHeads ops all)

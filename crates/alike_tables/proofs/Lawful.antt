@@ -2,6 +2,7 @@
 use Rattle.std.proofs.Common.{refl, zero, arith, ◌<◌}
 use Rattle.std.specs.Prelude.{Bool, true, false}
 use Rattle.tla_values.specs.Data.{Val}
+use Rattle.term_parts.proofs.Ordering.{apart_below}
 use Rattle.alike_terms.specs.Alike.{AlikeRows}
 use Rattle.alike_terms.proofs.Opened.{rows_close}
 use Rattle.alike_tables.specs.Laws.{SameIf, MeaningsAreAlike, TablesAreAlike, TreesAreAlike}
@@ -14,7 +15,7 @@ itself false v = tt
 
 pub meanings_are_alike : MeaningsAreAlike
 meanings_are_alike b ops all n names others smaller are scope outer t e f s below g h =
-    tree_alike (SameIf b) ops all (AlikeRows (SameIf b) ops all) (λ k j r. r zero) (rows_close (SameIf b) ops all) (λ k. k < n) names others (λ k o q lt j m. let less : j < k = smaller k o q j m in omega (arith, less, lt)) are (itself b) scope outer t e f s (λ j m. below j m) g h
+    tree_alike (SameIf b) ops all (AlikeRows (SameIf b) ops all) (λ k j r. r zero) (rows_close (SameIf b) ops all) (λ k. k < n) names others (λ k o q apart lt j m. let less : j < k = apart_below ops k o smaller q apart j m in omega (arith, less, lt)) are (itself b) scope outer t e f s (λ j m. below j m) g h
 
 pub tables_are_alike : TablesAreAlike
 tables_are_alike b p c values others number renumber ops all are first second i d k j at e f =

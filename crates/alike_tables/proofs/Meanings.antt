@@ -14,6 +14,7 @@ use Rattle.tla_ast.specs.Trees.{Tree, place_of}
 use Rattle.tla_terms.specs.declared.ids.DefId.{DefId}
 use Rattle.tla_terms.specs.declared.level.Level.{Level}
 use Rattle.tla_terms.specs.declared.operator.Operator.{Operator}
+use Rattle.tla_terms.specs.declared.operator.Own.TheVariants.{Apart}
 use Rattle.tla_terms.specs.Terms as term
 use Rattle.tla_terms.specs.Terms.{Term, Terms, Meaning, Placed, width}
 use Rattle.tla_terms.specs.Levels.{level_for}
@@ -160,8 +161,8 @@ module _ (Same : Val → Val → Type 0) (ops all : List Operator) (R : ℕ → 
   Such ks = (k : ℕ) → Contains ks k → Q k
 
   -- the body of such a definition
-  body_whole : (k : ℕ) (o : Operator) → Q k → slice_get ops k ≡ Some o → Whole 0 o.body
-  body_whole k o h e = all_rows Q 0 o.body (stay k o e h)
+  body_whole : (k : ℕ) (o : Operator) → Q k → slice_get ops k ≡ Some o → o.own ≡ Apart → Whole 0 o.body
+  body_whole k o h e apart = all_rows Q 0 o.body (stay k o e apart h)
 
   local_alike : (mid tid : List Local) (k j : ℕ) (count : ℕ) (x y : Term) → AlikeLocals Row mid tid → slice_get ops k ≡ Some (local_operator (slots mid) count x) → slice_get all j ≡ Some (local_operator (slots tid) count y) → AlikeBy Same IsOneVariable R x y → R k j
   local_alike mid tid k j count x y s p q h =
@@ -170,7 +171,7 @@ module _ (Same : Val → Val → Type 0) (ops all : List Operator) (R : ℕ → 
         right = local_operator (slots tid) count y;
         here = p;
         there = q;
-        same = record { name = refl; outer = slots_alike Row mid tid s; params = refl; level = term_level Same ops all R heads x y h; body = h };
+        same = record { name = refl; outer = slots_alike Row mid tid s; params = refl; level = term_level Same ops all R heads x y h; own = refl; body = h };
       }
 
   -- what a LET defines
@@ -364,7 +365,7 @@ module _ (Same : Val → Val → Type 0) (ops all : List Operator) (R : ℕ → 
     defines sc tc (tree.MoreDefinitions ds m at ps a) ks js inner outer s b g h =
         let d : HasDefined g.0 h.0 g.1 h.1 = defines sc tc ds g.0 h.0 g.1 h.1 s (earlier_such ks g.0 g.2.0 g.7 b) g.4 h.4 in
         let lt : Q g.2.0 = last_such ks g.0 g.2.0 g.7 b in
-        let r : AlikeBy Same IsOneVariable R g.3 h.3 = alike 0 (bind g.1 ps) (bind h.1 ps) a g.3 h.3 (all_bound Row g.1 h.1 ps d.places) (body_whole g.2.0 (local_operator (slots g.1) (length ps) g.3) lt g.6) g.5 h.5 in
+        let r : AlikeBy Same IsOneVariable R g.3 h.3 = alike 0 (bind g.1 ps) (bind h.1 ps) a g.3 h.3 (all_bound Row g.1 h.1 ps d.places) (body_whole g.2.0 (local_operator (slots g.1) (length ps) g.3) lt g.6 refl) g.5 h.5 in
         one_more ks js inner outer m (length ps) g.0 h.0 g.1 h.1 g.2 h.2 d (local_alike g.1 h.1 g.2.0 h.2.0 (length ps) g.3 h.3 d.places g.6 h.6 r) g.7 h.7 g.8 h.8
 
   pub tree_alike : (sc tc : List Local) (t : Tree) (e f : Term) → AlikeLocals Row sc tc → AreMentioned Q e → Means names ops sc t e → Means others all tc t f → AlikeBy Same IsOneVariable R e f

@@ -48,7 +48,7 @@ module _ (Same : Val → Val → Type 0) (itself : (v : Val) → Same v v) (p : 
           right = unit_operator d both.other;
           here = both.here;
           there = both.there;
-          same = record { name = refl; outer = refl; params = refl; level = term_level Same ops all (UpTo n) (heads_up_to Same IsOneVariable ops all n) both.body both.other body; body = body };
+          same = record { name = refl; outer = refl; params = refl; level = term_level Same ops all (UpTo n) (heads_up_to Same IsOneVariable ops all n) both.body both.other body; own = refl; body = body };
         }
 
     pub tables_alike : (i : ℕ) (d : Definition) (k j : ℕ) → slice_get (definitions_in p.units) i ≡ Some d → number i ≡ Some k → renumber i ≡ Some j → AlikeRows Same ops all k j

@@ -6,6 +6,7 @@ use Rattle.tla_ast.specs.declared.module.Program.{Program}
 use Rattle.tla_core.specs.declared.var_id.VarId.{VarId}
 use Rattle.tla_terms.specs.declared.ids.DefId.{DefId}
 use Rattle.tla_terms.specs.declared.operator.Operator.{Operator}
+use Rattle.tla_terms.specs.declared.operator.Own.TheVariants.{Apart}
 use Rattle.tla_terms.specs.declared.standard.NamedSet.{NamedSet}
 use Rattle.tla_terms.specs.declared.standard.StandardOperator.{StandardOperator}
 use Rattle.tla_terms.specs.Terms.{Term}
@@ -48,9 +49,9 @@ AlikeWhere Same ops all Q k j = Q k → AlikeRows Same ops all k j
 abbrev pub AreMentioned : (ℕ → Type 0) → Term → Type 0
 AreMentioned Q e = (k : ℕ) → Mentions e k → Q k
 
--- the bodies of such definitions mention such alone
+-- the bodies of such definitions mention such alone, but for those that use themselves
 abbrev pub BodiesStay : List Operator → (ℕ → Type 0) → Type 0
-BodiesStay ops Q = (k : ℕ) (o : Operator) → slice_get ops k ≡ Some o → Q k → AreMentioned Q o.body
+BodiesStay ops Q = (k : ℕ) (o : Operator) → slice_get ops k ≡ Some o → o.own ≡ Apart → Q k → AreMentioned Q o.body
 
 -- The values of a constant are the same in both lists, where no definition stands in its place.
 abbrev pub ValuesAre : (Val → Val → Type 0) → Program → Config → List Val → List Val → Type 0

@@ -89,7 +89,7 @@ module _ (Same : Val → Val → Type 0) (Stands : ℕ → ℕ → Type 0) (ops 
         right = r.right;
         here = r.here;
         there = r.there;
-        same = record { name = r.same.name; outer = r.same.outer; params = r.same.params; level = r.same.level; body = body };
+        same = record { name = r.same.name; outer = r.same.outer; params = r.same.params; level = r.same.level; own = r.same.own; body = body };
       }
 
   pub heads_of : (R : ℕ → ℕ → Type 0) (k j : ℕ) → RowsBy Same Stands R ops all k j → SameHeads ops all k j
@@ -102,6 +102,7 @@ module _ (Same : Val → Val → Type 0) (Stands : ℕ → ℕ → Type 0) (ops 
     outer = r.same.outer;
     params = r.same.params;
     level = r.same.level;
+    own = r.same.own;
   }
 
   -- what is alike through one use more is alike

@@ -32,7 +32,7 @@ module _ (Same : Val → Val → Type 0) (ops all : List Operator) where
         right = first.right;
         here = first.here;
         there = first.there;
-        same = record { name = first.same.name; outer = first.same.outer; params = first.same.params; level = first.same.level; body = body };
+        same = record { name = first.same.name; outer = first.same.outer; params = first.same.params; level = first.same.level; own = first.same.own; body = body };
       }
 
   pub rows_close : (k j : ℕ) → RowsBy Same IsOneVariable Rows ops all k j → Rows k j

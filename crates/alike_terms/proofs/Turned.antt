@@ -91,6 +91,7 @@ module _ (Same Other : Val → Val → Type 0) (turn : (v w : Val) → Same v w 
     outer = sym h.outer;
     params = sym h.params;
     level = sym h.level;
+    own = sym h.own;
   }
   turn_upto ops all (suc n) k j h =
       let body : AlikeBy Other IsOneVariable (AlikeUpTo Other IsOneVariable all ops n) h.right.body h.left.body =
@@ -100,7 +101,7 @@ module _ (Same Other : Val → Val → Type 0) (turn : (v w : Val) → Same v w 
         right = h.left;
         here = h.there;
         there = h.here;
-        same = record { name = sym h.same.name; outer = sym h.same.outer; params = sym h.same.params; level = sym h.same.level; body = body };
+        same = record { name = sym h.same.name; outer = sym h.same.outer; params = sym h.same.params; level = sym h.same.level; own = sym h.same.own; body = body };
       }
 
   pub turn_row : (ops all : List Operator) (k j : ℕ) → AlikeRows Same ops all k j → AlikeRows Other all ops j k

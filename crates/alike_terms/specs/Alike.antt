@@ -109,6 +109,7 @@ pub record AlikeOperatorsBy (Same : Val → Val → Type 0) (Stands Row : ℕ �
   pub outer : o.outer ≡ p.outer
   pub params : o.params ≡ p.params
   pub level : o.level ≡ p.level
+  pub own : o.own ≡ p.own
   pub body : AlikeBy Same Stands Row o.body p.body
 
 -- the definitions of these numbers are there, and differ so
@@ -129,6 +130,7 @@ pub record SameHeads (ops all : List Operator) (k j : ℕ) : Type 0 where
   pub outer : left.outer ≡ right.outer
   pub params : left.params ≡ right.params
   pub level : left.level ≡ right.level
+  pub own : left.own ≡ right.own
 
 -- The definitions of these numbers are alike as far as is seen through so many uses, one inside the other: through none their heads alone are seen.
 abbrev pub AlikeUpTo : (Val → Val → Type 0) → (ℕ → ℕ → Type 0) → List Operator → List Operator → ℕ → ℕ → ℕ → Type 0

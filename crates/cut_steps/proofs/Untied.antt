@@ -8,7 +8,7 @@ use mathlib.Core.Logic.{∥∥₁_elim}
 use Rattle.clock_merge.specs.Orders.{FollowsInLog, NoneBefore}
 use Rattle.clock_merge.specs.declared.order.LineRef.{LineRef}
 use Rattle.log_cuts.specs.Cuts.{Cut, IsLineOf}
-use Rattle.log_cuts.specs.Orders.{HasEachLine, IsMade, Order, by_clock, in_sequence, sizes, sizes_of}
+use Rattle.log_cuts.specs.Orders.{HasEachLine, IsMade, Order, by_clock, by_vectors, in_sequence, sizes, sizes_of}
 use Rattle.tied_logs.specs.Lines.{AreTied}
 use Rattle.tied_logs.specs.declared.logs.Logs.{Logs}
 
@@ -51,6 +51,9 @@ made_prop (in_sequence files lines) x y =
 made_prop (by_clock clocks) x y =
     let clocks_prop : IsProp (IsMade (by_clock clocks)) = hlevel props in
     clocks_prop x y
+made_prop (by_vectors vectors) x y =
+    let vectors_prop : IsProp (IsMade (by_vectors vectors)) = hlevel props in
+    vectors_prop x y
 
 tied_prop : (logs : Logs) → IsProp (AreTied logs)
 tied_prop logs x y =

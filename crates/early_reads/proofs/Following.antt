@@ -11,18 +11,20 @@ use Rattle.tla_terms.specs.TermViews.{step_view, steps_from, steps_of}
 use Rattle.tla_terms.specs.Terms as term
 use Rattle.tla_terms.specs.Terms.{Term, Placed, Meaning, Terms, Steps}
 use Rattle.term_parts.specs.Parts.{Part, part}
-use Rattle.term_parts.specs.Slots.{MentionsBelow, used}
+use Rattle.term_parts.specs.Slots.{used}
 use Rattle.term_parts.specs.Weights.{weight}
 use Rattle.term_parts.proofs.Lists.{taken}
 use Rattle.tla_eval.specs.Contexts.{Table}
 use Rattle.tla_eval.specs.Unchanged.{behind}
 use Rattle.tla_actions.specs.Reads.{VariableSet, united, reads, read_among, reads_primed, step_terms, path_terms}
 use Rattle.tla_actions.specs.Outcomes.{least, outside}
+use Rattle.early_reads.specs.Levels.{StaysBelow}
 use Rattle.early_reads.specs.declared.walking.Walk.{Walk}
 use Rattle.early_reads.specs.Weight.{weights}
 use Rattle.early_reads.specs.Follow.{IsName, IsBehind}
 use Rattle.early_reads.specs.Keeping.{Fits, reads_at, TellsAll, TellsReads}
 use Rattle.early_reads.specs.Ready.{table_of, TellsUnread}
+use Rattle.early_reads.proofs.Within.{below-higher, body-stays, stays-more}
 use Rattle.early_reads.proofs.Each.{each-map, each-weaker}
 use Rattle.early_reads.proofs.Rows.{paths_more}
 use Rattle.early_reads.proofs.Ends.{chosen}
@@ -51,7 +53,7 @@ primed-all ops k [] = refl
 primed-all ops k (e ∷ es) = ap (united (reads ops k true e)) (primed-all ops k es)
 
 pub more-fits : (ops : Table) (v n m k : ℕ) (e : Term) → n ≤ m → Fits ops v n k e → Fits ops v m k e
-more-fits ops v n m k e le h = record { below = λ i u. (let lt : i < n = h.below i u in omega arith); orderly = h.orderly; ends = h.ends }
+more-fits ops v n m k e le h = record { below = stays-more n m e le h.below; orderly = h.orderly; ends = h.ends }
 
 pub tells-unread : (w : Walk) (bound : ℕ) (B R : VariableSet) (e : Term) (xs : List StepAt) (stack : List Part) (o : Option ℕ) → stack ≡ part true e ∷ map (part true) (items_terms xs) → TellsAll w.reads.items stack R → o ≡ least w.variables (outside B R) → TellsUnread w bound B e (steps_of xs) o
 tells-unread w bound B R e xs stack o is tells answer k walked fits =
@@ -71,9 +73,9 @@ tells-unread w bound B R e xs stack o is tells answer k walked fits =
 pub behind-none : (ops : Table) (bound : ℕ) (e : Term) → ((n : ℕ) → IsName bound e n → ⊥) → IsBehind ops bound e bound e
 behind-none ops bound e none smaller below often m le = (stops often m e none below, (omega arith), below)
   where
-    stops : (often m : ℕ) (e : Term) → ((n : ℕ) → IsName bound e n → ⊥) → MentionsBelow bound e → (behind ops often m e).1 ≡ e
+    stops : (often m : ℕ) (e : Term) → ((n : ℕ) → IsName bound e n → ⊥) → StaysBelow bound e → (behind ops often m e).1 ≡ e
     stops zero m e none below = refl
-    stops (suc often) m (Placed at levels.State (term.Use k term.NoTerms)) none below = absurd (none k (refl, below k (used at levels.State k term.NoTerms)))
+    stops (suc often) m (Placed at levels.State (term.Use k term.NoTerms)) none below = absurd (none k (refl, below-higher bound at levels.State (term.Use k term.NoTerms) refl below k (used at levels.State k term.NoTerms)))
     stops (suc often) m e none below = refl
 
 -- the definition is missing
@@ -89,10 +91,10 @@ behind-missing ops bound n e name missing smaller below often m le = (stops ofte
 pub behind-next : (ops : Table) (bound n : ℕ) (e : Term) (o : Operator) (number : ℕ) (found : Term) → IsName bound e n → slice_get ops n ≡ Some o → IsBehind ops n o.body number found → IsBehind ops bound e number found
 behind-next ops bound n e o number found name is inner smaller below often m le = goes often m e name le
   where
-    goes : (often m : ℕ) (e : Term) → IsName bound e n → bound ≤ often → ((behind ops often m e).1 ≡ found) × (number ≤ bound) × MentionsBelow number found
+    goes : (often m : ℕ) (e : Term) → IsName bound e n → bound ≤ often → ((behind ops often m e).1 ≡ found) × (number ≤ bound) × StaysBelow number found
     goes zero m (Placed at levels.State (term.Use k term.NoTerms)) name le = absurd (omega (arith, name.1))
     goes (suc often) m (Placed at levels.State (term.Use k term.NoTerms)) name le =
-        let rest : ((behind ops often (min o.outer m) o.body).1 ≡ found) × (number ≤ n) × MentionsBelow number found = inner smaller (smaller n o is) often (min o.outer m) (omega (arith, name.1)) in
+        let rest : ((behind ops often (min o.outer m) o.body).1 ≡ found) × (number ≤ n) × StaysBelow number found = inner smaller (body-stays ops n o smaller is) often (min o.outer m) (omega (arith, name.1)) in
         (ap (λ (r : Option Operator). (chosen r (m, Placed at levels.State (term.Use k term.NoTerms)) (λ p. behind ops often (min p.outer m) p.body)).1) (ap (slice_get ops) name.0 ∙ is) ∙ rest.0, (omega (arith, name.1, rest.1)), rest.2)
     goes often m e name le = absurd name
 

@@ -19,11 +19,13 @@ use Rattle.term_parts.proofs.Lists.{some_item, item_within}
 use Rattle.term_parts.proofs.Weights.{total-append, total-cons, total-nil, of_parts}
 use Rattle.tla_eval.specs.Contexts.{Table}
 use Rattle.tla_actions.specs.Reads.{VariableSet, Ends, united, in_none, body_of, terms_in, read_among, reads_meaning, reads}
+use Rattle.early_reads.specs.Levels.{StaysBelow}
 use Rattle.early_reads.specs.declared.reading.Reads.{Reads}
 use Rattle.early_reads.specs.Orderly.{IsSoundThroughout, itself}
 use Rattle.early_reads.specs.Levels.{is_constant}
 use Rattle.early_reads.specs.Sets.{shown}
 use Rattle.early_reads.specs.Keeping.{IsRead, AreKept, Fits, reads_at, TellsAll, TellsReads, TellsOwn}
+use Rattle.early_reads.proofs.Within.{below-higher, body-stays}
 use Rattle.early_reads.proofs.Each.{each-append, each-left, each-right, each-both, each-from}
 use Rattle.early_reads.proofs.Ends.{ends-in, ends-more, ends-parts, orderly-part, orderly-body}
 use Rattle.early_reads.proofs.Heights.{among-same, reads-same}
@@ -172,10 +174,10 @@ module _ (kept : List Reads) (start : List Part) (p : Part) (at : Place) (l : Le
     row-fits : (ops : Table) (v k : ℕ) → FitsPart ops v (length kept) (suc k) p → Each (FitsPart ops v (length kept) (suc k)) (parts p.primed m)
     row-fits ops v k fits =
         let orderly : IsSoundThroughout ops v (Placed at l m) = subst (λ (z : Term). IsSoundThroughout ops v z) (sym seen) fits.orderly in
-        let below : MentionsBelow (length kept) (Placed at l m) = subst (λ (z : Term). MentionsBelow (length kept) z) (sym seen) fits.below in
+        let below : MentionsBelow (length kept) (Placed at l m) = below-higher (length kept) at l m opened (subst (λ (z : Term). StaysBelow (length kept) z) (sym seen) fits.below) in
         let ends : Ends ops (suc k) (Placed at l m) = subst (λ (z : Term). Ends ops (suc k) z) (sym seen) fits.ends in
         let each : Each (λ (q : Part). Ends ops k q.term) (parts p.primed m) = parts-end ops k p.primed at m (open-ends ops k at l m opened ends) in
-        each-both (λ (q : Part). MentionsBelow (length kept) q.term × IsSoundThroughout ops v q.term) (λ (q : Part). Ends ops k q.term) (FitsPart ops v (length kept) (suc k)) (λ q x y. record { below = x.0; orderly = x.1; ends = ends-more ops k q.term y }) (parts p.primed m)
+        each-both (λ (q : Part). MentionsBelow (length kept) q.term × IsSoundThroughout ops v q.term) (λ (q : Part). Ends ops k q.term) (FitsPart ops v (length kept) (suc k)) (λ q x y. record { below = inr x.0; orderly = x.1; ends = ends-more ops k q.term y }) (parts p.primed m)
         (primed-parts (λ (f : Term). MentionsBelow (length kept) f × IsSoundThroughout ops v f) (λ q c. ((λ i u. below i (mentioned_in_part at l m q i c u)), orderly-part ops v at l m q c orderly))) each
       where
         primed-parts : (P : Term → Type 0) → ((q : Part) → Contains (parts false m) q → P q.term) → Each (λ (q : Part). P q.term) (parts p.primed m)
@@ -184,7 +186,7 @@ module _ (kept : List Reads) (start : List Part) (p : Part) (at : Place) (l : Le
     whole-read : (ops : Table) (v : ℕ) → AreKept ops v kept → v ≤ 64 → (k : ℕ) → FitsPart ops v (length kept) (suc k) p → Each (FitsPart ops v (length kept) (suc k)) (parts p.primed m) → united after_found (read_among (reads_at ops (suc k)) after) ≡ united found (read_among (reads_at ops (suc k)) stack)
     whole-read ops v are few k fits row =
         let orderly : IsSoundThroughout ops v (Placed at l m) = subst (λ (z : Term). IsSoundThroughout ops v z) (sym seen) fits.orderly in
-        let below : MentionsBelow (length kept) (Placed at l m) = subst (λ (z : Term). MentionsBelow (length kept) z) (sym seen) fits.below in
+        let below : MentionsBelow (length kept) (Placed at l m) = below-higher (length kept) at l m opened (subst (λ (z : Term). StaysBelow (length kept) z) (sym seen) fits.below) in
         let ends : Ends ops (suc k) (Placed at l m) = subst (λ (z : Term). Ends ops (suc k) z) (sym seen) fits.ends in
         let terms : Each (Ends ops k) (terms_in ops at m) = open-ends ops k at l m opened ends in
         let own_is : OwnIs ops k p.primed m own = own-kept ops v k kept p.primed at l m own are few below orderly terms tells in
@@ -237,13 +239,13 @@ kept-more ops v kept o r smaller few is plain primed are = record {
     | inl old ↦ are.plain k p q at_ops old orderly
     | inr new ↦
         let same_operator : o ≡ p = same_of_some (sym is ∙ ap (slice_get ops) (sym new.0) ∙ at_ops) in
-        subst (λ (z : Reads). IsRead ops false p.body (shown z.plain)) new.1 (subst (λ (z : Operator). IsRead ops false z.body (shown r.plain)) same_operator (λ i h. plain ops v are few i record { below = smaller (length kept) o is; orderly = subst (λ (z : Operator). IsSoundThroughout ops v z.body) (sym same_operator) orderly; ends = h }))
+        subst (λ (z : Reads). IsRead ops false p.body (shown z.plain)) new.1 (subst (λ (z : Operator). IsRead ops false z.body (shown r.plain)) same_operator (λ i h. plain ops v are few i record { below = body-stays ops (length kept) o smaller is; orderly = subst (λ (z : Operator). IsSoundThroughout ops v z.body) (sym same_operator) orderly; ends = h }))
   ];
   primed = λ k p q at_ops at_kept orderly. elim (pushed-cases kept r k q at_kept) [
     | inl old ↦ are.primed k p q at_ops old orderly
     | inr new ↦
         let same_operator : o ≡ p = same_of_some (sym is ∙ ap (slice_get ops) (sym new.0) ∙ at_ops) in
-        subst (λ (z : Reads). IsRead ops true p.body (shown z.primed)) new.1 (subst (λ (z : Operator). IsRead ops true z.body (shown r.primed)) same_operator (λ i h. primed ops v are few i record { below = smaller (length kept) o is; orderly = subst (λ (z : Operator). IsSoundThroughout ops v z.body) (sym same_operator) orderly; ends = h }))
+        subst (λ (z : Reads). IsRead ops true p.body (shown z.primed)) new.1 (subst (λ (z : Operator). IsRead ops true z.body (shown r.primed)) same_operator (λ i h. primed ops v are few i record { below = body-stays ops (length kept) o smaller is; orderly = subst (λ (z : Operator). IsSoundThroughout ops v z.body) (sym same_operator) orderly; ends = h }))
   ];
 }
 

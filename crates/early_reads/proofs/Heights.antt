@@ -1,5 +1,5 @@
 -- What a term reads does not depend on how many levels are allowed; and each term has some number that suffices.
-use Rattle.std.proofs.Common.{◌≡◌, ◌∙◌, inl, inr, ap, refl, subst, List, [], ◌∷◌, map, arith}
+use Rattle.std.proofs.Common.{◌≡◌, ◌∙◌, inl, inr, ap, refl, subst, sym, List, [], ◌∷◌, map, arith}
 use Rattle.std.specs.Prelude.{◌<◌, ◌≤◌, ◌+◌, ◌*◌, ◌-◌, ℕ, zero, suc, Bool, true, false, Some, Contains, slice_get}
 use Rattle.std.specs.List.{AllByRecursion as Each}
 use Rattle.std.proofs.lemmas.List.Elements.{recursion_from_All}
@@ -18,9 +18,11 @@ use Rattle.term_parts.proofs.Contained.{contains_cons, contains_nothing}
 use Rattle.tla_eval.specs.Contexts.{Table}
 use Rattle.tla_eval.specs.Unchanged.{prime_of, unchanged_of, changed_of}
 use Rattle.tla_actions.specs.Reads.{VariableSet, Ends, united, path_terms, terms_in, parts_in, read_among, reads_meaning, reads, reads_primed}
+use Rattle.early_reads.specs.Levels.{StaysBelow}
 use Rattle.early_reads.specs.Weight.{weights}
 use Rattle.early_reads.proofs.Each.{each-map, each-both, each-from}
 use Rattle.early_reads.proofs.Rows.{terms-hold}
+use Rattle.early_reads.proofs.Within.{body-stays}
 use Rattle.early_reads.proofs.Ends.{ends-of, ends-more, ends-plus, ends-parts, stays-ends}
 
 -- READS
@@ -84,7 +86,7 @@ abbrev pub height : Table → ℕ → Term → ℕ
 height ops n e = 4 * (weight e + weights ops n)
 
 abbrev High : Table → ℕ → Type 0
-High ops fuel = (n : ℕ) (e : Term) → MentionsBelow n e → weight e + weights ops n ≤ fuel → Ends ops (height ops n e) e
+High ops fuel = (n : ℕ) (e : Term) → StaysBelow n e → weight e + weights ops n ≤ fuel → Ends ops (height ops n e) e
 
 module _ (ops : Table) (smaller : UsesSmaller ops) (fuel : ℕ) (ih : High ops fuel) (n : ℕ) (at : Place) (l : Level) (m : Meaning) (below : MentionsBelow n (Placed at l m)) (enough : weight (Placed at l m) + weights ops n ≤ suc fuel) where
   abbrev low : ℕ
@@ -93,7 +95,7 @@ module _ (ops : Table) (smaller : UsesSmaller ops) (fuel : ℕ) (ih : High ops f
   part-ends : (p : Part) → Contains (parts false m) p → Ends ops low p.term
   part-ends p c =
       let lighter : weight p.term < weight (Placed at l m) = weight-part at l m p c in
-      let own : Ends ops (height ops n p.term) p.term = ih n p.term (λ k u. below k (mentioned_in_part at l m p k c u)) (omega arith) in
+      let own : Ends ops (height ops n p.term) p.term = ih n p.term (inr (λ k u. below k (mentioned_in_part at l m p k c u))) (omega arith) in
       raise ops (height ops n p.term) low p.term (omega arith) own
 
   body-ends : (k : ℕ) (ts : Terms) (o : Operator) → m ≡ term.Use k ts → slice_get ops k ≡ Some o → Ends ops (suc (suc (suc low))) o.body
@@ -101,7 +103,7 @@ module _ (ops : Table) (smaller : UsesSmaller ops) (fuel : ℕ) (ih : High ops f
       let calls : MentionsBelow n (Placed at l (term.Use k ts)) = subst (λ (y : Meaning). MentionsBelow n (Placed at l y)) q below in
       let lt : k < n = calls k (used at l k ts) in
       let falls : weight o.body + weights ops k ≤ weights ops n = weights-fall ops n k o r lt in
-      let own : Ends ops (height ops k o.body) o.body = ih k o.body (smaller k o r) (omega arith) in
+      let own : Ends ops (height ops k o.body) o.body = ih k o.body (body-stays ops k o smaller r) (omega arith) in
       raise ops (height ops k o.body) (suc (suc (suc low))) o.body (omega arith) own
 
   plain-ends : (e : Term) → Ends ops low e → Ends ops (suc (suc (suc low))) e
@@ -122,9 +124,16 @@ module _ (ops : Table) (smaller : UsesSmaller ops) (fuel : ℕ) (ih : High ops f
       subst (λ (z : ℕ). Ends ops z (Placed at l m)) q
       (ends-of ops (suc (suc (suc low))) at l m (terms-hold (Ends ops (suc (suc (suc low)))) (Ends ops low) plain-ends stay-ends change-ends ops false at m body-ends (each-from (λ (p : Part). Ends ops low p.term) (parts false m) part-ends)))
 
+-- of a constant term nothing is asked
+constant-height : (ops : Table) (n : ℕ) (at : Place) (l : Level) (m : Meaning) → l ≡ levels.Constant → Ends ops (height ops n (Placed at l m)) (Placed at l m)
+constant-height ops n at l m c =
+    let q : suc (4 * (inner m + weights ops n) + 3) ≡ height ops n (Placed at l m) = omega arith in
+    subst (λ (z : ℕ). Ends ops z (Placed at l m)) q (subst (λ (z : Level). Ends ops (suc (4 * (inner m + weights ops n) + 3)) (Placed at z m)) (sym c) tt)
+
 pub high : (ops : Table) → UsesSmaller ops → (fuel : ℕ) → High ops fuel
 high ops smaller zero n (Placed at l m) below enough = absurd (omega (arith, enough))
-high ops smaller (suc fuel) n (Placed at l m) below enough = whole-ends ops smaller fuel (high ops smaller fuel) n at l m below enough
+high ops smaller (suc fuel) n (Placed at l m) (inl c) enough = constant-height ops n at l m c
+high ops smaller (suc fuel) n (Placed at l m) (inr below) enough = whole-ends ops smaller fuel (high ops smaller fuel) n at l m below enough
 
 pub some-height : (ops : Table) → UsesSmaller ops → (n : ℕ) (e : Term) → MentionsBelow n e → Ends ops (height ops n e) e
-some-height ops smaller n e below = high ops smaller (weight e + weights ops n) n e below (omega arith)
+some-height ops smaller n e below = high ops smaller (weight e + weights ops n) n e (inr below) (omega arith)

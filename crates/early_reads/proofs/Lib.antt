@@ -1,5 +1,6 @@
 pub mod Each
 pub mod Rows
+pub mod Within
 pub mod Ends
 pub mod Heights
 pub mod Early
@@ -12,3 +13,4 @@ pub mod Way
 pub mod Last
 pub mod Behind
 pub mod Changing
+pub mod Walked

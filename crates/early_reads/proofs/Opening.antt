@@ -11,7 +11,6 @@ use Rattle.tla_terms.specs.Lists.{terms_list}
 use Rattle.tla_terms.specs.Terms as term
 use Rattle.tla_terms.specs.Terms.{Term, Placed, Meaning, Terms, Steps, Step, Changes, place_of}
 use Rattle.term_parts.specs.Parts.{Part, part, parts, parts_of, listed, operand_list, set_list, value_list, arm_list}
-use Rattle.term_parts.specs.Slots.{mentioned_in_part}
 use Rattle.term_parts.specs.Weights.{inner, in_terms, in_step, in_steps, in_changes, total}
 use Rattle.term_parts.proofs.Contained.{contains_head, contains_tail}
 use Rattle.term_parts.proofs.Weights.{total-append, total-cons, total-nil, of_parts}
@@ -28,6 +27,7 @@ use Rattle.early_reads.specs.Primes.{and_behind, last_prime}
 use Rattle.early_reads.specs.Keeping.{Fits}
 use Rattle.early_reads.specs.Ready.{table_of, setting_of, IsReady, IsWalked, TellsUnread}
 use Rattle.early_reads.specs.Opened.{IsPlain, early_at, unread_at, IsRow, Opens, TellsPrimed, TellsStays, TellsBody}
+use Rattle.early_reads.proofs.Within.{below-part}
 use Rattle.early_reads.proofs.Each.{each-append, each-left, each-right}
 use Rattle.early_reads.proofs.Rows.{listed_is, paths_more, changes_more}
 use Rattle.early_reads.proofs.Ends.{ends-stays, unstay, unchange, orderly-part}
@@ -59,7 +59,7 @@ terms_of_listed b ts = terms_of_parts b (listed ts) ∙ listed_is ts
 
 pub fits-unstay : (ops : Table) (v n k : ℕ) (at : Place) (e : Term) → Fits ops v n k (unchanged_of at e) → Fits ops v n k e
 fits-unstay ops v n k at e h = record {
-  below = λ i u. h.below i (mentioned_in_part at levels.Action (term.Prefix prefix.Unchanged e) (part true e) i (contains_head (part true e) []) u);
+  below = below-part n at levels.Action (term.Prefix prefix.Unchanged e) (part true e) refl (contains_head (part true e) []) h.below;
   orderly = orderly-part ops v at levels.Action (term.Prefix prefix.Unchanged e) (part true e) (contains_head (part true e) []) h.orderly;
   ends = unstay ops k at e h.ends;
 }
@@ -183,7 +183,7 @@ fits-unchange ops v n k at e h =
     let m : Meaning = term.Infix infix_operator.NotEqual (term.First (prime_of at e)) e in
     let inside : Contains (parts false m) (part false e) = contains_tail (part false (prime_of at e)) (part false e ∷ []) (part false e) (contains_head (part false e) []) in
     record {
-      below = λ i u. h.below i (mentioned_in_part at levels.Action m (part false e) i inside u);
+      below = below-part n at levels.Action m (part false e) refl inside h.below;
       orderly = orderly-part ops v at levels.Action m (part false e) inside h.orderly;
       ends = unchange ops k at e h.ends;
     }

@@ -22,6 +22,7 @@ use Rattle.tla_actions.specs.Forms.{is_taken}
 use Rattle.tla_actions.specs.Reads.{VariableSet, Ends, terms_in}
 use Rattle.tla_actions.specs.Outcomes.{or_else, too_early, first_early, early_unchanged}
 use Rattle.early_reads.specs.declared.walking.Walk.{Walk}
+use Rattle.early_reads.specs.Levels.{StaysBelow}
 use Rattle.early_reads.specs.Orderly.{IsSoundThroughout}
 use Rattle.early_reads.specs.Weight.{weights}
 use Rattle.early_reads.specs.Follow.{IsBehind}
@@ -29,8 +30,9 @@ use Rattle.early_reads.specs.Keeping.{Fits}
 use Rattle.early_reads.specs.Ready.{table_of, setting_of, IsWalked, TellsUnread}
 use Rattle.early_reads.specs.Shapes.{IsOther}
 use Rattle.early_reads.specs.Opened.{early_at, unread_at, TellsStays, TellsItems}
-use Rattle.early_reads.proofs.Each.{each-both, each-from, each-item}
+use Rattle.early_reads.proofs.Each.{each-both, each-from, each-item, each-weaker}
 use Rattle.early_reads.proofs.Rows.{terms-hold}
+use Rattle.early_reads.proofs.Within.{body-stays, stays-more}
 use Rattle.early_reads.proofs.Ends.{ends-in, ends-behind, orderly-terms, orderly-behind}
 use Rattle.early_reads.proofs.Early.{action-taken, if-taken, IsStill, still-items, early-still}
 
@@ -61,24 +63,31 @@ mentions-changed n at e h =
     let primed : MentionsBelow n (prime_of at e) = mentions-of n (prime_of at e) (λ k ts q. absurd (cc)) (λ ks f k q c. absurd (cc)) (one-mentioned n true e h) in
     mentions-of n (changed_of at e) (λ k ts q. absurd (cc)) (λ ks f k q c. absurd (cc)) (two-mentioned n false false (prime_of at e) e primed h)
 
-pub mentions-terms : (ops : Table) (n : ℕ) (at : Place) (l : Level) (m : Meaning) → UsesSmaller ops → MentionsBelow n (Placed at l m) → Each (MentionsBelow n) (terms_in ops at m)
-mentions-terms ops n at l m smaller h =
-    terms-hold (MentionsBelow n) (MentionsBelow n) (λ e k. k) (mentions-stays n) (mentions-changed n) ops false at m
-    (λ k ts o q r i u. let calls : MentionsBelow n (Placed at l (term.Use k ts)) = subst (λ (y : Meaning). MentionsBelow n (Placed at l y)) q h in let lt : k < n = calls k (used at l k ts) in let under : i < k = smaller k o r i u in omega arith)
+pub stays-terms : (ops : Table) (n : ℕ) (at : Place) (l : Level) (m : Meaning) → UsesSmaller ops → MentionsBelow n (Placed at l m) → Each (StaysBelow n) (terms_in ops at m)
+stays-terms ops n at l m smaller h =
+    terms-hold (StaysBelow n) (MentionsBelow n) (λ e k. inr k) (λ p e k. inr (mentions-stays n p e k)) (λ p e k. inr (mentions-changed n p e k)) ops false at m
+    (λ k ts o q r. let calls : MentionsBelow n (Placed at l (term.Use k ts)) = subst (λ (y : Meaning). MentionsBelow n (Placed at l y)) q h in let lt : k < n = calls k (used at l k ts) in stays-more k n o.body (omega arith) (body-stays ops k o smaller r))
     (each-from (λ (p : Part). MentionsBelow n p.term) (parts false m) (λ p c i u. h i (mentioned_in_part at l m p i c u)))
 
 pub fits-terms : (ops : Table) (v n k : ℕ) (at : Place) (l : Level) (m : Meaning) → UsesSmaller ops → MentionsBelow n (Placed at l m) → IsSoundThroughout ops v (Placed at l m) → Each (Ends ops k) (terms_in ops at m) → Each (Fits ops v n k) (terms_in ops at m)
 fits-terms ops v n k at l m smaller below orderly ends =
-    each-both (λ e. MentionsBelow n e × IsSoundThroughout ops v e) (Ends ops k) (Fits ops v n k) (λ e x y. record { below = x.0; orderly = x.1; ends = y }) (terms_in ops at m)
-    (each-both (MentionsBelow n) (IsSoundThroughout ops v) (λ e. MentionsBelow n e × IsSoundThroughout ops v e) (λ e x y. (x, y)) (terms_in ops at m) (mentions-terms ops n at l m smaller below) (orderly-terms ops v at l m orderly)) ends
+    each-both (λ e. StaysBelow n e × IsSoundThroughout ops v e) (Ends ops k) (Fits ops v n k) (λ e x y. record { below = x.0; orderly = x.1; ends = y }) (terms_in ops at m)
+    (each-both (StaysBelow n) (IsSoundThroughout ops v) (λ e. StaysBelow n e × IsSoundThroughout ops v e) (λ e x y. (x, y)) (terms_in ops at m) (stays-terms ops n at l m smaller below) (orderly-terms ops v at l m orderly)) ends
 
 -- ITEMS OF A TUPLE
+
+-- the items of a constant tuple are constant
+pub items-stay : (w : Walk) (bound k : ℕ) (p : Place) (l : Level) (ts : Terms) → IsWalked w bound k (Placed p l (term.Tuple ts)) → StaysBelow bound (Placed p l (term.Tuple ts)) → Each (StaysBelow bound) (terms_list ts)
+items-stay w bound k p l ts walked (inl c) =
+    each-weaker (IsStill (setting_of w)) (StaysBelow bound) (λ x h. inl h.0) (terms_list ts)
+    (still-items (setting_of w) p ts (subst (λ (z : Level). IsSoundThroughout (table_of w) w.variables (Placed p z (term.Tuple ts))) c walked.fits.orderly))
+items-stay w bound k p l ts walked (inr h) = stays-terms (table_of w) bound p l (term.Tuple ts) walked.ready.smaller h
 
 pub item-tells : (w : Walk) (bound : ℕ) (B : VariableSet) (at p : Place) (l : Level) (ts : Terms) (k i : ℕ) (x : Term) (o : Option FormFault) → IsWalked w bound k (Placed p l (term.Tuple ts)) → slice_get (terms_list ts) i ≡ Some x → TellsStays w bound B at x o → early_at w B k (unchanged_of at x) ≡ o
 item-tells w bound B at p l ts zero i x o walked is tells = absurd walked.fits.ends
 item-tells w bound B at p l ts (suc k) i x o walked is tells =
     let ops : Table = table_of w in
-    let below : MentionsBelow bound x = each-item (MentionsBelow bound) (terms_list ts) i x is (mentions-terms ops bound p l (term.Tuple ts) walked.ready.smaller walked.fits.below) in
+    let below : StaysBelow bound x = each-item (StaysBelow bound) (terms_list ts) i x is (items-stay w bound (suc k) p l ts walked walked.fits.below) in
     let orderly : IsSoundThroughout ops w.variables x = each-item (IsSoundThroughout ops w.variables) (terms_list ts) i x is (orderly-terms ops w.variables p l (term.Tuple ts) walked.fits.orderly) in
     elim (ends-in ops k p l (term.Tuple ts) walked.fits.ends) [
       | inr each ↦ tells k record { ready = walked.ready; within = walked.within; fits = record { below = below; orderly = orderly; ends = each-item (Ends ops k) (terms_list ts) i x is each } }
@@ -148,12 +157,12 @@ module _ (w : Walk) (bound : ℕ) (B : VariableSet) (at : Place) (e found : Term
 
   pub found-walked : (k : ℕ) → IsWalked w bound k e → IsWalked w number k (Placed p l m)
   found-walked k walked =
-      let told : ((behind (table_of w) (length (table_of w)) zero e).1 ≡ found) × (number ≤ bound) × MentionsBelow number found = follows walked.ready.smaller walked.fits.below (length (table_of w)) zero walked.within in
+      let told : ((behind (table_of w) (length (table_of w)) zero e).1 ≡ found) × (number ≤ bound) × StaysBelow number found = follows walked.ready.smaller walked.fits.below (length (table_of w)) zero walked.within in
       record {
         ready = walked.ready;
         within = omega (arith, told.1, walked.within);
         fits = record {
-          below = subst (λ (f : Term). MentionsBelow number f) (sym seen) told.2;
+          below = subst (λ (f : Term). StaysBelow number f) (sym seen) told.2;
           orderly = subst (λ (f : Term). IsSoundThroughout (table_of w) w.variables f) (behind-is k walked) (orderly-behind (table_of w) w.variables (length (table_of w)) zero e walked.fits.orderly);
           ends = subst (λ (f : Term). Ends (table_of w) k f) (behind-is k walked) (ends-behind (table_of w) k (length (table_of w)) zero e walked.fits.ends);
         };

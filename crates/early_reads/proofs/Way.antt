@@ -24,6 +24,7 @@ use Rattle.early_reads.proofs.Each.{each-append, each-left, each-right, each-wea
 use Rattle.early_reads.proofs.Ends.{ends-in, ends-more}
 use Rattle.early_reads.proofs.Early.{if-taken, not_constant, early-same}
 use Rattle.early_reads.proofs.Staying.{fits-terms}
+use Rattle.early_reads.proofs.Within.{body-stays}
 use Rattle.early_reads.proofs.Opening.{or_else-none, or_else-assoc, first-append, parts_fit}
 
 abbrev pub FitsPart : Walk → ℕ → ℕ → Part → Type 0
@@ -95,12 +96,15 @@ module _ (w : Walk) (bound : ℕ) (B : VariableSet) (start : List Part) (p : Par
     row-of k ready within fits = record {
       ready = ready;
       within = within;
-      below = λ i ts q. (subst (λ (y : Meaning). MentionsBelow bound (Placed at l y)) q fits.below) i (used at l i ts);
-      fit = fits-terms (table_of w) w.variables bound k at l m ready.smaller fits.below fits.orderly (elim (ends-in (table_of w) k at l m fits.ends) [
+      below = λ i ts q. (subst (λ (y : Meaning). MentionsBelow bound (Placed at l y)) q below) i (used at l i ts);
+      fit = fits-terms (table_of w) w.variables bound k at l m ready.smaller below fits.orderly (elim (ends-in (table_of w) k at l m fits.ends) [
         | inl c ↦ absurd (not_constant w.which l taken c)
         | inr each ↦ each
       ]);
     }
+      where
+        below : MentionsBelow bound (Placed at l m)
+        below = elim fits.below [ inl c ↦ absurd (not_constant w.which l taken c) | inr h ↦ h ]
 
     pub early-goes : EarlyWay w bound B start answer after
     early-goes k ready within each = goes k ready within (way k ready within each)
@@ -137,4 +141,4 @@ body-some w bound B i o r lt q tells at ts k row =
     let inner : Each (Fits (table_of w) w.variables bound k) (body_of (slice_get (table_of w) i)) = each-right (Fits (table_of w) w.variables bound k) (terms_list ts) (body_of (slice_get (table_of w) i)) row.fit in
     let one : Each (Fits (table_of w) w.variables bound k) (o.body ∷ []) = subst (λ (z : Option Operator). Each (Fits (table_of w) w.variables bound k) (body_of z)) q inner in
     ap (λ (z : Option Operator). first_early (early_at w B k) (body_of z)) q ∙ or_else-none (early_at w B k o.body)
-    ∙ tells k record { ready = row.ready; within = omega (arith, row.within); fits = record { below = row.ready.smaller i o q; orderly = one.0.orderly; ends = one.0.ends } }
+    ∙ tells k record { ready = row.ready; within = omega (arith, row.within); fits = record { below = body-stays (table_of w) i o row.ready.smaller q; orderly = one.0.orderly; ends = one.0.ends } }

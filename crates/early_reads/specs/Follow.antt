@@ -3,9 +3,10 @@ use Rattle.std.specs.Prelude.{◌≡◌, ◌<◌, ◌≤◌, ℕ, Option, Some, 
 use Rattle.tla_terms.specs.declared.level.Level.TheVariants as levels
 use Rattle.tla_terms.specs.Terms as term
 use Rattle.tla_terms.specs.Terms.{Term, Placed, Meaning}
-use Rattle.term_parts.specs.Slots.{MentionsBelow, UsesSmaller}
+use Rattle.term_parts.specs.Slots.{UsesSmaller}
 use Rattle.tla_eval.specs.Contexts.{Table}
 use Rattle.tla_eval.specs.Unchanged.{behind}
+use Rattle.early_reads.specs.Levels.{StaysBelow}
 
 -- the term is a name of level 1 without arguments, of the definition of that number, which is below a bound
 abbrev pub IsName : ℕ → Term → ℕ → Type 0
@@ -16,7 +17,7 @@ abbrev pub IsBody : ℕ → Term → Option ℕ → Type 0
 IsBody bound e (Some n) = IsName bound e n
 IsBody bound e None = (n : ℕ) → IsName bound e n → ⊥
 
--- from a term that uses definitions below a bound, following names as often as there are definitions or more
+-- from a term that uses definitions below a bound or is constant, following names as often as there are definitions or more
 abbrev pub IsBehind : Table → ℕ → Term → ℕ → Term → Type 0
 IsBehind ops bound e number found =
-    UsesSmaller ops → MentionsBelow bound e → (often m : ℕ) → bound ≤ often → ((behind ops often m e).1 ≡ found) × (number ≤ bound) × MentionsBelow number found
+    UsesSmaller ops → StaysBelow bound e → (often m : ℕ) → bound ≤ often → ((behind ops often m e).1 ≡ found) × (number ≤ bound) × StaysBelow number found

@@ -5,10 +5,10 @@ use Rattle.tla_terms.specs.declared.operator.Operator.{Operator}
 use Rattle.tla_terms.specs.Terms as term
 use Rattle.tla_terms.specs.Terms.{Term, Meaning}
 use Rattle.term_parts.specs.Parts.{Part}
-use Rattle.term_parts.specs.Slots.{MentionsBelow}
 use Rattle.tla_eval.specs.Contexts.{Table}
 use Rattle.tla_actions.specs.Reads.{VariableSet, Ends, in_none, read_among, reads}
 use Rattle.early_reads.specs.declared.reading.Reads.{Reads}
+use Rattle.early_reads.specs.Levels.{StaysBelow}
 use Rattle.early_reads.specs.Orderly.{IsSoundThroughout}
 use Rattle.early_reads.specs.Sets.{shown}
 
@@ -22,9 +22,9 @@ pub record AreKept (ops : Table) (variables : ℕ) (kept : List Reads) : Type 0 
   pub plain : (k : ℕ) (o : Operator) (r : Reads) → slice_get ops k ≡ Some o → slice_get kept k ≡ Some r → IsSoundThroughout ops variables o.body → IsRead ops false o.body (shown r.plain)
   pub primed : (k : ℕ) (o : Operator) (r : Reads) → slice_get ops k ≡ Some o → slice_get kept k ≡ Some r → IsSoundThroughout ops variables o.body → IsRead ops true o.body (shown r.primed)
 
--- the term uses definitions below n alone, is sound throughout, and is at most k levels high
+-- the term uses definitions below n alone or is constant, is sound throughout, and is at most k levels high
 pub record Fits (ops : Table) (variables n k : ℕ) (e : Term) : Type 0 where
-  pub below : MentionsBelow n e
+  pub below : StaysBelow n e
   pub orderly : IsSoundThroughout ops variables e
   pub ends : Ends ops k e
 

@@ -1,4 +1,5 @@
--- What the walks over terms stand in, and what they tell where it is in order. A term that is walked uses definitions below a bound alone.
+-- What the walks over terms stand in, and what they tell where it is in order. A term that is walked uses definitions
+-- below a bound alone, or is constant.
 use Rattle.std.specs.Prelude.{◌≡◌, ◌≤◌, ℕ, Option, length}
 use Rattle.std.specs.List.{AllByRecursion as Each}
 use Rattle.tla_terms.specs.Terms.{Term, Steps}

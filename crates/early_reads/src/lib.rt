@@ -1,6 +1,7 @@
 //! Which variables terms read of the state that is made, and the first read that comes too early.
 #![tactic(auto)]
 
+mod bodies;
 mod faults;
 mod kinds;
 mod reading;

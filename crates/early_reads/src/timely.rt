@@ -2,7 +2,7 @@
 //!
 //! The terms of a text are walked from its end to its start, and what is found on the left takes the place of what was found before.
 
-ghost use Rattle.std.specs.Prelude.{◌≡◌, ◌++◌, ◌∷◌, ℕ, [], IfOk, OnOk, Some, false, if◌then◌else◌, map};
+ghost use Rattle.std.specs.Prelude.{◌≡◌, ◌++◌, ◌<◌, ◌∷◌, ℕ, [], IfOk, OnOk, Some, false, if◌then◌else◌, map};
 ghost use Rattle.tla_terms.specs.Terms.{Postfix, place_of};
 ghost use Rattle.tla_terms.specs.Lists.{terms_list};
 ghost use Rattle.tla_terms.specs.TermViews.{node_view, step_view, steps_of};
@@ -10,12 +10,14 @@ ghost use Rattle.tla_eval.specs.Functions.{steps_place};
 ghost use Rattle.term_parts.specs.Parts.{is_prime, part, parts_of, set_list};
 ghost use Rattle.term_parts.specs.Waiting.{waiting};
 ghost use Rattle.tla_actions.specs.Outcomes.{early_variable, or_else};
+ghost use Rattle.early_reads.specs.Known.{AreKnown};
 ghost use Rattle.early_reads.specs.Opened.{Opens, TellsBody, TellsFirst, TellsPrimed, TellsTerms};
 ghost use Rattle.early_reads.specs.Primes.{IsLastPrime};
 ghost use Rattle.early_reads.specs.Ready.{TellsEarly};
 ghost use Rattle.early_reads.specs.Sets.{shown};
 ghost use Rattle.early_reads.specs.Paths.{change_terms};
 
+use crate::bodies::Bodies;
 use crate::faults::too_early;
 use crate::kinds::{Row, row_of};
 use crate::unchanged::unless_in;
@@ -169,7 +171,6 @@ impl<'a> Walk<'a> {
     }
 
     /// The first read that is too early, where these variables are fixed.
-    #[cycle(early)]
     pub fn early(
         &self,
         bound: usize,
@@ -178,13 +179,11 @@ impl<'a> Walk<'a> {
     ) -> Result<Option<FormFault>, NoMemory>
         ensures { IfOk result (λ o. TellsEarly self.now bound (shown before) term.now o) }
     {
-        let mut stack = Vec::new(self.alloc);
-        push(&mut stack, false, term)?;
-        self.early_all(bound, stack, before)
+        let mut known = Bodies::new(self.alloc);
+        self.early_in(&mut known, bound, term, before)
     }
 
     /// The first read that is too early among terms that wait on a stack.
-    #[cycle(early)]
     pub fn early_all(
         &self,
         bound: usize,
@@ -193,6 +192,41 @@ impl<'a> Walk<'a> {
     ) -> Result<Option<FormFault>, NoMemory>
         ensures { IfOk result (λ o. TellsFirst self.now bound (shown before) (waiting stack.entry.items) o) }
     {
+        let mut known = Bodies::new(self.alloc);
+        self.early_rest(&mut known, bound, stack, before)
+    }
+
+    /// The first read of a term that is too early, where some is known of bodies.
+    #[cycle(early)]
+    fn early_in(
+        &self,
+        known: &mut Bodies,
+        bound: usize,
+        term: &'a Term,
+        before: VarSet,
+    ) -> Result<Option<FormFault>, NoMemory>
+        requires known { AreKnown self.now (shown before) known.old }
+        ensures tells { IfOk result (λ o. TellsEarly self.now bound (shown before) term.now o) }
+        ensures known { OnOk result (AreKnown self.now (shown before) known.new) }
+    {
+        let mut stack = Vec::new(self.alloc);
+        push(&mut stack, false, term)?;
+        self.early_rest(known, bound, stack, before)
+    }
+
+    /// The same among terms that wait on a stack.
+    #[cycle(early)]
+    fn early_rest(
+        &self,
+        known: &mut Bodies,
+        bound: usize,
+        stack: Vec<Pending<'a>>,
+        before: VarSet,
+    ) -> Result<Option<FormFault>, NoMemory>
+        requires known { AreKnown self.now (shown before) known.old }
+        ensures tells { IfOk result (λ o. TellsFirst self.now bound (shown before) (waiting stack.entry.items) o) }
+        ensures known { OnOk result (AreKnown self.now (shown before) known.new) }
+    {
         let mut found = None;
         let mut stack = stack;
         while let Some(pending) = stack.pop() {
@@ -200,7 +234,15 @@ impl<'a> Walk<'a> {
             if !is_taken(self.which, part.level) {
                 continue;
             }
-            found = self.early_row(bound, &mut stack, part.at, &*part.node, before, found)?;
+            found = self.early_row(
+                known,
+                bound,
+                &mut stack,
+                part.at,
+                &*part.node,
+                before,
+                found,
+            )?;
         }
         Ok(found)
     }
@@ -233,21 +275,47 @@ impl<'a> Walk<'a> {
         self.early_all(bound, stack, before)
     }
 
-    /// The body of a definition.
+    /// The body of a definition, which is walked once alone.
     #[cycle(early)]
     fn early_body(
         &self,
+        known: &mut Bodies,
         bound: usize,
         number: usize,
         before: VarSet,
     ) -> Result<Option<FormFault>, NoMemory>
-        ensures { IfOk result (λ o. TellsBody self.now bound (shown before) number o) }
+        requires known { AreKnown self.now (shown before) known.old }
+        ensures tells { IfOk result (λ o. TellsBody self.now bound (shown before) number o) }
+        ensures known { OnOk result (AreKnown self.now (shown before) known.new) }
     {
         if number >= bound {
             return Ok(None);
         }
+        match known.of(number) {
+            Some(found) => Ok(found),
+            None => self.unknown_body(known, bound, number, before),
+        }
+    }
+
+    /// The body of a definition that was not walked yet.
+    #[cycle(early)]
+    fn unknown_body(
+        &self,
+        known: &mut Bodies,
+        bound: usize,
+        number: usize,
+        before: VarSet,
+    ) -> Result<Option<FormFault>, NoMemory>
+        requires below { number < bound }
+        requires known { AreKnown self.now (shown before) known.old }
+        ensures tells { IfOk result (λ o. TellsBody self.now bound (shown before) number o) }
+        ensures known { OnOk result (AreKnown self.now (shown before) known.new) }
+    {
         match self.operators.get(number) {
-            Some(operator) => self.early(number, &operator.body, before),
+            Some(operator) => match self.early_in(known, number, &operator.body, before) {
+                Ok(found) => known.noted(number, found),
+                Err(refusal) => Err(refusal),
+            },
             None => Ok(None),
         }
     }
@@ -256,6 +324,7 @@ impl<'a> Walk<'a> {
     #[cycle(early)]
     fn early_row(
         &self,
+        known: &mut Bodies,
         bound: usize,
         stack: &mut Vec<Pending<'a>>,
         at: Place,
@@ -263,7 +332,9 @@ impl<'a> Walk<'a> {
         before: VarSet,
         found: Option<FormFault>,
     ) -> Result<Option<FormFault>, NoMemory>
-        ensures { IfOk result (λ o. Opens self.now bound (shown before) at (node_view node.now) found o (waiting stack.old.items) (waiting stack.new.items)) }
+        requires known { AreKnown self.now (shown before) known.old }
+        ensures tells { IfOk result (λ o. Opens self.now bound (shown before) at (node_view node.now) found o (waiting stack.old.items) (waiting stack.new.items)) }
+        ensures known { OnOk result (AreKnown self.now (shown before) known.new) }
     {
         match row_of(node) {
             Row::Variable(variable) => {
@@ -271,7 +342,7 @@ impl<'a> Walk<'a> {
                 Ok(or_else(own, found))
             }
             Row::Use(number, terms) => {
-                let own = self.early_body(bound, number, before)?;
+                let own = self.early_body(known, bound, number, before)?;
                 push_terms(stack, false, terms)?;
                 Ok(or_else(own, found))
             }

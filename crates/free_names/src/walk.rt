@@ -121,29 +121,17 @@ fn gather_row(
         }
         Node::SetOf(items) => gather_each(alloc, found, hidden, items),
         Node::Filter(bound, set, test) => {
-            let depth = hidden.len();
             gather(alloc, found, hidden, set)?;
-            hidden.push(bound)?;
-            gather(alloc, found, hidden, test)?;
-            hidden.cut(depth);
-            Ok(())
+            gather_under(alloc, found, hidden, test, bound)
         }
         Node::Map(value, bounds) => {
-            let depth = hidden.len();
             gather_bounds(alloc, found, hidden, bounds)?;
-            hidden.push_bounds(bounds)?;
-            gather(alloc, found, hidden, value)?;
-            hidden.cut(depth);
-            Ok(())
+            gather_within(alloc, found, hidden, value, bounds)
         }
         Node::Tuple(items) => gather_each(alloc, found, hidden, items),
         Node::Function(bounds, value) => {
-            let depth = hidden.len();
             gather_bounds(alloc, found, hidden, bounds)?;
-            hidden.push_bounds(bounds)?;
-            gather(alloc, found, hidden, value)?;
-            hidden.cut(depth);
-            Ok(())
+            gather_within(alloc, found, hidden, value, bounds)
         }
         Node::FunctionSet(domain, range) => {
             gather(alloc, found, hidden, domain)?;
@@ -177,6 +165,44 @@ fn gather_row(
         Node::If(_, _, _) => unreachable!(),
         Node::Let(_, _) => unreachable!(),
     }
+}
+
+/// Adds them for a tree around which one more name is bound.
+#[cycle(gather)]
+fn gather_under(
+    alloc: Global,
+    found: &mut Names,
+    hidden: &mut Hidden,
+    tree: &Expr,
+    bound: &Text,
+) -> Result<(), NoMemory>
+    ensures found { OnOk result (found.new ≡ gather (hidden.old ++ bound.now ∷ []) found.old tree.now) }
+    ensures hidden { OnOk result (hidden.new ≡ hidden.old) }
+{
+    let depth = hidden.len();
+    hidden.push(bound)?;
+    gather(alloc, found, hidden, tree)?;
+    hidden.cut(depth);
+    Ok(())
+}
+
+/// Adds them for a tree around which the names of bounds are bound.
+#[cycle(gather)]
+fn gather_within(
+    alloc: Global,
+    found: &mut Names,
+    hidden: &mut Hidden,
+    tree: &Expr,
+    bounds: &Bounds,
+) -> Result<(), NoMemory>
+    ensures found { OnOk result (found.new ≡ gather (hidden.old ++ bound_by bounds.now) found.old tree.now) }
+    ensures hidden { OnOk result (hidden.new ≡ hidden.old) }
+{
+    let depth = hidden.len();
+    hidden.push_bounds(bounds)?;
+    gather(alloc, found, hidden, tree)?;
+    hidden.cut(depth);
+    Ok(())
 }
 
 #[cycle(gather)]
@@ -292,10 +318,7 @@ fn gather_changes(
     let at_sign = Text::from_text(alloc, "@")?;
     for change in changes.items() {
         gather_steps(alloc, found, hidden, &change.path)?;
-        let depth = hidden.len();
-        hidden.push(&at_sign)?;
-        gather(alloc, found, hidden, &change.value)?;
-        hidden.cut(depth);
+        gather_under(alloc, found, hidden, &change.value, &at_sign)?;
     }
     Ok(())
 }

@@ -9,13 +9,14 @@ use trace_base::NoMemory;
 pub fn copy_line(alloc: Global, line: &Line) -> Result<Line, NoMemory>
     ensures { IfOk result (λ copy. copy ≡ line.now) }
 {
+    let clock = line.clock.copy(alloc)?;
     let event = copy_event(alloc, &line.event)?;
     let updates = copy_updates(alloc, line.updates.items())?;
     let mut sees = Sees::new(alloc);
     add_sees(alloc, &mut sees, line.sees.items())?;
     Ok(Line {
         at: line.at,
-        clock: line.clock,
+        clock,
         event,
         updates,
         sees,

@@ -1,3 +1,4 @@
 pub mod PartLemmas
 pub mod ShapeLemmas
 pub mod KeyLemmas
+pub mod ClockLemmas

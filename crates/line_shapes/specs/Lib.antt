@@ -1,3 +1,5 @@
+pub mod Clocks
+pub mod ClockSeen
 pub mod Keys
 pub mod Parts
 pub mod Shapes

@@ -1,6 +1,7 @@
 -- For the prover: what is borrowed from a line's JSON, seen as its shape.
 use Rattle.std.specs.Prelude.{[], option_map, unwrap_or}
 use Rattle.serde_json.specs.View.{items_view, view}
+use Rattle.line_shapes.specs.ClockSeen.{clock_seen}
 use Rattle.line_shapes.specs.Parts.{PathShape, UpdateShape, SeeShape, each_of, see_of, update_of}
 use Rattle.line_shapes.specs.Shapes.{LineShape}
 use Rattle.line_shapes.specs.declared.raw.RawPath.{RawPath}
@@ -22,7 +23,7 @@ shape_seen s = record {
   init = s.init;
   event = option_map (λ name. name.now) s.event;
   args = items_view s.args.now;
-  clock = s.clock;
+  clock = option_map clock_seen s.clock;
   updates = unwrap_or (each_of update_of (items_view s.updates.now)) [];
   sees = unwrap_or (each_of see_of (items_view s.sees.now)) [];
 }

@@ -1,7 +1,8 @@
 -- The shape of a line's JSON: which keys it has and how their contents are built, with no value read yet.
-use Rattle.std.specs.Prelude.{ℕ, ℤ, pos, negsuc, List, [], Bool, true, false, not, Option, None, Some, Result, Ok, Err, is_some, option_and_then, option_map}
+use Rattle.std.specs.Prelude.{ℕ, List, [], Bool, true, false, not, Option, None, Some, Result, Ok, Err, is_some, option_and_then, option_map}
 use Rattle.serde_json.specs.Data.{Data, Items, no_items, Members}
-use Rattle.serde_json.specs.Find.{as_array, as_bool, as_i64, as_number, as_str}
+use Rattle.serde_json.specs.Find.{as_array, as_bool, as_str}
+use Rattle.line_shapes.specs.Clocks.{ClockShape, clock_of}
 use Rattle.line_shapes.specs.Keys.{content}
 use Rattle.line_shapes.specs.Parts.{UpdateShape, SeeShape, each_of, see_of, update_of}
 use Rattle.line_shapes.specs.declared.key.Key.{Key}
@@ -11,7 +12,7 @@ pub record LineShape : Type 0 where
   pub init : Bool
   pub event : Option (List ℕ)
   pub args : Items
-  pub clock : Option ℤ
+  pub clock : Option ClockShape
   pub updates : List UpdateShape
   pub sees : List SeeShape
 
@@ -25,11 +26,6 @@ abbrev pub where_allowed : {A : Type 0} → Bool → Option A → Option A
 where_allowed true o = o
 where_allowed false o = None
 
--- a whole number that is not below 0
-abbrev pub natural : ℤ → Option ℤ
-natural (pos n) = Some (pos n)
-natural (negsuc n) = None
-
 -- true or false; a line without the key is no init line
 abbrev pub init_at : Members → Option Bool
 init_at ms = content_or false as_bool (content key.Init ms)
@@ -42,9 +38,9 @@ event_at init ms = content_or None (λ d. where_allowed (not init) (option_map S
 abbrev pub args_at : Bool → Members → Option Items
 args_at has_event ms = content_or no_items (λ d. where_allowed has_event (as_array d)) (content key.Args ms)
 
--- a whole number from 0 to 2^63 - 1, written as one: as_i64 gives no other
-abbrev pub clock_at : Members → Option (Option ℤ)
-clock_at ms = content_or None (λ d. option_map Some (option_and_then natural (option_and_then as_i64 (as_number d)))) (content key.Clock ms)
+-- a whole number from 0, or such a number of each of at most 64 nodes
+abbrev pub clock_at : Members → Option (Option ClockShape)
+clock_at ms = content_or None (λ d. option_map Some (clock_of d)) (content key.Clock ms)
 
 -- an array of operations, which no init line has
 abbrev pub updates_at : Bool → Members → Option (List UpdateShape)

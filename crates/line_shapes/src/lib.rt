@@ -1,6 +1,7 @@
 //! The shape of a log's line: which keys it has and how their contents are built, with no value read yet.
 #![tactic(auto)]
 
+mod clock;
 mod contents;
 mod key;
 mod members;
@@ -11,6 +12,7 @@ mod raw;
 mod reading;
 mod shape;
 
+pub use clock::{RawClock, count_of};
 pub use key::{Key, Word};
 pub use object::{LineObject, line_object};
 pub use parts::{see_of, update_of};

@@ -1,10 +1,12 @@
 ghost use Rattle.std.specs.Prelude.{◌≡◌, IfErr, IfOk, MatchOption, Err, None, Ok, Some, is_some, option_map, true};
 ghost use Rattle.serde_json.specs.View.{items_view, members_view};
+ghost use Rattle.line_shapes.specs.ClockSeen.{clock_seen};
 ghost use Rattle.line_shapes.specs.Objects.{AgreeAtKeys, contents_in, members_in};
 ghost use Rattle.line_shapes.specs.Parts.{each_of, see_of, update_of};
 ghost use Rattle.line_shapes.specs.Shapes.{args_at, clock_at, event_at, init_at, shape_of, sees_at, updates_at};
 ghost use Rattle.line_shapes.specs.Seen.{shape_seen};
 
+use crate::clock::{RawClock, clock_of};
 use crate::contents::Contents;
 use crate::key::Key;
 use crate::members::content;
@@ -128,17 +130,16 @@ fn args_at<'a>(contents: Contents<'a>, has_event: bool) -> Option<&'a [Json]>
     }
 }
 
-fn clock_at(contents: Contents<'_>) -> Option<Option<i64>>
-    ensures { result ≡ clock_at (contents_in contents.entry) }
+fn clock_at<'a>(contents: Contents<'a>) -> Option<Option<RawClock<'a>>>
+    ensures { option_map (λ clock. option_map clock_seen clock) result ≡ clock_at (contents_in contents.entry) }
 {
     let Some(json) = contents.at(Key::Clock) else {
         return Some(None);
     };
-    let clock = json.as_i64()?;
-    if clock < 0 {
-        return None;
+    match clock_of(json) {
+        Some(clock) => Some(Some(clock)),
+        None => None,
     }
-    Some(Some(clock))
 }
 
 #[tactic(auto, using(crate::proofs::PartLemmas::each_is))]

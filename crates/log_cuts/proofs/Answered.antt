@@ -2,10 +2,12 @@
 use Rattle.std.proofs.Common.{◌≡◌, ◌↔◌, ℕ, ℤ, Bool, IsTrue, IfOk, Result, List, Some, ap, sym, ◌∙◌, subst, refl}
 use Rattle.std.specs.List.{slice_get}
 use Rattle.clock_merge.specs.declared.order.LineRef.{LineRef}
+use Rattle.vector_clocks.specs.Stamps.{IsAbove}
+use Rattle.vector_clocks.specs.declared.stamp.Stamp.{Stamp}
 use Rattle.log_cuts.specs.Cuts.{Cut, next, total}
 use Rattle.log_cuts.specs.Heads.{IsLeast}
-use Rattle.log_cuts.specs.Orders.{FollowsBy, IsCut, IsGreater, IsMade, IsReadyAt, Order, by_clock, in_sequence, sizes_of, start}
-use Rattle.log_cuts.proofs.Ready.{by_clocks, in_order}
+use Rattle.log_cuts.specs.Orders.{FollowsBy, IsCut, IsGreater, IsMade, IsReadyAt, Order, by_clock, by_vectors, in_sequence, sizes_of, start}
+use Rattle.log_cuts.proofs.Ready.{by_clocks, by_vector, in_order}
 
 -- the cut is that at which nothing is taken
 pub starts : {E : Type 0} (r : Result Cut E) (c : Cut) (o p : Order) → IfOk r (λ cut. cut ≡ c) → c ≡ start o → o ≡ p → IfOk r (λ cut. cut ≡ start p)
@@ -23,4 +25,11 @@ pub ready_by_clock : (o : Order) (clocks : List (List ℤ)) → by_clock clocks 
     → IsTrue b ↔ IsLeast (sizes_of clocks) (FollowsBy IsGreater clocks) c f → IsTrue b ↔ IsReadyAt o c (next c f)
 ready_by_clock o clocks same made c cut f b h =
     let law = by_clocks clocks (subst IsMade (sym same) made) c (subst (λ (p : Order). IsCut p c) (sym same) cut) (next c f) in
+    subst (λ (p : Order). IsTrue b ↔ IsReadyAt p c (next c f)) same (λ t. law.1 (refl, h.0 t), λ r. h.1 (law.0 r).1)
+
+-- by vectors
+pub ready_by_vectors : (o : Order) (vectors : List (List (List Stamp))) → by_vectors vectors ≡ o → IsMade o → (c : Cut) → IsCut o c → (f : ℕ) (b : Bool)
+    → IsTrue b ↔ IsLeast (sizes_of vectors) (FollowsBy IsAbove vectors) c f → IsTrue b ↔ IsReadyAt o c (next c f)
+ready_by_vectors o vectors same made c cut f b h =
+    let law = by_vector vectors (subst IsMade (sym same) made) c (subst (λ (p : Order). IsCut p c) (sym same) cut) (next c f) in
     subst (λ (p : Order). IsTrue b ↔ IsReadyAt p c (next c f)) same (λ t. law.1 (refl, h.0 t), λ r. h.1 (law.0 r).1)

@@ -1,6 +1,9 @@
--- Numbers as clocks.
-use Rattle.std.proofs.Common.{◌⊎◌, inl, inr, ℤ, pos, negsuc, ◌<ℤ◌, ◌≤ℤ◌, arith}
+-- Numbers and vectors as clocks.
+use Rattle.std.proofs.Common.{◌≢◌, ◌⊎◌, inl, inr, ℕ, ◌<◌, ◌≤◌, ℤ, pos, negsuc, ◌<ℤ◌, ◌≤ℤ◌, List, sym, refl, arith}
 use Rattle.std.proofs.lemmas.Int.{ints}
+use Rattle.vector_clocks.specs.Stamps.{IsAbove, IsAtMost, number}
+use Rattle.vector_clocks.specs.declared.stamp.Stamp.{Stamp}
+use Rattle.vector_clocks.proofs.Deciding.{above_or}
 use Rattle.log_cuts.specs.Orders.{IsGreater}
 use Rattle.log_cuts.proofs.Rules.{AreClocks}
 use Rattle.log_cuts.proofs.Growing.{nat_lt_or}
@@ -17,4 +20,27 @@ numbers = record {
   never = λ u h. omega (arith, ints, h);
   across = λ u v w h k. omega (arith, ints, h, k);
   decides = int_two;
+}
+
+strict : (m n : ℕ) → m ≤ n → m ≢ n → m < n
+strict m n h d = elim (nat_lt_or m n) [ inl l ↦ l | inr k ↦ absurd (d (omega (arith, h, k))) ]
+
+-- where a vector is above another, a node has a greater number
+greater : (u v : List Stamp) → IsAbove u v → (n : List ℕ) × (number v n < number u n)
+greater u v a = (a.node, strict (number v a.node) (number u a.node) (a.at_least a.node) (λ e. a.differs (sym e)))
+
+pub vectors : AreClocks IsAtMost IsAbove
+vectors = record {
+  down = λ u v w h k. let g = greater w v k in let less = g.1 in record {
+    at_least = λ n. let p = h n in let q = k.at_least n in omega (arith, p, q);
+    node = g.0;
+    differs = λ e. let p = h g.0 in omega (arith, p, less, e);
+  };
+  never = λ u a. a.differs refl;
+  across = λ u v w h k. let g = greater u v h in let less = g.1 in record {
+    at_least = λ n. let p = h.at_least n in let q = k.at_least n in omega (arith, p, q);
+    node = g.0;
+    differs = λ e. let p = k.at_least g.0 in omega (arith, p, less, e);
+  };
+  decides = above_or;
 }

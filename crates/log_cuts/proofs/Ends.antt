@@ -3,7 +3,7 @@ use Rattle.std.proofs.Common.{◌≡◌, ℕ, ◌+◌, ◌<◌, ◌^◌, List, [
 use Rattle.std.specs.List.{Contains}
 use Rattle.clock_merge.specs.declared.order.LineRef.{LineRef}
 use Rattle.log_cuts.specs.Cuts.{Cut, IsLineOf, after, next, taken, total}
-use Rattle.log_cuts.specs.Orders.{AreCountable, IsAllowed, IsMade, IsReadyAt, Order, by_clock, in_sequence, sizes, start}
+use Rattle.log_cuts.specs.Orders.{AreCountable, IsAllowed, IsMade, IsReadyAt, Order, by_clock, by_vectors, in_sequence, sizes, start}
 use Rattle.log_cuts.specs.Laws.{SomeIsReady}
 use Rattle.log_cuts.proofs.Growing.{after_long, has_log, nothing_long}
 use Rattle.log_cuts.proofs.Lengths.{as_long}
@@ -15,6 +15,7 @@ use Rattle.log_cuts.proofs.Sequences.{in_first, total_after, total_nothing}
 pub are_lines : (o : Order) → IsMade o → (xs : List LineRef) → IsAllowed o xs → (l : LineRef) → Contains xs l → IsLineOf (sizes o) l
 are_lines (in_sequence files lines) made xs e l h = made.lines.lines l (subst (λ (zs : List LineRef). Contains zs l) e h)
 are_lines (by_clock clocks) made xs a l h = a.lines.lines l h
+are_lines (by_vectors vs) made xs a l h = a.lines.lines l h
 
 -- as many are taken as stand in the beginning of an allowed order
 pub beginning_long : (o : Order) → IsMade o → (xs ys : List LineRef) → IsAllowed o (xs ++ ys) → total (after (start o) xs) ≡ length xs

@@ -1,15 +1,16 @@
 -- How many lines an allowed order has.
 use Rattle.std.proofs.Common.{◌≡◌, inl, inr, List, [], ◌∷◌, length, ap, sym, ◌∙◌, subst, arith}
 use Rattle.clock_merge.specs.declared.order.LineRef.{LineRef}
+use Rattle.vector_clocks.specs.Stamps.{IsAbove}
 use Rattle.log_cuts.specs.Cuts.{Cut, after, next, nothing, taken, total, with_one}
-use Rattle.log_cuts.specs.Orders.{FollowsBy, IsGreater, IsAllowed, IsMade, IsOrderUnder, IsReadyAt, Order, in_sequence, by_clock, sizes, sizes_of}
+use Rattle.log_cuts.specs.Orders.{FollowsBy, IsGreater, IsAllowed, IsMade, IsOrderUnder, IsReadyAt, Order, in_sequence, by_clock, by_vectors, sizes, sizes_of}
 use Rattle.log_cuts.specs.Heads.{IsRule}
 use Rattle.log_cuts.proofs.Lists.{none_in}
 use Rattle.log_cuts.proofs.Growing.{after_long, nat_lt_or, nothing_long, total_within, with_long}
 use Rattle.log_cuts.proofs.Takes.{IsAll, OrdersRest, order_rest, orders_taken, nothing_within, rest_orders, taken_within}
 use Rattle.log_cuts.proofs.Sequences.{total_after, total_nothing}
 use Rattle.log_cuts.proofs.Rules.{ready_least}
-use Rattle.log_cuts.proofs.Ready.{clock_rule}
+use Rattle.log_cuts.proofs.Ready.{clock_rule, vector_rule}
 
 module _ (sizes : Cut) (R : LineRef → LineRef → Type 0) (rule : IsRule sizes R) where
   pub end_all : (c : Cut) (xs : List LineRef) → length c ≡ length sizes → OrdersRest sizes R c xs → IsAll sizes (after c xs)
@@ -38,9 +39,11 @@ none_rule sizes = record { down = λ a b i la lb h k. k; never = λ a la k. k; a
 pub as_long : (o : Order) → IsMade o → (xs : List LineRef) → IsAllowed o xs → length xs ≡ total (sizes o)
 as_long (in_sequence files lines) made xs e = ap length e ∙ order_long (sizes (in_sequence files lines)) (λ a b. ⊥) (none_rule _) lines made
 as_long (by_clock clocks) made xs h = order_long (sizes_of clocks) (FollowsBy IsGreater clocks) (clock_rule clocks made) xs h
+as_long (by_vectors vs) made xs h = order_long (sizes_of vs) (FollowsBy IsAbove vs) (vector_rule vs made) xs h
 
 -- what is ready is the next line of its log
 pub next_is : (o : Order) → IsMade o → (c : Cut) (l : LineRef) → IsReadyAt o c l → l ≡ next c l.file
 next_is (in_sequence files lines) made c l r =
     (ready_least (sizes (in_sequence files lines)) (λ a b. ⊥) (none_rule _) c l r.0 r.2.0 r.1 (subst (IsOrderUnder (sizes (in_sequence files lines)) (λ a b. ⊥)) (sym r.2.1) made)).0
 next_is (by_clock clocks) made c l r = (ready_least (sizes_of clocks) (FollowsBy IsGreater clocks) (clock_rule clocks made) c l r.0 r.2.0 r.1 r.2.1).0
+next_is (by_vectors vs) made c l r = (ready_least (sizes_of vs) (FollowsBy IsAbove vs) (vector_rule vs made) c l r.0 r.2.0 r.1 r.2.1).0

@@ -1,6 +1,7 @@
 pub mod Answered
 pub mod Clocks
 pub mod Ends
+pub mod Extensions
 pub mod Growing
 pub mod Heading
 pub mod Lengths

@@ -1,26 +1,33 @@
 -- What is ready, and what is taken, in each kind of order.
 use Rattle.std.proofs.Common.{◌≡◌, ℤ, ◌≤ℤ◌, List, [], ◌∷◌, ◌++◌, ap, sym, ◌∙◌, subst, refl}
 use Rattle.clock_merge.specs.declared.order.LineRef.{LineRef}
+use Rattle.vector_clocks.specs.Stamps.{IsAbove, IsAtMost}
+use Rattle.vector_clocks.specs.declared.stamp.Stamp.{Stamp}
 use Rattle.log_cuts.specs.Cuts.{Cut, after, next}
-use Rattle.log_cuts.specs.Orders.{AreReady, Begins, FollowsBy, IsGreater, IsAllowed, IsMade, Order, in_sequence, by_clock, sizes, sizes_of, start}
+use Rattle.log_cuts.specs.Orders.{AreReady, Begins, FollowsBy, IsGreater, IsAllowed, IsMade, Order, in_sequence, by_clock, by_vectors, sizes, sizes_of, start}
 use Rattle.log_cuts.specs.Heads.{IsLeast, IsRule}
-use Rattle.log_cuts.specs.Laws.{OneCut, ReadyByClock, ReadyGoesOn, ReadyInSequence, SomeAllowed, TakenBegins}
+use Rattle.log_cuts.specs.Laws.{OneCut, ReadyByClock, ReadyByVectors, ReadyGoesOn, ReadyInSequence, SomeAllowed, TakenBegins}
 use Rattle.log_cuts.proofs.Rules as rules
 use Rattle.log_cuts.proofs.Rules.{is_rule}
-use Rattle.log_cuts.proofs.Clocks.{numbers}
+use Rattle.log_cuts.proofs.Clocks.{numbers, vectors}
 use Rattle.log_cuts.proofs.Sequences as sequence
 use Rattle.log_cuts.proofs.Growing.{after_more}
 
 pub clock_rule : (clocks : List (List ℤ)) → IsMade (by_clock clocks) → IsRule (sizes_of clocks) (FollowsBy IsGreater clocks)
 clock_rule clocks made = is_rule clocks (λ c d. c ≤ℤ d) IsGreater numbers made
 
+pub vector_rule : (vs : List (List (List Stamp))) → IsMade (by_vectors vs) → IsRule (sizes_of vs) (FollowsBy IsAbove vs)
+vector_rule vs made = is_rule vs IsAtMost IsAbove vectors made
+
 pub some_allowed : SomeAllowed
 some_allowed (in_sequence files lines) made = (lines, refl)
 some_allowed (by_clock clocks) made = rules.some_order (sizes_of clocks) (FollowsBy IsGreater clocks) (clock_rule clocks made)
+some_allowed (by_vectors vs) made = rules.some_order (sizes_of vs) (FollowsBy IsAbove vs) (vector_rule vs made)
 
 pub goes_on : ReadyGoesOn
 goes_on (in_sequence files lines) made xs l b r = sequence.exchange (sizes (in_sequence files lines)) lines made l xs b.0 r.0 r.2.0 b.1 r.1 r.2.1
 goes_on (by_clock clocks) made xs l b r = rules.exchange (sizes_of clocks) (FollowsBy IsGreater clocks) (clock_rule clocks made) l xs b.0 r.0 r.2.0 b.1 r.1 r.2.1
+goes_on (by_vectors vs) made xs l b r = rules.exchange (sizes_of vs) (FollowsBy IsAbove vs) (vector_rule vs made) l xs b.0 r.0 r.2.0 b.1 r.1 r.2.1
 
 pub nil_end : (xs : List LineRef) → xs ≡ xs ++ []
 nil_end [] = refl
@@ -58,6 +65,17 @@ by_clocks clocks made c cut l = (
     cut.1,
     rules.least_begins (sizes_of clocks) (FollowsBy IsGreater clocks) (clock_rule clocks made) l cut.0 cut.2.0 cut.2.1
         (subst (λ (d : Cut). l ≡ next d l.file) (sym cut.1) h.0) (subst (λ (d : Cut). IsLeast (sizes_of clocks) (FollowsBy IsGreater clocks) d l.file) (sym cut.1) h.1),
+  ),
+)
+
+pub by_vector : ReadyByVectors
+by_vector vs made c cut l = (
+  λ r. rules.ready_least (sizes_of vs) (FollowsBy IsAbove vs) (vector_rule vs made) c l r.0 r.2.0 r.1 r.2.1,
+  λ h. (
+    cut.0,
+    cut.1,
+    rules.least_begins (sizes_of vs) (FollowsBy IsAbove vs) (vector_rule vs made) l cut.0 cut.2.0 cut.2.1 (subst (λ (d : Cut). l ≡ next d l.file) (sym cut.1) h.0)
+        (subst (λ (d : Cut). IsLeast (sizes_of vs) (FollowsBy IsAbove vs) d l.file) (sym cut.1) h.1),
   ),
 )
 

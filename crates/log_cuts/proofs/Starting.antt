@@ -2,8 +2,9 @@
 use Rattle.std.proofs.Common.{◌≡◌, ℕ, zero, suc, ◌+◌, ◌≤◌, ℤ, List, [], ◌∷◌, ◌++◌, length, length-append, ap, sym, ◌∙◌, refl, arith, Vec}
 use Rattle.std.specs.declared.alloc.Global.{Global}
 use Rattle.clock_merge.specs.declared.order.LineRef.{LineRef}
+use Rattle.vector_clocks.specs.declared.stamp.Stamp.{Stamp}
 use Rattle.log_cuts.specs.Cuts.{Cut, after, nothing, total, with_one}
-use Rattle.log_cuts.specs.Orders.{IsCut, IsMade, by_clock, in_sequence, none_of, start}
+use Rattle.log_cuts.specs.Orders.{IsCut, IsMade, by_clock, by_vectors, in_sequence, none_of, start}
 use Rattle.log_cuts.specs.Views.{logs_of}
 use Rattle.log_cuts.proofs.Ends.{beginning_long}
 
@@ -34,6 +35,10 @@ start_in_sequence files lines = sym (nothing_after (none_of files) lines ∙ not
 pub start_by_clock : (logs : List (Vec ℤ Global)) → none_of (length logs) ≡ start (by_clock (logs_of logs))
 start_by_clock [] = refl
 start_by_clock (x ∷ xs) = ap (λ (c : Cut). 0 ∷ c) (start_by_clock xs)
+
+pub start_by_vectors : (logs : List (Vec (List Stamp) Global)) → none_of (length logs) ≡ start (by_vectors (logs_of logs))
+start_by_vectors [] = refl
+start_by_vectors (x ∷ xs) = ap (λ (c : Cut). 0 ∷ c) (start_by_vectors xs)
 
 short : (xs ys : List LineRef) → length xs ≤ length (xs ++ ys)
 short xs ys = let l = length-append xs ys in omega (arith, l)

@@ -2,8 +2,10 @@
 use Rattle.std.specs.Prelude.{◌≡◌, ◌↔◌, ◌<◌, ℕ, ℤ, List, [], ◌∷◌, ◌++◌, slice_get, length, Some}
 use Rattle.clock_merge.specs.Orders.{FollowsByClock, IsMerged, IsOrder}
 use Rattle.clock_merge.specs.declared.order.LineRef.{LineRef}
+use Rattle.vector_clocks.specs.Stamps.{IsAbove}
+use Rattle.vector_clocks.specs.declared.stamp.Stamp.{Stamp}
 use Rattle.log_cuts.specs.Cuts.{Cut, after, next, total}
-use Rattle.log_cuts.specs.Orders.{AreReady, Begins, FollowsBy, IsAllowed, IsCut, IsGreater, IsMade, IsReadyAt, Order, by_clock, in_sequence, sizes, sizes_of, start}
+use Rattle.log_cuts.specs.Orders.{AreReady, Begins, FollowsBy, IsAllowed, IsCut, IsGreater, IsMade, IsReadyAt, Order, by_clock, by_vectors, in_sequence, sizes, sizes_of, start}
 use Rattle.log_cuts.specs.Heads.{IsLeast}
 
 -- some order is allowed
@@ -35,6 +37,11 @@ SomeIsReady = (o : Order) → IsMade o → (c : Cut) → IsCut o c → total c <
 abbrev pub ReadyByClock : Type 0
 ReadyByClock = (clocks : List (List ℤ)) → IsMade (by_clock clocks) → (c : Cut) → IsCut (by_clock clocks) c → (l : LineRef)
     → IsReadyAt (by_clock clocks) c l ↔ ((l ≡ next c l.file) × IsLeast (sizes_of clocks) (FollowsBy IsGreater clocks) c l.file)
+
+-- the same by vectors
+abbrev pub ReadyByVectors : Type 0
+ReadyByVectors = (vectors : List (List (List Stamp))) → IsMade (by_vectors vectors) → (c : Cut) → IsCut (by_vectors vectors) c → (l : LineRef)
+    → IsReadyAt (by_vectors vectors) c l ↔ ((l ≡ next c l.file) × IsLeast (sizes_of vectors) (FollowsBy IsAbove vectors) c l.file)
 
 -- in a sequence the line is ready that stands at the number of lines taken
 abbrev pub ReadyInSequence : Type 0

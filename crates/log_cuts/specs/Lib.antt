@@ -1,5 +1,6 @@
 pub mod CutOrder
 pub mod Cuts
+pub mod Extensions
 pub mod Heads
 pub mod Laws
 pub mod Orders

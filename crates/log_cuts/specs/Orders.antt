@@ -2,6 +2,8 @@
 use Rattle.std.specs.Prelude.{◌≡◌, ◌≢◌, ◌<◌, ◌++◌, ◌^◌, ℕ, zero, suc, ℤ, ◌<ℤ◌, ◌≤ℤ◌, List, [], ◌∷◌, length, map, Some, slice_get, AllPairs, Contains}
 use Rattle.clock_merge.specs.Orders.{FollowsInLog, NoneBefore, line}
 use Rattle.clock_merge.specs.declared.order.LineRef.{LineRef}
+use Rattle.vector_clocks.specs.Stamps.{IsAbove, IsAtMost}
+use Rattle.vector_clocks.specs.declared.stamp.Stamp.{Stamp}
 use Rattle.log_cuts.specs.Cuts.{Cut, IsLineOf, after, nothing, taken}
 
 -- each line of logs of these sizes once, and nothing else
@@ -33,10 +35,11 @@ NoneFallsBy {K} AtMost clocks = (l : LineRef) (i : ℕ) (c d : K) → l.index < 
 abbrev pub IsGreater : ℤ → ℤ → Type 0
 IsGreater c d = d <ℤ c
 
--- What says in which orders the lines may stand: one sequence of the lines of so many logs, or the clock of each line.
+-- What says in which orders the lines may stand: one sequence of the lines of so many logs, or the clock of each line, a number or a vector.
 pub data Order : Type 0 where
   in_sequence : ℕ → List LineRef → Order
   by_clock : List (List ℤ) → Order
+  by_vectors : List (List (List Stamp)) → Order
 
 -- how many lines each log has, by their clocks
 abbrev pub sizes_of : {K : Type 0} → List (List K) → Cut
@@ -51,17 +54,20 @@ none_of (suc files) = 0 ∷ none_of files
 abbrev pub sizes : Order → Cut
 sizes (in_sequence files lines) = after (none_of files) lines
 sizes (by_clock clocks) = sizes_of clocks
+sizes (by_vectors vectors) = sizes_of vectors
 
 -- The lines may stand in this order: in that of the sequence and no other, or in each order of the logs in which no
--- line stands before one with a lower clock.
+-- line stands before one whose clock its own is above.
 abbrev pub IsAllowed : Order → List LineRef → Type 0
 IsAllowed (in_sequence files lines) order = order ≡ lines
 IsAllowed (by_clock clocks) order = IsOrderUnder (sizes_of clocks) (FollowsBy IsGreater clocks) order
+IsAllowed (by_vectors vectors) order = IsOrderUnder (sizes_of vectors) (FollowsBy IsAbove vectors) order
 
 -- what such an order is made of: a sequence that has each line once, those of one log in their order; clocks that fall in no log
 abbrev pub IsMade : Order → Type 0
 IsMade (in_sequence files lines) = IsOrderUnder (sizes (in_sequence files lines)) (λ a b. ⊥) lines
 IsMade (by_clock clocks) = NoneFallsBy (λ c d. c ≤ℤ d) clocks
+IsMade (by_vectors vectors) = NoneFallsBy IsAtMost vectors
 
 -- no log has more lines than 32 bits count
 abbrev pub AreCountable : Order → Type 0

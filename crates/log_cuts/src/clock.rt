@@ -1,5 +1,7 @@
 ghost use Rattle.std.specs.Prelude.{◌↔◌, IsTrue};
 
+use vector_clocks::Stamps;
+
 /// A clock of a line.
 pub trait Clock {
     ghost above: { Self → Self → Type 0 };
@@ -16,5 +18,15 @@ impl Clock for i64 {
 
     fn is_above(&self, other: &i64) -> bool {
         *other < *self
+    }
+}
+
+impl Clock for Stamps {
+    ghost use Rattle.vector_clocks.specs.Stamps.{IsAbove};
+
+    ghost above = { IsAbove };
+
+    fn is_above(&self, other: &Stamps) -> bool {
+        self.exceeds(other)
     }
 }

@@ -1,4 +1,5 @@
-ghost use Rattle.log_cuts.specs.Laws.{AllowedAreWhole, AllowedByClock, MergedIsMade, OneCut, ReadyByClock, ReadyGoesOn, ReadyInSequence, ReadyIsNext, SomeAllowed, SomeIsReady, TakenBegins};
+ghost use Rattle.log_cuts.specs.Extensions.{AreExtensions};
+ghost use Rattle.log_cuts.specs.Laws.{AllowedAreWhole, AllowedByClock, MergedIsMade, OneCut, ReadyByClock, ReadyByVectors, ReadyGoesOn, ReadyInSequence, ReadyIsNext, SomeAllowed, SomeIsReady, TakenBegins};
 
 /// Of which lines are ready at a cut, and which are taken one after the other.
 pub fn cut_laws()
@@ -15,6 +16,12 @@ pub fn cut_laws()
 pub fn sequence_laws()
     ensures ready { ReadyInSequence }
     ensures one { OneCut }
+{}
+
+/// Of the orders of logs by vectors.
+pub fn vector_laws()
+    ensures ready { ReadyByVectors }
+    ensures extend { AreExtensions }
 {}
 
 /// Of the orders of logs by clock.

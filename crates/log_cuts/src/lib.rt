@@ -9,5 +9,5 @@ mod order;
 mod sequence;
 
 pub use cut::Cut;
-pub use laws::{cut_laws, merge_laws, sequence_laws};
+pub use laws::{cut_laws, merge_laws, sequence_laws, vector_laws};
 pub use order::Order;

@@ -1,7 +1,8 @@
 ghost use Rattle.std.specs.Prelude.{◌≡◌, ◌↔◌, IsTrue, IfOk};
 ghost use Rattle.clock_merge.specs.Orders.{clocks_of};
 ghost use Rattle.log_cuts.specs.Cuts.{next, with_one};
-ghost use Rattle.log_cuts.specs.Orders.{AreCountable, IsCut, IsMade, IsReadyAt, by_clock, in_sequence, start};
+ghost use Rattle.log_cuts.specs.Orders.{AreCountable, IsCut, IsMade, IsReadyAt, by_clock, by_vectors, in_sequence, start};
+ghost use Rattle.log_cuts.specs.Views.{logs_of};
 
 use crate::cut::Cut;
 use crate::least::is_least;
@@ -9,6 +10,7 @@ use crate::sequence::stands_next;
 use clock_merge::LineRef;
 use std::alloc::{AllocError, Global};
 use std::marker::Model;
+use vector_clocks::Stamps;
 
 /// What says in which orders the lines of several logs may stand.
 #[derive(Drop)]
@@ -16,11 +18,12 @@ pub struct Order {
     rule: Rule,
 }
 
-/// One sequence of the lines of so many logs, or the clocks of each log, line by line.
+/// One sequence of the lines of so many logs, or the clocks of each log, line by line: numbers or vectors.
 #[derive(Drop)]
 enum Rule {
     InSequence(usize, Vec<LineRef>),
     ByClock(Vec<Vec<i64>>),
+    ByVectors(Vec<Vec<Stamps>>),
 }
 
 impl Model for Order {
@@ -52,6 +55,15 @@ impl Order {
         }
     }
 
+    /// Each order that the vectors of each log, given line by line, leave open.
+    pub fn by_vectors(vectors: Vec<Vec<Stamps>>) -> Order
+        ensures { result ≡ by_vectors (logs_of vectors.items) }
+    {
+        Order {
+            rule: Rule::ByVectors(vectors),
+        }
+    }
+
     /// The cut at which nothing is taken.
     pub fn start(&self, alloc: Global) -> Result<Cut, AllocError>
         ensures { IfOk result (λ cut. cut ≡ start self.now) }
@@ -59,6 +71,7 @@ impl Order {
         match &self.rule {
             Rule::InSequence(files, _) => Cut::none(alloc, *files),
             Rule::ByClock(clocks) => Cut::none(alloc, clocks.len()),
+            Rule::ByVectors(vectors) => Cut::none(alloc, vectors.len()),
         }
     }
 
@@ -71,6 +84,7 @@ impl Order {
         match &self.rule {
             Rule::InSequence(_, lines) => stands_next(lines, cut, file),
             Rule::ByClock(clocks) => is_least(clocks, cut, file),
+            Rule::ByVectors(vectors) => is_least(vectors, cut, file),
         }
     }
 

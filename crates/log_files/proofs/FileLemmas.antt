@@ -8,6 +8,8 @@ use Rattle.std.specs.declared.alloc.AllocError.{AllocError}
 use Rattle.log_lines.specs.Setting.{Setting}
 use Rattle.log_lines.specs.Files.{FileSays, first_line}
 use Rattle.log_lines.specs.Laws.{StepsKeep}
+use Rattle.log_lines.specs.declared.clocks.ClockForm.{ClockForm}
+use Rattle.log_lines.specs.declared.clocks.ClockForm.TheVariants.{Free}
 use Rattle.log_lines.specs.declared.file.FileLines.{FileLines}
 use Rattle.log_lines.specs.declared.file.Refusal.{Refusal}
 use Rattle.log_files.specs.Logs.{FilesSay, texts_of}
@@ -17,14 +19,15 @@ use Rattle.log_files.specs.declared.logs.LogRefusal.{LogRefusal}
 
 -- what the rest says behind the reading, all files say
 pub record IsRead (g : Setting) (many : Bool) (room : ℕ) (all : List (List ℕ)) (i : ℕ) (reading : Reading) : Type 0 where
-  pub said : (r : Result (List FileLines) LogRefusal) → Behind g many reading (drop i all) r → FilesSay g many 1 room [] all r
+  pub said : (r : Result (List FileLines) LogRefusal) → Behind g many reading (drop i all) r → FilesSay g many 1 room Free [] all r
   pub file : reading.file ≡ i + 1
 
-pub begun : (g : Setting) (many : Bool) (room : ℕ) (all : List (List ℕ)) (reading : Reading) → reading.file ≡ 1 → reading.left ≡ room → reading.found.items ≡ []
+pub begun : (g : Setting) (many : Bool) (room : ℕ) (all : List (List ℕ)) (reading : Reading) → reading.file ≡ 1 → reading.left ≡ room → reading.form ≡ Free → reading.found.items ≡ []
     → IsRead g many room all 0 reading
-begun g many room all reading f l e = record {
-  said = λ r h. subst (λ (n : ℕ). FilesSay g many n room [] all r) f (subst (λ (n : ℕ). FilesSay g many reading.file n [] all r) l
-      (subst (λ (fs : List FileLines). FilesSay g many reading.file reading.left fs all r) e h));
+begun g many room all reading f l k e = record {
+  said = λ r h. subst (λ (n : ℕ). FilesSay g many n room Free [] all r) f (subst (λ (n : ℕ). FilesSay g many reading.file n Free [] all r) l
+      (subst (λ (form : ClockForm). FilesSay g many reading.file reading.left form [] all r) k
+      (subst (λ (fs : List FileLines). FilesSay g many reading.file reading.left reading.form fs all r) e h)));
   file = f;
 }
 
@@ -45,7 +48,7 @@ read_next g many room all i reading next text w e on f = record {
 }
 
 pub stopped : (g : Setting) (many : Bool) (room : ℕ) (all : List (List ℕ)) (i : ℕ) (reading : Reading) (text : List ℕ) (refusal : LogRefusal) → IsRead g many room all i reading
-    → slice_get all i ≡ Some text → ReadsOn g many reading text (Err refusal) → FilesSay g many 1 room [] all (Err refusal)
+    → slice_get all i ≡ Some text → ReadsOn g many reading text (Err refusal) → FilesSay g many 1 room Free [] all (Err refusal)
 stopped g many room all i reading text refusal w e on =
     w.said (Err refusal) (subst (λ (ts : List (List ℕ)). Behind g many reading ts (Err refusal)) (sym (rest_is all i text e)) (on (drop (i + 1) all)))
 
@@ -56,27 +59,28 @@ none_left (x ∷ xs) zero h = absurd (omega (arith, h))
 none_left (x ∷ xs) (suc i) h = none_left xs i (omega (arith, h))
 
 pub ended : (g : Setting) (many : Bool) (room : ℕ) (all : List (List ℕ)) (i : ℕ) (reading : Reading) → IsRead g many room all i reading → length all ≤ i
-    → FilesSay g many 1 room [] all (Ok reading.found.items)
+    → FilesSay g many 1 room Free [] all (Ok reading.found.items)
 ended g many room all i reading w h =
     w.said (Ok reading.found.items) (subst (λ (ts : List (List ℕ)). Behind g many reading ts (Ok reading.found.items)) (sym (none_left all i h)) refl)
 
 -- one more file
-pub file_taken : (g : Setting) (many : Bool) (reading next : Reading) (text : List ℕ) (found : FileLines) → FileSays g (first_line reading.file many reading.left) text (Ok found)
-    → next.file ≡ reading.file + 1 → next.left ≡ reading.left - length found.steps → next.found.items ≡ reading.found.items ++ found ∷ [] → ReadsOn g many reading text (Ok next)
-file_taken g many reading next text found says f l e = λ rest r h. (
+pub file_taken : (g : Setting) (many : Bool) (reading next : Reading) (text : List ℕ) (found : FileLines) → FileSays g (first_line reading.file many reading.left reading.form) text (Ok found)
+    → next.file ≡ reading.file + 1 → next.left ≡ reading.left - length found.steps → next.form ≡ found.form → next.found.items ≡ reading.found.items ++ found ∷ [] → ReadsOn g many reading text (Ok next)
+file_taken g many reading next text found says f l k e = λ rest r h. (
   Ok found,
   says,
-  subst (λ (n : ℕ). FilesSay g many n (reading.left - length found.steps) (reading.found.items ++ found ∷ []) rest r) f
-      (subst (λ (n : ℕ). FilesSay g many next.file n (reading.found.items ++ found ∷ []) rest r) l
-      (subst (λ (fs : List FileLines). FilesSay g many next.file next.left fs rest r) e h)),
+  subst (λ (n : ℕ). FilesSay g many n (reading.left - length found.steps) found.form (reading.found.items ++ found ∷ []) rest r) f
+      (subst (λ (n : ℕ). FilesSay g many next.file n found.form (reading.found.items ++ found ∷ []) rest r) l
+      (subst (λ (form : ClockForm). FilesSay g many next.file next.left form (reading.found.items ++ found ∷ []) rest r) k
+      (subst (λ (fs : List FileLines). FilesSay g many next.file next.left next.form fs rest r) e h))),
 )
 
-pub file_refused : (g : Setting) (many : Bool) (reading : Reading) (text : List ℕ) (refusal : Refusal) → FileSays g (first_line reading.file many reading.left) text (Err refusal)
+pub file_refused : (g : Setting) (many : Bool) (reading : Reading) (text : List ℕ) (refusal : Refusal) → FileSays g (first_line reading.file many reading.left reading.form) text (Err refusal)
     → ReadsOn g many reading text (Err (record { file = reading.file; refusal = refusal }))
 file_refused g many reading text refusal says = λ rest. (Err refusal, says, refl)
 
-pub has_room : (g : Setting) (keep : StepsKeep g) (file : ℕ) (many : Bool) (room : ℕ) (text : List ℕ) (r : Result (Result FileLines Refusal) AllocError)
-    → IfOk r (FileSays g (first_line file many room) text) → IfOk r (λ s. IfOk s (λ f. length f.steps ≤ room))
-has_room g keep file many room text (Ok (Ok f)) h = (keep file many room text f h).1
-has_room g keep file many room text (Ok (Err refusal)) h = tt
-has_room g keep file many room text (Err e) h = tt
+pub has_room : (g : Setting) (keep : StepsKeep g) (file : ℕ) (many : Bool) (room : ℕ) (form : ClockForm) (text : List ℕ) (r : Result (Result FileLines Refusal) AllocError)
+    → IfOk r (FileSays g (first_line file many room form) text) → IfOk r (λ s. IfOk s (λ f. length f.steps ≤ room))
+has_room g keep file many room form text (Ok (Ok f)) h = (keep file many room form text f h).1
+has_room g keep file many room form text (Ok (Err refusal)) h = tt
+has_room g keep file many room form text (Err e) h = tt

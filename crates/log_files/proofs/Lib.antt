@@ -1,3 +1,4 @@
+pub mod ClockKinds
 pub mod ListSteps
 pub mod FileLemmas
 pub mod KeptFiles

@@ -9,7 +9,8 @@ use Rattle.path_updates.specs.declared.line.Log.{Log}
 use Rattle.clock_merge.specs.Orders.{FollowsByFile, HasEachOnce, IsLine, IsMerged, NoneFalls, line}
 use Rattle.clock_merge.specs.declared.order.LineRef.{LineRef}
 use Rattle.log_lines.specs.declared.file.FileLines.{FileLines}
-use Rattle.log_files.specs.Logs.{IsLogOf, StandsAt, clocks_in, sees_of}
+use Rattle.path_updates.specs.Clocks.{number_in}
+use Rattle.log_files.specs.Logs.{IsLogOf, StandsAt, numbers_in, sees_of}
 use Rattle.log_files.proofs.PlaceLemmas.{some_is}
 
 -- the places in the only file, from this one on
@@ -94,13 +95,13 @@ stand f i (x ∷ xs) h =
 none_before : (k : ℕ) → k ≡ 0 + k
 none_before k = omega arith
 
-pub log_of_file : (f : FileLines) (log : Log) → log.init ≡ sees_of f.init → log.lines ≡ f.steps → NoneFalls (clocks_in (f ∷ [])) → IsLogOf (f ∷ []) log
+pub log_of_file : (f : FileLines) (log : Log) → log.init ≡ sees_of f.init → log.lines ≡ f.steps → NoneFalls (numbers_in (f ∷ [])) → IsLogOf (f ∷ []) log
 log_of_file f log init lines n =
-    let clocks = map (λ (l : Line). l.clock) f.steps in
+    let clocks = map (λ (l : Line). number_in l.clock) f.steps in
     record {
       init = init ∙ sym (append-nil (sees_of f.init));
       order = places_from 0 f.steps;
-      merged = subst (λ (o : List LineRef). IsMerged (clocks ∷ []) o) (same_places (λ (l : Line). l.clock) 0 f.steps) (in_order clocks n);
+      merged = subst (λ (o : List LineRef). IsMerged (clocks ∷ []) o) (same_places (λ (l : Line). number_in l.clock) 0 f.steps) (in_order clocks n);
       lines = subst (λ (ls : List Line). AllZip (StandsAt (f ∷ [])) (places_from 0 f.steps) ls) (sym lines)
           (stand f 0 f.steps (λ k x e. subst (λ (m : ℕ). slice_get f.steps m ≡ Some x) (none_before k) e));
     }

@@ -8,9 +8,11 @@ use Rattle.clock_merge.specs.declared.order.LineRef.{LineRef}
 use Rattle.log_lines.specs.Setting.{Setting}
 use Rattle.log_lines.specs.Files.{first_line}
 use Rattle.log_lines.specs.Laws.{FileSaysOne}
+use Rattle.log_lines.specs.declared.clocks.ClockForm.{ClockForm}
+use Rattle.log_lines.specs.declared.clocks.ClockForm.TheVariants.{Free}
 use Rattle.log_lines.specs.declared.file.FileLines.{FileLines}
 use Rattle.log_lines.specs.declared.file.Refusal.{Refusal}
-use Rattle.log_files.specs.Logs.{FilesSay, GoesOn, IsLogOf, LogsSayOne, StandsAt, Together, are_several, clocks_in}
+use Rattle.log_files.specs.Logs.{FilesSay, GoesOn, IsLogOf, LogsSayOne, StandsAt, Together, are_several, numbers_in}
 use Rattle.log_files.specs.declared.logs.LogRefusal.{LogRefusal}
 use Rattle.log_files.proofs.PlaceLemmas.{some_is}
 
@@ -19,14 +21,14 @@ one_behind : (Behind Behind' : FileLines → Type 0) (file : ℕ) (r s : Result 
 one_behind B C file r s next (Ok f) h k = next f h k
 one_behind B C file r s next (Err refusal) h k = h ∙ sym k
 
-one_files : (g : Setting) → FileSaysOne g → (many : Bool) (texts : List (List ℕ)) (file room : ℕ) (found : List FileLines) (r s : Result (List FileLines) LogRefusal)
-    → FilesSay g many file room found texts r → FilesSay g many file room found texts s → r ≡ s
-one_files g one many [] file room found r s h k = h ∙ sym k
-one_files g one many (text ∷ texts) file room found r s h k =
-    let same : k.0 ≡ h.0 = one (first_line file many room) text k.0 h.0 k.1 h.1 in
-    one_behind (λ f. FilesSay g many (file + 1) (room - length f.steps) (found ++ f ∷ []) texts r) (λ f. FilesSay g many (file + 1) (room - length f.steps) (found ++ f ∷ []) texts s) file r s
-    (λ f a b. one_files g one many texts (file + 1) (room - length f.steps) (found ++ f ∷ []) r s a b) h.0 h.2
-    (subst (λ (x : Result FileLines Refusal). GoesOn (λ f. FilesSay g many (file + 1) (room - length f.steps) (found ++ f ∷ []) texts s) file s x) same k.2)
+one_files : (g : Setting) → FileSaysOne g → (many : Bool) (texts : List (List ℕ)) (file room : ℕ) (form : ClockForm) (found : List FileLines) (r s : Result (List FileLines) LogRefusal)
+    → FilesSay g many file room form found texts r → FilesSay g many file room form found texts s → r ≡ s
+one_files g one many [] file room form found r s h k = h ∙ sym k
+one_files g one many (text ∷ texts) file room form found r s h k =
+    let same : k.0 ≡ h.0 = one (first_line file many room form) text k.0 h.0 k.1 h.1 in
+    one_behind (λ f. FilesSay g many (file + 1) (room - length f.steps) f.form (found ++ f ∷ []) texts r) (λ f. FilesSay g many (file + 1) (room - length f.steps) f.form (found ++ f ∷ []) texts s) file r s
+    (λ f a b. one_files g one many texts (file + 1) (room - length f.steps) f.form (found ++ f ∷ []) r s a b) h.0 h.2
+    (subst (λ (x : Result FileLines Refusal). GoesOn (λ f. FilesSay g many (file + 1) (room - length f.steps) f.form (found ++ f ∷ []) texts s) file s x) same k.2)
 
 one_step : (fs : List FileLines) (place : LineRef) (a b : Line) → StandsAt fs place a → StandsAt fs place b → a ≡ b
 one_step fs place a b p q =
@@ -47,7 +49,7 @@ one_zip R one (x ∷ xs) (y ∷ ys) (z ∷ zs) p q =
 
 one_log : IsOnlyOrder → (fs : List FileLines) (a b : Log) → IsLogOf fs a → IsLogOf fs b → a ≡ b
 one_log only fs a b p q =
-    let order : q.order ≡ p.order = only (clocks_in fs) q.order p.order q.merged p.merged in
+    let order : q.order ≡ p.order = only (numbers_in fs) q.order p.order q.merged p.merged in
     let there : AllZip (StandsAt fs) p.order b.lines = subst (λ (o : List LineRef). AllZip (StandsAt fs) o b.lines) order q.lines in
     let init : a.init ≡ b.init = p.init ∙ sym q.init in
     let lines : a.lines ≡ b.lines = one_zip (StandsAt fs) (one_step fs) p.order a.lines b.lines p.lines there in
@@ -59,5 +61,5 @@ one_together only (Err refusal) a b p q = p ∙ sym q
 
 pub one_outcome : (g : Setting) → FileSaysOne g → IsOnlyOrder → LogsSayOne g
 one_outcome g one only room texts r s h k =
-    let same : k.0 ≡ h.0 = one_files g one (are_several texts) texts 1 room [] k.0 h.0 k.1 h.1 in
+    let same : k.0 ≡ h.0 = one_files g one (are_several texts) texts 1 room Free [] k.0 h.0 k.1 h.1 in
     one_together only h.0 r s h.2 (subst (λ (x : Result (List FileLines) LogRefusal). Together x s) same k.2)

@@ -9,7 +9,10 @@ use Rattle.path_updates.specs.declared.update.See.{See}
 use Rattle.clock_merge.specs.Orders.{IsLine, IsMerged, clocks_of}
 use Rattle.clock_merge.specs.declared.order.LineRef.{LineRef}
 use Rattle.log_lines.specs.declared.file.FileLines.{FileLines}
-use Rattle.log_files.specs.Logs.{StandsAt, clocks_in, first_sees, sees_of}
+use Rattle.path_updates.specs.Clocks.{number_in, vector_in}
+use Rattle.vector_clocks.specs.declared.stamp.Stamp.{Stamp}
+use Rattle.log_cuts.specs.Views.{logs_of}
+use Rattle.log_files.specs.Logs.{StandsAt, numbers_in, first_sees, sees_of, vectors_in}
 use Rattle.log_files.proofs.ListSteps.{rest_at, take_more}
 
 pub some_is : {X : Type 0} (x y : X) → Some x ≡ Some y → x ≡ y
@@ -21,16 +24,16 @@ mapped f (x ∷ xs) zero y e = (x, refl, some_is (f x) y e)
 mapped f (x ∷ xs) (suc i) y e = mapped f xs i y e
 
 -- a line of the clocks is a step of a file
-step_of : (fs : List FileLines) (place : LineRef) → IsLine (clocks_in fs) place → (line : Line) × StandsAt fs place line
+step_of : (fs : List FileLines) (place : LineRef) → IsLine (numbers_in fs) place → (line : Line) × StandsAt fs place line
 step_of fs place h =
-    let f = mapped (λ (f : FileLines). map (λ l. l.clock) f.steps) fs place.file h.1.0 h.1.1 in
-    let l = mapped (λ (l : Line). l.clock) f.0.steps place.index h.0 (subst (λ (log : List ℤ). slice_get log place.index ≡ Some h.0) (sym f.2) h.1.2) in
+    let f = mapped (λ (f : FileLines). map (λ l. number_in l.clock) f.steps) fs place.file h.1.0 h.1.1 in
+    let l = mapped (λ (l : Line). number_in l.clock) f.0.steps place.index h.0 (subst (λ (log : List ℤ). slice_get log place.index ≡ Some h.0) (sym f.2) h.1.2) in
     (l.0, (f.0, f.1, l.1))
 
-pub file_within : (fs : List FileLines) (place : LineRef) → IsLine (clocks_in fs) place → place.file < length fs
+pub file_within : (fs : List FileLines) (place : LineRef) → IsLine (numbers_in fs) place → place.file < length fs
 file_within fs place h = let s = step_of fs place h in slice_get_within fs place.file s.1.0 s.1.1
 
-pub not_past : (fs : List FileLines) (place : LineRef) (f : FileLines) → IsLine (clocks_in fs) place → slice_get fs place.file ≡ Some f → length f.steps ≤ place.index → ⊥
+pub not_past : (fs : List FileLines) (place : LineRef) (f : FileLines) → IsLine (numbers_in fs) place → slice_get fs place.file ≡ Some f → length f.steps ≤ place.index → ⊥
 not_past fs place f h e past =
     let s = step_of fs place h in
     let same : s.1.0 ≡ f = some_is s.1.0 f (sym s.1.1 ∙ e) in
@@ -51,16 +54,16 @@ pub placed_more : (fs : List FileLines) (order : List LineRef) (i : ℕ) (place 
 placed_more fs order i place old new h e p s =
     rw (add-one i) (subst (λ (ls : List Line). AllZip (StandsAt fs) (take (suc i) order) ls) (sym s.2) (zip_push (StandsAt fs) order i place old s.0 h e p s.1))
 
-pub each_line : (fs : List FileLines) (order : List LineRef) → IsMerged (clocks_in fs) order → All (IsLine (clocks_in fs)) order
-each_line fs order m = All-weaker (Contains order) (IsLine (clocks_in fs)) (λ place h. m.lines.lines place h) order (All-contains_itself order)
+pub each_line : (fs : List FileLines) (order : List LineRef) → IsMerged (numbers_in fs) order → All (IsLine (numbers_in fs)) order
+each_line fs order m = All-weaker (Contains order) (IsLine (numbers_in fs)) (λ place h. m.lines.lines place h) order (All-contains_itself order)
 
-pub clocks_more : (fs : List FileLines) (i : ℕ) (f : FileLines) (old new : List (Vec ℤ Global)) (log : Vec ℤ Global) → i < length fs → f ≡ get_or fs i f → log.items ≡ map (λ l. l.clock) f.steps
-    → clocks_of old ≡ clocks_in (take i fs) → new ≡ old ++ log ∷ [] → clocks_of new ≡ clocks_in (take (i + 1) fs)
+pub clocks_more : (fs : List FileLines) (i : ℕ) (f : FileLines) (old new : List (Vec ℤ Global)) (log : Vec ℤ Global) → i < length fs → f ≡ get_or fs i f → log.items ≡ map (λ l. number_in l.clock) f.steps
+    → clocks_of old ≡ numbers_in (take i fs) → new ≡ old ++ log ∷ [] → clocks_of new ≡ numbers_in (take (i + 1) fs)
 clocks_more fs i f old new log h e q w n =
     let pushed : clocks_of (old ++ log ∷ []) ≡ clocks_of old ++ log.items ∷ [] = map-append (λ (v : Vec ℤ Global). v.items) old (log ∷ []) in
-    let more : clocks_in (take i fs ++ f ∷ []) ≡ clocks_in (take i fs) ++ map (λ l. l.clock) f.steps ∷ [] = map-append (λ (x : FileLines). map (λ l. l.clock) x.steps) (take i fs) (f ∷ []) in
-    let same : clocks_of old ++ log.items ∷ [] ≡ clocks_in (take i fs) ++ map (λ l. l.clock) f.steps ∷ [] = λ j. w j ++ q j ∷ [] in
-    ap clocks_of n ∙ pushed ∙ same ∙ sym more ∙ ap clocks_in (sym (take_more fs i f h e))
+    let more : numbers_in (take i fs ++ f ∷ []) ≡ numbers_in (take i fs) ++ map (λ l. number_in l.clock) f.steps ∷ [] = map-append (λ (x : FileLines). map (λ l. number_in l.clock) x.steps) (take i fs) (f ∷ []) in
+    let same : clocks_of old ++ log.items ∷ [] ≡ numbers_in (take i fs) ++ map (λ l. number_in l.clock) f.steps ∷ [] = λ j. w j ++ q j ∷ [] in
+    ap clocks_of n ∙ pushed ∙ same ∙ sym more ∙ ap numbers_in (sym (take_more fs i f h e))
 
 pub sees_more : (fs : List FileLines) (i : ℕ) (f : FileLines) (old new : List See) → i < length fs → f ≡ get_or fs i f → new ≡ old ++ sees_of f.init
     → old ++ first_sees (drop i fs) ≡ first_sees fs → new ++ first_sees (drop (i + 1) fs) ≡ first_sees fs
@@ -74,3 +77,12 @@ pub placed_at : (fs : List FileLines) (order : List LineRef) (i : ℕ) (d : Line
 placed_at fs order i d old new h p s =
     let here = slice_get-get_or order i d h in
     placed_more fs order i (get_or order i d) old new h (sym (get_or_from_slice_get order i (get_or order i d) (get_or order i d) here)) p s
+
+pub vectors_more : (fs : List FileLines) (i : ℕ) (f : FileLines) (old new : List (Vec (List Stamp) Global)) (log : Vec (List Stamp) Global) → i < length fs → f ≡ get_or fs i f
+    → log.items ≡ map (λ l. vector_in l.clock) f.steps → logs_of old ≡ vectors_in (take i fs) → new ≡ old ++ log ∷ [] → logs_of new ≡ vectors_in (take (i + 1) fs)
+vectors_more fs i f old new log h e q w n =
+    let pushed : logs_of (old ++ log ∷ []) ≡ logs_of old ++ log.items ∷ [] = map-append (λ (v : Vec (List Stamp) Global). v.items) old (log ∷ []) in
+    let more : vectors_in (take i fs ++ f ∷ []) ≡ vectors_in (take i fs) ++ map (λ l. vector_in l.clock) f.steps ∷ [] =
+    map-append (λ (x : FileLines). map (λ l. vector_in l.clock) x.steps) (take i fs) (f ∷ []) in
+    let same : logs_of old ++ log.items ∷ [] ≡ vectors_in (take i fs) ++ map (λ l. vector_in l.clock) f.steps ∷ [] = λ j. w j ++ q j ∷ [] in
+    ap logs_of n ∙ pushed ∙ same ∙ sym more ∙ ap vectors_in (sym (take_more fs i f h e))

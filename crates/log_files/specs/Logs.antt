@@ -1,14 +1,20 @@
 -- What all logs of a run say together.
-use Rattle.std.specs.Prelude.{◌≡◌, ◌+◌, ◌-◌, ℕ, List, [], ◌∷◌, ◌++◌, length, map, slice_get, nat_lt, Bool, Option, None, Some, Result, Ok, Err, Vec}
-use Rattle.std.specs.List.{AllZip}
+use Rattle.std.specs.Prelude.{◌≡◌, ◌+◌, ◌-◌, ◌≤◌, ℕ, List, [], ◌∷◌, ◌++◌, length, map, slice_get, nat_lt, Bool, Option, None, Some, Result, Ok, Err, Vec}
+use Rattle.std.specs.List.{AllByRecursion, AllZip, list_any}
 use Rattle.std.specs.declared.alloc.Global.{Global}
+use Rattle.path_updates.specs.Clocks.{MayFollow, is_vector, number_in, vector_in}
+use Rattle.path_updates.specs.declared.clock.Clock.{Clock}
 use Rattle.path_updates.specs.declared.line.Line.{Line}
 use Rattle.path_updates.specs.declared.line.Log.{Log}
 use Rattle.path_updates.specs.declared.update.See.{See}
 use Rattle.clock_merge.specs.declared.order.LineRef.{LineRef}
 use Rattle.clock_merge.specs.Orders.{Clocks, IsMerged}
+use Rattle.log_cuts.specs.Orders.{NoneFallsBy}
+use Rattle.vector_clocks.specs.declared.stamp.Stamp.{Stamp}
 use Rattle.log_lines.specs.Setting.{Setting}
 use Rattle.log_lines.specs.Files.{FileSays, first_line}
+use Rattle.log_lines.specs.declared.clocks.ClockForm.{ClockForm}
+use Rattle.log_lines.specs.declared.clocks.ClockForm.TheVariants.{Free}
 use Rattle.log_lines.specs.declared.file.FileLines.{FileLines}
 use Rattle.log_lines.specs.declared.file.Refusal.{Refusal}
 use Rattle.log_files.specs.declared.logs.LogRefusal.{LogRefusal}
@@ -30,12 +36,12 @@ GoesOn Behind file r (Ok found) = Behind found
 GoesOn Behind file r (Err refusal) = r ≡ Err (record { file = file; refusal = refusal })
 
 -- What the files of these texts say behind those that were found, the first of them with this number. Each has the room
--- that those before it left.
-abbrev pub FilesSay : Setting → Bool → ℕ → ℕ → List FileLines → List (List ℕ) → Result (List FileLines) LogRefusal → Type 0
-FilesSay g many file room found [] r = r ≡ Ok found
-FilesSay g many file room found (text ∷ texts) r =
-    (s : Result FileLines Refusal) × FileSays g (first_line file many room) text s
-    × GoesOn (λ f. FilesSay g many (file + 1) (room - length f.steps) (found ++ f ∷ []) texts r) file r s
+-- that those before it left, and the form of clocks that they began.
+abbrev pub FilesSay : Setting → Bool → ℕ → ℕ → ClockForm → List FileLines → List (List ℕ) → Result (List FileLines) LogRefusal → Type 0
+FilesSay g many file room form found [] r = r ≡ Ok found
+FilesSay g many file room form found (text ∷ texts) r =
+    (s : Result FileLines Refusal) × FileSays g (first_line file many room form) text s
+    × GoesOn (λ f. FilesSay g many (file + 1) (room - length f.steps) f.form (found ++ f ∷ []) texts r) file r s
 
 abbrev pub sees_of : Option (List See) → List See
 sees_of None = []
@@ -47,8 +53,28 @@ first_sees [] = []
 first_sees (f ∷ fs) = sees_of f.init ++ first_sees fs
 
 -- the clocks of each file, step by step
-abbrev pub clocks_in : List FileLines → Clocks
+abbrev pub clocks_in : List FileLines → List (List Clock)
 clocks_in = map (λ f. map (λ l. l.clock) f.steps)
+
+-- in no file does a clock fall, a number or a vector
+abbrev pub NoneFalls : List (List Clock) → Type 0
+NoneFalls = NoneFallsBy MayFollow
+
+-- no file has more steps than 32 bits number
+abbrev pub AreFew : List (List Clock) → Type 0
+AreFew clocks = AllByRecursion (λ log. length log ≤ 4294967296) clocks
+
+-- the numbers that are these clocks
+abbrev pub numbers_in : List FileLines → Clocks
+numbers_in = map (λ f. map (λ l. number_in l.clock) f.steps)
+
+-- and what they say of nodes
+abbrev pub vectors_in : List FileLines → List (List (List Stamp))
+vectors_in = map (λ f. map (λ l. vector_in l.clock) f.steps)
+
+-- some step has a clock of nodes
+abbrev pub are_vectors : List FileLines → Bool
+are_vectors = list_any (λ f. list_any (λ l. is_vector l.clock) f.steps)
 
 -- the file of that number has this step there
 abbrev pub StandsAt : List FileLines → LineRef → Line → Type 0
@@ -58,7 +84,7 @@ StandsAt files place line = (f : FileLines) × (slice_get files place.file ≡ S
 pub record IsLogOf (files : List FileLines) (log : Log) : Type 0 where
   pub init : log.init ≡ first_sees files
   pub order : List LineRef
-  pub merged : IsMerged (clocks_in files) order
+  pub merged : IsMerged (numbers_in files) order
   pub lines : AllZip (StandsAt files) order log.lines
 
 -- the log of the files, or their refusal
@@ -68,7 +94,7 @@ Together (Err refusal) r = r ≡ Err refusal
 
 -- what the files say that may have so many steps together
 abbrev pub LogsSayWithin : ℕ → Setting → List (List ℕ) → Result Log LogRefusal → Type 0
-LogsSayWithin room g texts r = (s : Result (List FileLines) LogRefusal) × FilesSay g (are_several texts) 1 room [] texts s × Together s r
+LogsSayWithin room g texts r = (s : Result (List FileLines) LogRefusal) × FilesSay g (are_several texts) 1 room Free [] texts s × Together s r
 
 abbrev pub LogsSay : Setting → List (List ℕ) → Result Log LogRefusal → Type 0
 LogsSay = LogsSayWithin max_steps

@@ -9,7 +9,7 @@ use Rattle.log_files.specs.declared.files.Reading.{Reading}
 
 -- what these texts say behind the reading
 abbrev pub Behind : Setting → Bool → Reading → List (List ℕ) → Result (List FileLines) LogRefusal → Type 0
-Behind g many reading = FilesSay g many reading.file reading.left reading.found.items
+Behind g many reading = FilesSay g many reading.file reading.left reading.form reading.found.items
 
 -- what is said behind the next reading is said behind this one with the text before it
 abbrev pub ReadsOn : Setting → Bool → Reading → List ℕ → Result Reading LogRefusal → Type 0

@@ -6,6 +6,7 @@ mod laws;
 mod lined;
 mod logs;
 mod placing;
+mod vectors;
 
 pub use laws::logs_laws;
 pub use lined::lined_of;

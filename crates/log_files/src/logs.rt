@@ -10,7 +10,7 @@ use thiserror::Error;
 use trace_base::NoMemory;
 
 /// Which file is refused, from 1, and why.
-#[derive(Clone, Copy, Debug, Drop, Error)]
+#[derive(Debug, Drop, Error)]
 #[error("{refusal} of log {file}")]
 pub struct LogRefusal {
     pub file: u32,

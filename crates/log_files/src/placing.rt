@@ -1,13 +1,14 @@
 ghost use Rattle.std.specs.Prelude.{◌≡◌, ◌≤◌, ◌++◌, ◌∷◌, [], All, IfOk, MatchOption, OnOk, length, map};
 ghost use Rattle.std.specs.List.{AllZip};
-ghost use Rattle.clock_merge.specs.Orders.{AreFew, IsLine, IsMerged, NoneFalls, clocks_of};
-ghost use Rattle.log_files.specs.Logs.{IsLogOf, StandsAt, clocks_in, first_sees, sees_of};
+ghost use Rattle.clock_merge.specs.Orders.{IsLine, IsMerged, clocks_of};
+ghost use Rattle.log_files.specs.Logs.{AreFew, IsLogOf, NoneFalls, StandsAt, clocks_in, first_sees, numbers_in, sees_of};
+ghost use Rattle.path_updates.specs.Clocks.{number_in};
 ghost use Rattle.path_updates.specs.declared.line.Line.{Line};
 
 use clock_merge::{LineRef, merge};
 use line_copies::{add_sees, copy_line};
 use log_lines::FileLines;
-use path_updates::{Line, LineList, Log, Sees};
+use path_updates::{Clock, Line, LineList, Log, Sees};
 use std::alloc::{AllocError, Global};
 use trace_base::NoMemory;
 
@@ -33,7 +34,7 @@ fn log_of_one(alloc: Global, file: FileLines) -> Log
     requires { NoneFalls (clocks_in (file ∷ [])) }
     ensures { IsLogOf (file ∷ []) result }
 {
-    let FileLines { init, steps } = file;
+    let FileLines { init, steps, .. } = file;
     Log {
         init: sees_or_none(alloc, init),
         lines: steps,
@@ -66,15 +67,15 @@ fn order_of(alloc: Global, files: &[FileLines]) -> Result<Vec<LineRef>, NoMemory
     requires none_falls { NoneFalls (clocks_in files.now) }
     requires few_files { length files.now ≤ 4294967296 }
     requires few_lines { AreFew (clocks_in files.now) }
-    ensures { IfOk result (λ order. IsMerged (clocks_in files.now) order.items) }
+    ensures { IfOk result (λ order. IsMerged (numbers_in files.now) order.items) }
 {
     let clocks = all_clocks(alloc, files)?;
     merge(alloc, clocks.as_slice())
 }
 
-/// The clocks of each file.
+/// The numbers that are the clocks of each file.
 pub(crate) fn all_clocks(alloc: Global, files: &[FileLines]) -> Result<Vec<Vec<i64>>, AllocError>
-    ensures { IfOk result (λ clocks. clocks_of clocks.items ≡ clocks_in files.now) }
+    ensures { IfOk result (λ clocks. clocks_of clocks.items ≡ numbers_in files.now) }
 {
     let mut clocks = Vec::with_capacity(alloc, files.len())?;
     for file in files {
@@ -85,13 +86,22 @@ pub(crate) fn all_clocks(alloc: Global, files: &[FileLines]) -> Result<Vec<Vec<i
 }
 
 fn step_clocks(alloc: Global, steps: &[Line]) -> Result<Vec<i64>, AllocError>
-    ensures { IfOk result (λ clocks. clocks.items ≡ map (λ l. l.clock) steps.now) }
+    ensures { IfOk result (λ clocks. clocks.items ≡ map (λ l. number_in l.clock) steps.now) }
 {
     let mut clocks = Vec::with_capacity(alloc, steps.len())?;
     for step in steps {
-        clocks.push(step.clock)?;
+        clocks.push(number_in(step))?;
     }
     Ok(clocks)
+}
+
+fn number_in(step: &Line) -> i64
+    ensures { result ≡ number_in step.now.clock }
+{
+    match step.clock {
+        Clock::Number(number) => number,
+        Clock::Vector(_) => 0,
+    }
 }
 
 /// What the init lines say, file by file.
@@ -116,7 +126,7 @@ fn add_first_sees(alloc: Global, sees: &mut Sees, file: &FileLines) -> Result<()
 
 /// Equal copies of the steps that stand at these places.
 fn placed_lines(alloc: Global, files: &[FileLines], order: &[LineRef]) -> Result<LineList, NoMemory>
-    requires { All (IsLine (clocks_in files.now)) order.now }
+    requires { All (IsLine (numbers_in files.now)) order.now }
     ensures { IfOk result (AllZip (StandsAt files.now) order.now) }
 {
     let mut lines = LineList::with_capacity(alloc, order.len())?;
@@ -132,7 +142,7 @@ fn push_step(
     files: &[FileLines],
     place: &LineRef,
 ) -> Result<(), NoMemory>
-    requires { IsLine (clocks_in files.now) place.now }
+    requires { IsLine (numbers_in files.now) place.now }
     ensures { OnOk result ((line : Line) × StandsAt files.now place.now line × (lines.new ≡ lines.old ++ line ∷ [])) }
 {
     let step = step_at(files, *place);
@@ -141,7 +151,7 @@ fn push_step(
 }
 
 fn step_at<'a>(files: &'a [FileLines], place: LineRef) -> &'a Line
-    requires { IsLine (clocks_in files.now) place }
+    requires { IsLine (numbers_in files.now) place }
     ensures { StandsAt files.now place result.now }
 {
     let file = &files[place.file as usize];

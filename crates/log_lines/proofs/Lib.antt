@@ -1,3 +1,4 @@
+pub mod ClockLemmas
 pub mod ItemLemmas
 pub mod StageLemmas
 pub mod ValueLemmas

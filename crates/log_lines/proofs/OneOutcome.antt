@@ -1,5 +1,5 @@
 -- A line says one thing alone, and so does a file.
-use Rattle.std.proofs.Common.{◌≡◌, ◌⊎◌, ◌<ℤ◌, ℕ, List, [], ◌∷◌, map, Bool, true, false, Option, Some, None, Result, Ok, Err, inl, inr, refl, ap, sym, ◌∙◌, subst}
+use Rattle.std.proofs.Common.{◌≡◌, ◌⊎◌, ℕ, List, [], ◌∷◌, map, Bool, true, false, Option, Some, None, Result, Ok, Err, inl, inr, refl, ap, sym, ◌∙◌, subst}
 use Rattle.std.specs.Prelude.{MatchBool}
 use Rattle.serde_json.specs.Data.{Items, Members, no_items, item}
 use Rattle.serde_json.specs.Find.{as_object}
@@ -17,9 +17,12 @@ use Rattle.path_updates.specs.declared.update.Op.{Op}
 use Rattle.path_updates.specs.declared.update.Op.TheVariants.{Set, Put, Drop, Add, Remove, Append}
 use Rattle.path_updates.specs.declared.update.See.{See}
 use Rattle.path_updates.specs.declared.update.Update.{Update}
+use Rattle.log_lines.specs.Clocks.{IsOtherForm, clock_or}
+use Rattle.log_lines.proofs.ClockLemmas.{not_both, one_why}
+use Rattle.path_updates.specs.declared.clock.Clock.{Clock}
 use Rattle.log_lines.specs.Setting.{Setting}
 use Rattle.log_lines.specs.Values.{EachOf, OpReads, PathReads, ReadsSole, ReadsTwo, SeeReads, UpdateReads}
-use Rattle.log_lines.specs.Lines.{ArgsSay, ClocksSay, EventIs, FormSays, HasUnknown, InitSays, IsBlank, IsJson, LineSays, NamesSay, ObjectSays, OnValue, SeesSay, ShapeSays, StepSays, TestsSay, TextSays, Unless, UpdatesSay, clock_or, step_line}
+use Rattle.log_lines.specs.Lines.{ArgsSay, ClocksSay, EventIs, FormSays, HasUnknown, InitSays, IsBlank, IsJson, LineSays, NamesSay, ObjectSays, OnBack, OnValue, SeesSay, ShapeSays, StepSays, TestsSay, TextSays, Unless, UpdatesSay, step_line}
 use Rattle.log_lines.specs.Files.{FileSays, GoesOn, LinesSay, nothing_found, pieces_of}
 use Rattle.log_lines.specs.declared.position.Position.{Position}
 use Rattle.log_lines.specs.declared.step.Parts.{Parts}
@@ -106,10 +109,17 @@ one_names g at s t o p h k =
     unless _ _ (Unless (HasUnknown g (map (λ v. v.path.name) s.sees)) kind.UnknownVariable (FormSays g at s t)) o p
     (λ a b. unless _ _ (FormSays g at s t) o p (one_form g at s t o p) a b) h k
 
+on_back : (a b : Clock) (Q : Outcome → Type 0) (o p : Outcome) → (Q o → Q p → o ≡ p) → OnBack a b Q o → OnBack a b Q p → o ≡ p
+on_back a b Q o p next (inl x) (inl y) = x.2 ∙ ap Refused (one_why a b x.0 y.0 x.1 y.1) ∙ sym y.2
+on_back a b Q o p next (inl x) (inr y) = absurd (not_both a b x.0 x.1 y.0)
+on_back a b Q o p next (inr x) (inl y) = absurd (not_both a b y.0 y.1 x.0)
+on_back a b Q o p next (inr x) (inr y) = next x.1 y.1
+
 one_clock : (g : Setting) (at : Position) (s : LineShape) (t : Parts) (o p : Outcome) → ClocksSay g at s t o → ClocksSay g at s t p → o ≡ p
 one_clock g at s t o p h k =
-    unless _ _ (Unless (clock_or at.clock s.clock <ℤ at.clock) (kind.ClockBack at.clock (clock_or at.clock s.clock)) (NamesSay g at s t)) o p
-    (λ a b. unless _ _ (NamesSay g at s t) o p (one_names g at s t o p) a b) h k
+    let after = clock_or at.clock s.clock in
+    unless _ _ (Unless (IsOtherForm at.form s.clock) kind.ClockKind (OnBack at.clock after (NamesSay g at s t))) o p
+    (λ a b. unless _ _ (OnBack at.clock after (NamesSay g at s t)) o p (λ c d. on_back at.clock after (NamesSay g at s t) o p (one_names g at s t o p) c d) a b) h k
 
 one_test : (g : Setting) (at : Position) (s : LineShape) (t : Parts) (o p : Outcome) → TestsSay g at s t o → TestsSay g at s t p → o ≡ p
 one_test g at s t o p h k = unless _ _ (ClocksSay g at s t) o p (one_clock g at s t o p) h k
@@ -168,7 +178,7 @@ goes_on : (g : Setting) (at : Position) (found : FileLines) (rest : List (List �
     → GoesOn (λ next more. LinesSay g next more rest r) at found r o → GoesOn (λ next more. LinesSay g next more rest s) at found s o → r ≡ s
 goes_on g at found rest r s Blank next h k = next _ _ h k
 goes_on g at found rest r s (Init sees) next h k = next _ _ h k
-goes_on g at found rest r s (Step line) next h k = next _ _ h k
+goes_on g at found rest r s (Step line form) next h k = next _ _ h k
 goes_on g at found rest r s (Refused why) next h k = h ∙ sym k
 
 one_end : (g : Setting) (ps : List (List ℕ)) (at : Position) (found : FileLines) (r s : Result FileLines Refusal) → LinesSay g at found ps r → LinesSay g at found ps s → r ≡ s
@@ -178,4 +188,4 @@ one_end g (p ∷ ps) at found r s h k =
     goes_on g at found ps r s k.0 (λ next more. one_end g ps next more r s) (subst (λ o. GoesOn (λ next more. LinesSay g next more ps r) at found r o) same h.2) k.2
 
 pub one_file : (g : Setting) (at : Position) (bytes : List ℕ) (r s : Result FileLines Refusal) → FileSays g at bytes r → FileSays g at bytes s → r ≡ s
-one_file g at bytes r s h k = one_end g (pieces_of bytes) at nothing_found r s h k
+one_file g at bytes r s h k = one_end g (pieces_of bytes) at (nothing_found at.form) r s h k

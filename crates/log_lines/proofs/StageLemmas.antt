@@ -1,18 +1,20 @@
 -- How a stage of reading a line goes on with the next, or ends with its refusal.
-use Rattle.std.proofs.Common.{◌≡◌, ◌<ℤ◌, ℕ, ℤ, List, length, map, Bool, true, false, Option, Some, None, inl, inr, Result, Ok, Err, IfOk, refl, ap, sym, ◌∙◌, subst, true≢false}
-use Rattle.std.specs.Prelude.{is_some, not, unwrap_or}
-use Rattle.std.specs.Int.Signed.{<ℤ_irrefl, clash_ℤ, lt_z, lt_z_no}
+use Rattle.std.proofs.Common.{◌≡◌, ◌≤◌, ◌<◌, arith, ℕ, List, length, map, Bool, true, false, Option, Some, None, inl, inr, Result, Ok, Err, IfOk, refl, ap, sym, ◌∙◌, subst, true≢false}
+use Rattle.std.specs.Prelude.{is_some, not}
 use Rattle.std.specs.List.{list_all}
 use Rattle.std.specs.declared.alloc.AllocError.{AllocError}
 use Rattle.tla_values.specs.Data.{Val}
 use Rattle.line_shapes.specs.Shapes.{LineShape}
 use Rattle.line_shapes.specs.declared.key.Key.TheVariants as key
+use Rattle.path_updates.specs.declared.clock.Clock.{Clock}
 use Rattle.path_updates.specs.declared.line.Event.{Event}
 use Rattle.path_updates.specs.declared.update.See.{See}
 use Rattle.path_updates.specs.declared.update.Update.{Update}
+use Rattle.log_lines.specs.Clocks.{IsMissing, IsNoLower, IsOtherForm, clock_or, form_after}
+use Rattle.log_lines.specs.declared.clocks.ClockForm.{ClockForm}
 use Rattle.log_lines.specs.Setting.{Setting}
 use Rattle.log_lines.specs.Values.{EachOf, SeeReads, UpdateReads}
-use Rattle.log_lines.specs.Lines.{ClocksSay, FormSays, HasNoForm, HasUnknown, InitSays, IsMissing, NamesSay, OnValue, SeesSay, TestsSay, Unless, UpdatesSay, clock_or, event_with, params_of}
+use Rattle.log_lines.specs.Lines.{ClocksSay, FormSays, HasNoForm, HasUnknown, InitSays, IsBlank, LineSays, NamesSay, OnBack, OnValue, SeesSay, TestsSay, TextSays, Unless, UpdatesSay, event_with, params_of}
 use Rattle.log_lines.specs.declared.position.Position.{Position}
 use Rattle.log_lines.specs.declared.step.Parts.{Parts}
 use Rattle.log_lines.specs.declared.kind.LogKind.{LogKind}
@@ -57,25 +59,20 @@ pub args_counted : (g : Setting) (at : Position) (s : LineShape) (p : Parts) (r 
     → length p.args ≡ params_of p.event → IfOk r (ClocksSay g at s p) → IfOk r (TestsSay g at s p)
 args_counted g at s p r e q = goes_on (length p.args ≡ params_of p.event → ⊥) (kind.WrongArgs (length p.args) (params_of p.event)) (ClocksSay g at s p) r (λ n. n e) q
 
--- the clock does not fall
-clock_kept : (g : Setting) (at : Position) (s : LineShape) (p : Parts) (r : Result Outcome AllocError)
-    → ¬ IsMissing at.many s.clock → ¬ (clock_or at.clock s.clock <ℤ at.clock) → IfOk r (NamesSay g at s p) → IfOk r (ClocksSay g at s p)
-clock_kept g at s p r m n q =
-    goes_on (IsMissing at.many s.clock) kind.NoClock (Unless (clock_or at.clock s.clock <ℤ at.clock) (kind.ClockBack at.clock (clock_or at.clock s.clock)) (NamesSay g at s p)) r m
-    (goes_on (clock_or at.clock s.clock <ℤ at.clock) (kind.ClockBack at.clock (clock_or at.clock s.clock)) (NamesSay g at s p) r n q)
+-- a clock is there that is wanted, and of no other form
+pub clock_read : (g : Setting) (at : Position) (s : LineShape) (p : Parts) (clock : Clock) (r : Result Outcome AllocError)
+    → ¬ IsMissing at.many s.clock → ¬ IsOtherForm at.form s.clock → clock ≡ clock_or at.clock s.clock → IfOk r (OnBack at.clock clock (NamesSay g at s p)) → IfOk r (ClocksSay g at s p)
+clock_read g at s p clock r m n e q =
+    goes_on (IsMissing at.many s.clock) kind.NoClock (Unless (IsOtherForm at.form s.clock) kind.ClockKind (OnBack at.clock (clock_or at.clock s.clock) (NamesSay g at s p))) r m
+    (goes_on (IsOtherForm at.form s.clock) kind.ClockKind (OnBack at.clock (clock_or at.clock s.clock) (NamesSay g at s p)) r n
+    (subst (λ (c : Clock). IfOk r (OnBack at.clock c (NamesSay g at s p))) e q))
 
-pub clock_given : (g : Setting) (at : Position) (s : LineShape) (p : Parts) (c : ℤ) (r : Result Outcome AllocError)
-    → s.clock ≡ Some c → lt_z c at.clock ≡ false → IfOk r (NamesSay g at s p) → IfOk r (ClocksSay g at s p)
-clock_given g at s p c r e n q = clock_kept g at s p r (λ m. subst (IsMissing at.many) e m) (λ l. clash_ℤ (subst (λ (o : Option ℤ). clock_or at.clock o <ℤ at.clock) e l) (lt_z_no (rw n tt))) q
+pub clock_other : (g : Setting) (at : Position) (s : LineShape) (p : Parts) → ¬ IsMissing at.many s.clock → IsOtherForm at.form s.clock → ClocksSay g at s p (Refused kind.ClockKind)
+clock_other g at s p m other = inr (m, inl (other, refl))
 
-pub clock_absent : (g : Setting) (at : Position) (s : LineShape) (p : Parts) (r : Result Outcome AllocError)
-    → s.clock ≡ None → ¬ IsMissing at.many s.clock → IfOk r (NamesSay g at s p) → IfOk r (ClocksSay g at s p)
-clock_absent g at s p r e m q = clock_kept g at s p r m (λ l. <ℤ_irrefl (subst (λ (o : Option ℤ). clock_or at.clock o <ℤ at.clock) e l)) q
-
-pub clock_back : (g : Setting) (at : Position) (s : LineShape) (p : Parts) (c : ℤ)
-    → s.clock ≡ Some c → c <ℤ at.clock → ClocksSay g at s p (Refused (kind.ClockBack at.clock c))
-clock_back g at s p c e l =
-    inr (λ m. subst (IsMissing at.many) e m, inl (subst (λ (o : Option ℤ). clock_or at.clock o <ℤ at.clock) (sym e) l, ap (λ (o : Option ℤ). Refused (kind.ClockBack at.clock (clock_or at.clock o))) (sym e)))
+pub not_back : (before clock : Clock) (Q : Outcome → Type 0) (r : Result Outcome AllocError) → IsNoLower before clock → IfOk r Q → IfOk r (OnBack before clock Q)
+not_back before clock Q (Ok o) n q = inr (n, q)
+not_back before clock Q (Err e) n q = q
 
 pub names_known : (g : Setting) (at : Position) (s : LineShape) (p : Parts) (r : Result Outcome AllocError)
     → list_all (λ name. is_some (g.variable name)) (map (λ u. u.path.name) s.updates) ≡ true → list_all (λ name. is_some (g.variable name)) (map (λ v. v.path.name) s.sees) ≡ true
@@ -94,19 +91,14 @@ pub see_unknown : (g : Setting) (at : Position) (s : LineShape) (p : Parts)
 see_unknown g at s p us n = inr (λ f. true≢false (sym us ∙ f), inl (n, refl))
 
 -- a line that has a form tells of its step
-pub form_had : (g : Setting) (at : Position) (s : LineShape) (p : Parts) (clock : ℤ) (event : Option Event)
-    → ¬ HasNoForm g p.event p.updates → clock ≡ clock_or at.clock s.clock → event ≡ event_with p.event p.args
-    → FormSays g at s p (Step (record { at = record { file = at.file; line = at.line }; clock = clock; event = event; updates = p.updates; sees = p.sees }))
-form_had g at s p clock event n c e =
-    inr (
-      n,
-      ap (λ (x : ℤ). Step (record { at = record { file = at.file; line = at.line }; clock = x; event = event; updates = p.updates; sees = p.sees })) c
-          ∙ ap (λ (x : Option Event). Step (record { at = record { file = at.file; line = at.line }; clock = clock_or at.clock s.clock; event = x; updates = p.updates; sees = p.sees })) e,
-    )
+pub form_had : (g : Setting) (at : Position) (s : LineShape) (p : Parts) (clock : Clock) (form : ClockForm) (event : Option Event)
+    → ¬ HasNoForm g p.event p.updates → clock ≡ clock_or at.clock s.clock → form ≡ form_after at.form s.clock → event ≡ event_with p.event p.args
+    → FormSays g at s p (Step (record { at = record { file = at.file; line = at.line }; clock = clock; event = event; updates = p.updates; sees = p.sees }) form)
+form_had g at s p clock form event n c f e =
+    inr (n, λ i. Step (record { at = record { file = at.file; line = at.line }; clock = c i; event = e i; updates = p.updates; sees = p.sees }) (f i))
 
-pub is_first : (b : Bool) → not b ≡ false → ¬ (b ≡ false)
-is_first true n e = true≢false e
-is_first false n e = true≢false n
+pub is_first : (b : Bool) → b ≡ true → ¬ (b ≡ false)
+is_first b h n = true≢false (sym h ∙ n)
 
 -- an init line
 pub init_unread : (g : Setting) (at : Position) (s : LineShape) → ¬ (at.first ≡ false) → ((sees : List See) → ¬ EachOf (SeeReads g) s.sees sees) → InitSays g at s (Refused (kind.BadValue key.See))
@@ -120,6 +112,7 @@ pub init_read : (g : Setting) (at : Position) (s : LineShape) (sees : List See) 
     → list_all (λ name. is_some (g.variable name)) (map (λ v. v.path.name) s.sees) ≡ true → InitSays g at s (Init sees)
 init_read g at s sees n h k = inr (n, inl (sees, h, inr (λ f. true≢false (sym k ∙ f), refl)))
 
-pub clock_is : (before : ℤ) (o : Option ℤ) → unwrap_or o before ≡ clock_or before o
-clock_is before None = refl
-clock_is before (Some c) = refl
+-- a line that is neither too long nor blank says what its text says
+pub line_read : (g : Setting) (at : Position) (line : List ℕ) (r : Result Outcome AllocError) → length line ≤ 1048576 → ¬ IsBlank line → IfOk r (TextSays g at line) → IfOk r (LineSays g at line)
+line_read g at line (Ok o) short n q = inr (λ long. omega (arith, short, long), inr (n, q))
+line_read g at line (Err e) short n q = q

@@ -1,10 +1,8 @@
--- What is so of the steps of a file: no clock falls, line numbers rise, and there is room for them.
-use Rattle.std.proofs.Common.{◌≡◌, ◌⊎◌, ◌<◌, ◌≤◌, ◌+◌, ◌<ℤ◌, ◌≤ℤ◌, ℕ, ℤ, List, [], ◌∷◌, ◌++◌, length, length-append, All, AllPairs, Bool, true, false, Option, Some, None, Result, Ok, Err, inl, inr, refl, sym, ◌∙◌, subst, arith, rules, get_or, map}
+-- What is so of the steps of a file: each clock may follow those before, line numbers rise, and there is room for them.
+use Rattle.std.proofs.Common.{◌≡◌, ◌⊎◌, ◌<◌, ◌≤◌, ◌+◌, ℕ, List, [], ◌∷◌, ◌++◌, length, length-append, All, AllPairs, Bool, true, false, Option, Some, None, Result, Ok, Err, inl, inr, refl, sym, ◌∙◌, subst, arith, rules, get_or, map}
 use Rattle.std.specs.Prelude.{MatchBool}
-use Rattle.std.proofs.lemmas.Int.{by_lt_z}
 use Rattle.std.proofs.lemmas.List.Elements.{All-get_or, All-nil, All-push, All-weaker}
 use Rattle.std.proofs.lemmas.List.Quantifiers.{all_pairs_push}
-use Rattle.std.specs.Int.Signed.{<ℤ-≤ℤ_trans, clash_ℤ, ≤ℤ_refl}
 use Rattle.serde_json.specs.Data.{Members}
 use Rattle.serde_json.specs.Find.{as_object}
 use Rattle.tla_values.specs.Data.{Val}
@@ -12,11 +10,16 @@ use Rattle.json_values.specs.Reads.{ReadsEach}
 use Rattle.line_shapes.specs.Shapes.{LineShape, shape_of}
 use Rattle.line_shapes.specs.declared.key.Key.{Key}
 use Rattle.line_shapes.specs.declared.key.Key.TheVariants as key
+use Rattle.path_updates.specs.Clocks.{MayFollow}
+use Rattle.path_updates.specs.declared.clock.Clock.{Clock}
 use Rattle.path_updates.specs.declared.line.Line.{Line}
 use Rattle.path_updates.specs.declared.update.Update.{Update}
+use Rattle.log_lines.specs.Clocks.{IsNoLower, IsOtherForm, clock_or}
+use Rattle.log_lines.proofs.ClockLemmas.{Agrees, agrees_at_first, agrees_on, follows_itself, follows_on, may_follow}
+use Rattle.log_lines.specs.declared.clocks.ClockForm.{ClockForm}
 use Rattle.log_lines.specs.Setting.{Setting}
 use Rattle.log_lines.specs.Values.{EachOf, SeeReads, UpdateReads}
-use Rattle.log_lines.specs.Lines.{ArgsSay, ClocksSay, EventIs, FormSays, HasUnknown, InitSays, IsBlank, IsJson, LineSays, NamesSay, ObjectSays, OnValue, SeesSay, ShapeSays, StepSays, TestsSay, TextSays, Unless, UpdatesSay, clock_or, step_line}
+use Rattle.log_lines.specs.Lines.{ArgsSay, ClocksSay, EventIs, FormSays, HasUnknown, InitSays, IsBlank, IsJson, LineSays, NamesSay, ObjectSays, OnBack, OnValue, SeesSay, ShapeSays, StepSays, TestsSay, TextSays, Unless, UpdatesSay, step_line}
 use Rattle.log_lines.specs.Files.{FileSays, GoesOn, LinesSay, behind_blank, behind_init, behind_step, first_line, nothing_found, pieces_of}
 use Rattle.log_lines.specs.Laws.{Precedes}
 use Rattle.log_lines.specs.declared.position.Position.{Position}
@@ -29,15 +32,16 @@ use Rattle.log_lines.specs.declared.file.FileLines.{FileLines}
 use Rattle.log_lines.specs.declared.file.Refusal.{Refusal}
 
 -- a step that a line at this position tells of
-pub record Fits (at : Position) (line : Line) : Type 0 where
+pub record Fits (at : Position) (line : Line) (form : ClockForm) : Type 0 where
   pub room : at.steps < at.room
-  pub clock : at.clock ≤ℤ line.clock
+  pub clock : Agrees at.form at.clock → MayFollow at.clock line.clock
   pub number : line.at.line ≡ at.line
+  pub formed : Agrees at.form at.clock → Agrees form line.clock
 
 abbrev IfStep : Position → Outcome → Type 0
 IfStep at Blank = Unit {0}
 IfStep at (Init sees) = Unit {0}
-IfStep at (Step line) = Fits at line
+IfStep at (Step line form) = Fits at line form
 IfStep at (Refused why) = Unit {0}
 
 unless : (at : Position) (Bad : Type 0) (why : LogKind) (Q : Outcome → Type 0) (o : Outcome) → (¬ Bad → Q o → IfStep at o) → Unless Bad why Q o → IfStep at o
@@ -48,24 +52,24 @@ on_value : {A : Type 0} (at : Position) (P : A → Type 0) (why : LogKind) (Q : 
 on_value at P why Q o next (inl a) = next a.0 a.2
 on_value at P why Q o next (inr a) = subst (IfStep at) (sym a.1) tt
 
-in_form : (g : Setting) (at : Position) (s : LineShape) (t : Parts) (o : Outcome) → at.steps < at.room → at.clock ≤ℤ clock_or at.clock s.clock → FormSays g at s t o → IfStep at o
-in_form g at s t o room clock h = unless at _ _ (λ x. x ≡ step_line at s t) o (λ n e. subst (IfStep at) (sym e) (record { room = room; clock = clock; number = refl })) h
+in_form : (g : Setting) (at : Position) (s : LineShape) (t : Parts) (o : Outcome) → at.steps < at.room → (Agrees at.form at.clock → MayFollow at.clock (clock_or at.clock s.clock)) → FormSays g at s t o → IfStep at o
+in_form g at s t o room clock h = unless at _ _ (λ x. x ≡ step_line at s t) o (λ n e. subst (IfStep at) (sym e) (record { room = room; clock = clock; number = refl; formed = agrees_on at.form at.clock s.clock })) h
 
-in_names : (g : Setting) (at : Position) (s : LineShape) (t : Parts) (o : Outcome) → at.steps < at.room → at.clock ≤ℤ clock_or at.clock s.clock → NamesSay g at s t o → IfStep at o
+in_names : (g : Setting) (at : Position) (s : LineShape) (t : Parts) (o : Outcome) → at.steps < at.room → (Agrees at.form at.clock → MayFollow at.clock (clock_or at.clock s.clock)) → NamesSay g at s t o → IfStep at o
 in_names g at s t o room clock h =
     unless at _ _ (Unless (HasUnknown g (map (λ v. v.path.name) s.sees)) kind.UnknownVariable (FormSays g at s t)) o
     (λ n a. unless at _ _ (FormSays g at s t) o (λ m b. in_form g at s t o room clock b) a) h
 
-rises : (a b c : ℤ) → a ≤ℤ b → b ≤ℤ c → a ≤ℤ c
-rises a b c p q = by_lt_z c a (λ l. clash_ℤ (<ℤ-≤ℤ_trans l p) q) (λ le. le)
-
-not_back : (a b : ℤ) → ¬ (b <ℤ a) → a ≤ℤ b
-not_back a b n = by_lt_z b a (λ l. absurd (n l)) (λ le. le)
+on_back : (at : Position) (before clock : Clock) (Q : Outcome → Type 0) (o : Outcome) → (IsNoLower before clock → Q o → IfStep at o) → OnBack before clock Q o → IfStep at o
+on_back at before clock Q o next (inl a) = subst (IfStep at) (sym a.2) tt
+on_back at before clock Q o next (inr a) = next a.0 a.1
 
 in_clocks : (g : Setting) (at : Position) (s : LineShape) (t : Parts) (o : Outcome) → at.steps < at.room → ClocksSay g at s t o → IfStep at o
 in_clocks g at s t o room h =
-    unless at _ _ (Unless (clock_or at.clock s.clock <ℤ at.clock) (kind.ClockBack at.clock (clock_or at.clock s.clock)) (NamesSay g at s t)) o
-    (λ n a. unless at _ _ (NamesSay g at s t) o (λ m b. in_names g at s t o room (not_back at.clock (clock_or at.clock s.clock) m) b) a) h
+    let after = clock_or at.clock s.clock in
+    unless at _ _ (Unless (IsOtherForm at.form s.clock) kind.ClockKind (OnBack at.clock after (NamesSay g at s t))) o
+    (λ n a. unless at _ _ (OnBack at.clock after (NamesSay g at s t)) o
+    (λ m b. on_back at at.clock after (NamesSay g at s t) o (λ l c. in_names g at s t o room (λ agrees. may_follow at.form at.clock s.clock agrees m l) c) b) a) h
 
 in_tests : (g : Setting) (at : Position) (s : LineShape) (t : Parts) (o : Outcome) → at.steps < at.room → TestsSay g at s t o → IfStep at o
 in_tests g at s t o room h = unless at _ _ (ClocksSay g at s t) o (λ n a. in_clocks g at s t o room a) h
@@ -115,29 +119,32 @@ step_fits g at line o h = unless at _ _ (λ x. (IsBlank line × (x ≡ Blank)) �
 -- the steps that were found before the line at this position
 record Kept (room : ℕ) (at : Position) (steps : List Line) : Type 0 where
   pairs : AllPairs Precedes steps
-  before : All (λ l. (l.at.line < at.line) × (l.clock ≤ℤ at.clock)) steps
+  before : All (λ l. (l.at.line < at.line) × MayFollow l.clock at.clock) steps
+  formed : Agrees at.form at.clock
   count : length steps ≡ at.steps
   few : at.steps ≤ room
   same : at.room ≡ room
 
-kept_behind : (room : ℕ) (at next : Position) (steps : List Line) → next.line ≡ at.line + 1 → next.clock ≡ at.clock → next.steps ≡ at.steps → next.room ≡ at.room → Kept room at steps → Kept room next steps
-kept_behind room at next steps l c s r k = record {
+kept_behind : (room : ℕ) (at next : Position) (steps : List Line) → next.line ≡ at.line + 1 → next.clock ≡ at.clock → next.form ≡ at.form → next.steps ≡ at.steps → next.room ≡ at.room → Kept room at steps → Kept room next steps
+kept_behind room at next steps l c f s r k = record {
   pairs = k.pairs;
-  before = All-weaker (λ x. (x.at.line < at.line) × (x.clock ≤ℤ at.clock)) (λ x. (x.at.line < next.line) × (x.clock ≤ℤ next.clock))
-      (λ x h. (let low : x.at.line < at.line = h.0 in omega (arith, l), subst (λ (z : ℤ). x.clock ≤ℤ z) (sym c) h.1)) steps k.before;
+  before = All-weaker (λ x. (x.at.line < at.line) × MayFollow x.clock at.clock) (λ x. (x.at.line < next.line) × MayFollow x.clock next.clock)
+      (λ x h. (let low : x.at.line < at.line = h.0 in omega (arith, l), subst (MayFollow x.clock) (sym c) h.1)) steps k.before;
+  formed = subst (λ (z : ClockForm). Agrees z next.clock) (sym f) (subst (Agrees at.form) (sym c) k.formed);
   count = k.count ∙ sym s;
   few = subst (λ (n : ℕ). n ≤ room) (sym s) k.few;
   same = r ∙ k.same;
 }
 
-kept_step : (room : ℕ) (at : Position) (steps : List Line) (line : Line) → Fits at line → Kept room at steps → Kept room (behind_step at line.clock) (steps ++ line ∷ [])
-kept_step room at steps line f k = record {
-  pairs = all_pairs_push Precedes steps line k.pairs (λ i d h. let low = All-get_or (λ l. (l.at.line < at.line) × (l.clock ≤ℤ at.clock)) steps i d h k.before in
-      (subst (λ (n : ℕ). (get_or steps i d).at.line < n) (sym f.number) low.0, rises (get_or steps i d).clock at.clock line.clock low.1 f.clock));
-  before = All-push (λ l. (l.at.line < at.line + 1) × (l.clock ≤ℤ line.clock)) steps line
-      (All-weaker (λ x. (x.at.line < at.line) × (x.clock ≤ℤ at.clock)) (λ x. (x.at.line < at.line + 1) × (x.clock ≤ℤ line.clock))
-      (λ x h. (let low : x.at.line < at.line = h.0 in omega arith, rises x.clock at.clock line.clock h.1 f.clock)) steps k.before)
-      (let number : line.at.line ≡ at.line = f.number in omega (arith, number), ≤ℤ_refl line.clock);
+kept_step : (room : ℕ) (at : Position) (steps : List Line) (line : Line) (form : ClockForm) → Fits at line form → Kept room at steps → Kept room (behind_step at form line.clock) (steps ++ line ∷ [])
+kept_step room at steps line form f k = record {
+  pairs = all_pairs_push Precedes steps line k.pairs (λ i d h. let low = All-get_or (λ l. (l.at.line < at.line) × MayFollow l.clock at.clock) steps i d h k.before in
+      (subst (λ (n : ℕ). (get_or steps i d).at.line < n) (sym f.number) low.0, follows_on (get_or steps i d).clock at.clock line.clock low.1 (f.clock k.formed)));
+  before = All-push (λ l. (l.at.line < at.line + 1) × MayFollow l.clock line.clock) steps line
+      (All-weaker (λ x. (x.at.line < at.line) × MayFollow x.clock at.clock) (λ x. (x.at.line < at.line + 1) × MayFollow x.clock line.clock)
+      (λ x h. (let low : x.at.line < at.line = h.0 in omega arith, follows_on x.clock at.clock line.clock h.1 (f.clock k.formed))) steps k.before)
+      (let number : line.at.line ≡ at.line = f.number in omega (arith, number), follows_itself line.clock);
+  formed = f.formed k.formed;
   count = let count : length steps ≡ at.steps = k.count in omega (arith, count, length-append steps (line ∷ []));
   few = let low : at.steps < at.room = f.room in let same : at.room ≡ room = k.same in omega (arith, low, same);
   same = k.same;
@@ -147,11 +154,11 @@ kept_step room at steps line f k = record {
 kept_on : (g : Setting) (room : ℕ) (rest : List (List ℕ)) (f : FileLines) (at : Position) (found : FileLines) (o : Outcome)
     → ((next : Position) (more : FileLines) → Kept room next more.steps → LinesSay g next more rest (Ok f) → AllPairs Precedes f.steps × (length f.steps ≤ room))
     → Kept room at found.steps → IfStep at o → GoesOn (λ next more. LinesSay g next more rest (Ok f)) at found (Ok f) o → AllPairs Precedes f.steps × (length f.steps ≤ room)
-kept_on g room rest f at found Blank next k fits h = next (behind_blank at) found (kept_behind room at (behind_blank at) found.steps refl refl refl refl k) h
+kept_on g room rest f at found Blank next k fits h = next (behind_blank at) found (kept_behind room at (behind_blank at) found.steps refl refl refl refl refl k) h
 kept_on g room rest f at found (Init sees) next k fits h =
-    next (behind_init at) (record { init = Some sees; steps = found.steps }) (kept_behind room at (behind_init at) found.steps refl refl refl refl k) h
-kept_on g room rest f at found (Step line) next k fits h =
-    next (behind_step at line.clock) (record { init = found.init; steps = found.steps ++ line ∷ [] }) (kept_step room at found.steps line fits k) h
+    next (behind_init at) (record { init = Some sees; steps = found.steps; form = found.form }) (kept_behind room at (behind_init at) found.steps refl refl refl refl refl k) h
+kept_on g room rest f at found (Step line form) next k fits h =
+    next (behind_step at form line.clock) (record { init = found.init; steps = found.steps ++ line ∷ []; form = form }) (kept_step room at found.steps line form fits k) h
 kept_on g room rest f at found (Refused why) next k fits h = absurd cc
 
 ok_is : (a b : FileLines) (r s : Result FileLines Refusal) → r ≡ Ok a → s ≡ Ok b → r ≡ s → a ≡ b
@@ -170,7 +177,7 @@ kept_lines g room (p ∷ ps) f at found k h = kept_on g room ps f at found h.0 (
 none_pairs : AllPairs Precedes []
 none_pairs = search rules
 
-pub steps_keep : (g : Setting) (file : ℕ) (many : Bool) (room : ℕ) (bytes : List ℕ) (f : FileLines) → FileSays g (first_line file many room) bytes (Ok f)
+pub steps_keep : (g : Setting) (file : ℕ) (many : Bool) (room : ℕ) (form : ClockForm) (bytes : List ℕ) (f : FileLines) → FileSays g (first_line file many room form) bytes (Ok f)
     → AllPairs Precedes f.steps × (length f.steps ≤ room)
-steps_keep g file many room bytes f h =
-    kept_lines g room (pieces_of bytes) f (first_line file many room) nothing_found (record { pairs = none_pairs; before = All-nil _; count = refl; few = omega arith; same = refl }) h
+steps_keep g file many room form bytes f h =
+    kept_lines g room (pieces_of bytes) f (first_line file many room form) (nothing_found form) (record { pairs = none_pairs; before = All-nil _; formed = agrees_at_first form; count = refl; few = omega arith; same = refl }) h

@@ -2,11 +2,13 @@
 use Rattle.std.proofs.Common.{◌≡◌, ◌≤◌, ◌<◌, ◌+◌, ℕ, List, [], ◌∷◌, ◌++◌, length, Option, Some, None, MatchOption, Result, Ok, Err, Bor, arith, refl, sym, subst}
 use Rattle.log_lines.specs.Setting.{Setting}
 use Rattle.path_updates.specs.declared.line.Line.{Line}
+use Rattle.path_updates.specs.declared.update.See.{See}
 use Rattle.log_lines.specs.Lines.{LineSays}
-use Rattle.log_lines.specs.Files.{FileSays, LinesSay, behind_step, pieces_of}
+use Rattle.log_lines.specs.Files.{FileSays, LinesSay, behind_init, behind_step, pieces_of}
 use Rattle.log_lines.specs.Walks.{IsCounted, WalksOn}
+use Rattle.log_lines.specs.declared.clocks.ClockForm.{ClockForm}
 use Rattle.log_lines.specs.declared.position.Position.{Position}
-use Rattle.log_lines.specs.declared.kind.Outcome.TheVariants.{Step}
+use Rattle.log_lines.specs.declared.kind.Outcome.TheVariants.{Init, Step}
 use Rattle.log_lines.specs.declared.file.FileLines.{FileLines}
 use Rattle.log_lines.specs.declared.file.Refusal.{Refusal}
 use Rattle.log_lines.specs.declared.file.Walk.{Walk}
@@ -39,11 +41,21 @@ stopped g from all walk rest piece (Some r) refusal w e on =
     w.said (Err refusal) (subst (λ (ps : List (List ℕ)). LinesSay g walk.at walk.found ps (Err refusal)) (sym e.0) (on (pieces_of r.now)))
 
 -- one more step
-pub step_taken : (g : Setting) (walk next : Walk) (piece : List ℕ) (line : Line) → LineSays g walk.at piece (Step line) → next.at ≡ behind_step walk.at line.clock
-    → next.found ≡ record { init = walk.found.init; steps = walk.found.steps ++ line ∷ [] } → WalksOn g walk piece (Ok next)
-step_taken g walk next piece line says at found = λ rest r h. (
-  Step line,
+pub step_taken : (g : Setting) (walk next : Walk) (piece : List ℕ) (line : Line) (form : ClockForm) → LineSays g walk.at piece (Step line form) → next.at ≡ behind_step walk.at form line.clock
+    → next.found ≡ record { init = walk.found.init; steps = walk.found.steps ++ line ∷ []; form = form } → WalksOn g walk piece (Ok next)
+step_taken g walk next piece line form says at found = λ rest r h. (
+  Step line form,
   says,
-  subst (λ (x : Position). LinesSay g x (record { init = walk.found.init; steps = walk.found.steps ++ line ∷ [] }) rest r) at
+  subst (λ (x : Position). LinesSay g x (record { init = walk.found.init; steps = walk.found.steps ++ line ∷ []; form = form }) rest r) at
+      (subst (λ (x : FileLines). LinesSay g next.at x rest r) found h),
+)
+
+-- what holds at first
+pub init_taken : (g : Setting) (walk next : Walk) (piece : List ℕ) (sees : List See) → LineSays g walk.at piece (Init sees) → next.at ≡ behind_init walk.at
+    → next.found ≡ record { init = Some sees; steps = walk.found.steps; form = walk.found.form } → WalksOn g walk piece (Ok next)
+init_taken g walk next piece sees says at found = λ rest r h. (
+  Init sees,
+  says,
+  subst (λ (x : Position). LinesSay g x (record { init = Some sees; steps = walk.found.steps; form = walk.found.form }) rest r) at
       (subst (λ (x : FileLines). LinesSay g next.at x rest r) found h),
 )

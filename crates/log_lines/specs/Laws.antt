@@ -1,9 +1,11 @@
 -- What is so of each line and each file.
-use Rattle.std.specs.Prelude.{◌≡◌, ◌<◌, ◌≤◌, ◌≤ℤ◌, ℕ, List, length, AllPairs, Bool, Result, Ok}
+use Rattle.std.specs.Prelude.{◌≡◌, ◌<◌, ◌≤◌, ℕ, List, length, AllPairs, Bool, Result, Ok}
+use Rattle.path_updates.specs.Clocks.{MayFollow}
 use Rattle.path_updates.specs.declared.line.Line.{Line}
 use Rattle.log_lines.specs.Setting.{Setting}
 use Rattle.log_lines.specs.Lines.{LineSays}
 use Rattle.log_lines.specs.Files.{FileSays, first_line}
+use Rattle.log_lines.specs.declared.clocks.ClockForm.{ClockForm}
 use Rattle.log_lines.specs.declared.position.Position.{Position}
 use Rattle.log_lines.specs.declared.kind.Outcome.{Outcome}
 use Rattle.log_lines.specs.declared.file.FileLines.{FileLines}
@@ -19,9 +21,9 @@ FileSaysOne g = (at : Position) (bytes : List ℕ) (r s : Result FileLines Refus
 
 -- a can stand before b in a file
 abbrev pub Precedes : Line → Line → Type 0
-Precedes a b = (a.at.line < b.at.line) × (a.clock ≤ℤ b.clock)
+Precedes a b = (a.at.line < b.at.line) × MayFollow a.clock b.clock
 
--- the steps of a file stand in the order of their lines, no clock falls, and there are no more than may be
+-- the steps of a file stand in the order of their lines, each clock may follow those before it, and there are no more than may be
 abbrev pub StepsKeep : Setting → Type 0
 StepsKeep g =
-    (file : ℕ) (many : Bool) (room : ℕ) (bytes : List ℕ) (f : FileLines) → FileSays g (first_line file many room) bytes (Ok f) → AllPairs Precedes f.steps × (length f.steps ≤ room)
+    (file : ℕ) (many : Bool) (room : ℕ) (form : ClockForm) (bytes : List ℕ) (f : FileLines) → FileSays g (first_line file many room form) bytes (Ok f) → AllPairs Precedes f.steps × (length f.steps ≤ room)

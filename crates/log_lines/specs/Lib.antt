@@ -1,5 +1,6 @@
 pub mod Setting
 pub mod Values
+pub mod Clocks
 pub mod Lines
 pub mod Files
 pub mod Laws

@@ -1,5 +1,5 @@
 -- What a line of a log says, and why it is refused.
-use Rattle.std.specs.Prelude.{◌≡◌, ◌⊎◌, ◌<◌, ◌≤◌, ℕ, ℤ, ◌<ℤ◌, List, length, map, All, Bool, true, false, Option, None, Some, Result, Ok, Err, IsUtf8, MatchBool, is_some}
+use Rattle.std.specs.Prelude.{◌≡◌, ◌⊎◌, ◌<◌, ◌≤◌, ℕ, List, length, map, All, Bool, true, false, Option, None, Some, Result, Ok, Err, IsUtf8, MatchBool, is_some}
 use Rattle.std.specs.List.{list_all}
 use Rattle.serde_json.specs.Data.{Data, Members}
 use Rattle.serde_json.specs.Find.{as_object}
@@ -9,8 +9,10 @@ use Rattle.json_values.specs.Reads.{ReadsEach}
 use Rattle.line_shapes.specs.Shapes.{LineShape, shape_of}
 use Rattle.line_shapes.specs.declared.key.Key.{Key}
 use Rattle.line_shapes.specs.declared.key.Key.TheVariants as key
+use Rattle.path_updates.specs.declared.clock.Clock.{Clock}
 use Rattle.path_updates.specs.declared.line.Event.{Event}
 use Rattle.path_updates.specs.declared.update.Update.{Update}
+use Rattle.log_lines.specs.Clocks.{FallsBack, IsMissing, IsNoLower, IsOtherForm, clock_or, form_after}
 use Rattle.log_lines.specs.Setting.{Setting}
 use Rattle.log_lines.specs.Values.{EachOf, SeeReads, UpdateReads}
 use Rattle.log_lines.specs.declared.position.Position.{Position}
@@ -28,6 +30,10 @@ OnValue P why Q o = ((a : _) × P a × Q a o) ⊎ (((a : _) → ¬ P a) × (o �
 abbrev pub Unless : Type 0 → LogKind → (Outcome → Type 0) → Outcome → Type 0
 Unless Bad why Q o = (Bad × (o ≡ Refused why)) ⊎ (¬ Bad × Q o)
 
+-- its refusal where the second clock is lower than the first, and else Q
+abbrev pub OnBack : Clock → Clock → (Outcome → Type 0) → Outcome → Type 0
+OnBack before clock Q o = ((why : LogKind) × FallsBack before clock why × (o ≡ Refused why)) ⊎ (IsNoLower before clock × Q o)
+
 -- the operator that the line names, with its number of parameters
 abbrev pub EventIs : Setting → Option (List ℕ) → Option (ℕ × ℕ) → Type 0
 EventIs g None event = event ≡ None
@@ -41,15 +47,6 @@ abbrev pub event_with : Option (ℕ × ℕ) → List Val → Option Event
 event_with None args = None
 event_with (Some e) args = Some (record { operator = e.0; args = args })
 
--- a line without a clock goes on with the clock before
-abbrev pub clock_or : ℤ → Option ℤ → ℤ
-clock_or before None = before
-clock_or before (Some c) = c
-
-abbrev pub IsMissing : Bool → Option ℤ → Type 0
-IsMissing many None = many ≡ true
-IsMissing many (Some c) = ⊥
-
 -- some name is no variable's
 abbrev pub HasUnknown : Setting → List (List ℕ) → Type 0
 HasUnknown g names = list_all (λ name. is_some (g.variable name)) names ≡ false
@@ -61,7 +58,9 @@ HasNoForm g (Some e) updates = ¬ g.HasForm e.0 updates
 -- the line of a step with these parts
 abbrev pub step_line : Position → LineShape → Parts → Outcome
 step_line at s p =
-    Step (record { at = record { file = at.file; line = at.line }; clock = clock_or at.clock s.clock; event = event_with p.event p.args; updates = p.updates; sees = p.sees })
+    Step
+    (record { at = record { file = at.file; line = at.line }; clock = clock_or at.clock s.clock; event = event_with p.event p.args; updates = p.updates; sees = p.sees })
+    (form_after at.form s.clock)
 
 -- the refusals behind those of values, in their order
 abbrev pub FormSays : Setting → Position → LineShape → Parts → Outcome → Type 0
@@ -73,7 +72,7 @@ NamesSay g at s p =
 
 abbrev pub ClocksSay : Setting → Position → LineShape → Parts → Outcome → Type 0
 ClocksSay g at s p =
-    Unless (IsMissing at.many s.clock) kind.NoClock (Unless (clock_or at.clock s.clock <ℤ at.clock) (kind.ClockBack at.clock (clock_or at.clock s.clock)) (NamesSay g at s p))
+    Unless (IsMissing at.many s.clock) kind.NoClock (Unless (IsOtherForm at.form s.clock) kind.ClockKind (OnBack at.clock (clock_or at.clock s.clock) (NamesSay g at s p)))
 
 abbrev pub TestsSay : Setting → Position → LineShape → Parts → Outcome → Type 0
 TestsSay g at s p = Unless (length p.args ≡ params_of p.event → ⊥) (kind.WrongArgs (length p.args) (params_of p.event)) (ClocksSay g at s p)

@@ -1,8 +1,7 @@
-ghost use Rattle.std.specs.Prelude.{◌≡◌, IfOk, IsTrue, ◌↔◌, is_some, map};
+ghost use Rattle.std.specs.Prelude.{◌≡◌, IfOk, is_some, map};
 ghost use Rattle.std.specs.List.{list_all};
 ghost use Rattle.json_values.specs.Reads.{Finds};
 ghost use Rattle.line_shapes.specs.Seen.{shape_seen};
-ghost use Rattle.log_lines.specs.Lines.{IsMissing};
 ghost use Rattle.log_lines.specs.Values.{EachOf, SeeReads, UpdateReads};
 
 use crate::names::SpecNames;
@@ -46,14 +45,4 @@ pub(crate) fn knows_sees<N: SpecNames>(names: &N, shape: &Shape) -> bool
     ensures { result ≡ list_all (λ name. is_some ((N.setting names.now).variable name)) (map (λ v. v.path.name) (shape_seen shape.now).sees) }
 {
     are_known_sees(names, shape.sees)
-}
-
-/// Whether a clock is wanted, and there is none.
-pub(crate) fn is_clock_missing(many: bool, shape: &Shape) -> bool
-    ensures { IsTrue result ↔ IsMissing many (shape_seen shape.now).clock }
-{
-    match shape.clock {
-        Some(_) => false,
-        None => many,
-    }
 }

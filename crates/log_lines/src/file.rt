@@ -2,6 +2,7 @@ ghost use Rattle.std.specs.Prelude.{◌≡◌, ◌≤◌, ◌<◌, ◌+◌, ◌�
 ghost use Rattle.log_lines.specs.Files.{FileSays, behind_init, behind_step, first_line, pieces_of};
 ghost use Rattle.log_lines.specs.Walks.{IsCounted, WalksOn};
 
+use crate::clocks::ClockForm;
 use crate::kind::{LogKind, Outcome};
 use crate::names::SpecNames;
 use crate::position::Position;
@@ -18,10 +19,12 @@ use trace_base::NoMemory;
 pub struct FileLines {
     pub init: Option<Sees>,
     pub steps: LineList,
+    /// The form of the first clock that was read, in this file or one before.
+    pub form: ClockForm,
 }
 
 /// Why a file is refused, and at which line of it, from 1.
-#[derive(Clone, Copy, Debug, Drop, Error)]
+#[derive(Debug, Drop, Error)]
 #[error("{kind} at line {line}")]
 pub struct Refusal {
     pub kind: LogKind,
@@ -42,15 +45,20 @@ pub fn read_log<N: SpecNames>(
     file: u32,
     many: bool,
     room: u32,
+    form: ClockForm,
     bytes: &[u8],
 ) -> Result<Result<FileLines, Refusal>, NoMemory>
     requires short { length bytes.now < 4294967294 }
-    ensures { IfOk result (FileSays (N.setting names.now) (first_line file many room) bytes.now) }
+    ensures { IfOk result (FileSays (N.setting names.now) (first_line file many room form) bytes.now) }
 {
     let steps = LineList::with_capacity(alloc, most_steps(bytes, room))?;
     let mut walk = Walk {
-        at: Position::first_line(file, many, room),
-        found: FileLines { init: None, steps },
+        at: Position::first_line(file, many, room, form),
+        found: FileLines {
+            init: None,
+            steps,
+            form,
+        },
     };
     let mut scratch = Scratch::new(alloc);
     let mut rest = bytes;
@@ -107,21 +115,20 @@ fn walk_on<N: SpecNames>(
     ensures says { IfOk result (WalksOn (N.setting names.now) walk piece.now) }
     ensures counted { IfOk result (λ r. IfOk r (IsCounted walk)) }
 {
-    let at = walk.at;
-    let outcome = line_within(alloc, scratch, names, at, piece)?;
+    let outcome = line_within(alloc, scratch, names, &walk.at, piece)?;
     match outcome {
         Outcome::Blank => Ok(Ok(Walk {
-            at: at.behind_blank(),
+            at: walk.at.behind_blank(),
             found: walk.found,
         })),
         Outcome::Init(sees) => Ok(Ok(with_init(walk, sees))),
-        Outcome::Step(line) => {
-            let next = with_step(walk, line)?;
+        Outcome::Step(line, form) => {
+            let next = with_step(alloc, walk, line, form)?;
             Ok(Ok(next))
         }
         Outcome::Refused(kind) => Ok(Err(Refusal {
             kind,
-            line: at.line,
+            line: walk.at.line,
         })),
     }
 }
@@ -129,28 +136,34 @@ fn walk_on<N: SpecNames>(
 fn with_init(walk: Walk, sees: Sees) -> Walk
     requires { walk.at.line < 4294967295 }
     ensures at { result.at ≡ behind_init walk.at }
-    ensures found { result.found ≡ record { init = Some sees; steps = walk.found.steps } }
+    ensures found { result.found ≡ record { init = Some sees; steps = walk.found.steps; form = walk.found.form } }
 {
     Walk {
         at: walk.at.behind_init(),
         found: FileLines {
             init: Some(sees),
             steps: walk.found.steps,
+            form: walk.found.form,
         },
     }
 }
 
-fn with_step(walk: Walk, line: Line) -> Result<Walk, NoMemory>
+fn with_step(alloc: Global, walk: Walk, line: Line, form: ClockForm) -> Result<Walk, NoMemory>
     requires line { walk.at.line < 4294967295 }
     requires steps { walk.at.steps < 4294967295 }
-    ensures at { IfOk result (λ next. next.at ≡ behind_step walk.at line.clock) }
-    ensures found { IfOk result (λ next. next.found ≡ record { init = walk.found.init; steps = walk.found.steps ++ line ∷ [] }) }
+    ensures at { IfOk result (λ next. next.at ≡ behind_step walk.at form line.clock) }
+    ensures found { IfOk result (λ next. next.found ≡ record { init = walk.found.init; steps = walk.found.steps ++ line ∷ []; form = form }) }
 {
-    let at = walk.at.behind_step(line.clock);
-    let FileLines { init, mut steps } = walk.found;
+    let clock = line.clock.copy(alloc)?;
+    let at = walk.at.behind_step(form, clock);
+    let FileLines {
+        init,
+        mut steps,
+        ..
+    } = walk.found;
     steps.push(line)?;
     Ok(Walk {
         at,
-        found: FileLines { init, steps },
+        found: FileLines { init, steps, form },
     })
 }

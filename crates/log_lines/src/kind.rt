@@ -1,13 +1,15 @@
 ghost use Rattle.std.specs.Prelude.{◌≡◌};
 ghost use Rattle.log_lines.specs.FaultCodes.{log_code};
 
+use crate::clocks::ClockForm;
 use line_shapes::Key;
 use path_updates::{Line, Sees};
+use std::fmt;
 use thiserror::Error;
+use trace_base::Text;
 
 /// Why a line is refused, in the order in which it is tested.
-#[derive(Clone, Copy, Debug, Drop, Error)]
-#[error("{}", self.code())]
+#[derive(Debug, Drop, Error)]
 pub enum LogKind {
     LineTooLong,
     NotJson,
@@ -20,10 +22,20 @@ pub enum LogKind {
     /// The number of arguments, and how many the operator has.
     WrongArgs(usize, usize),
     NoClock,
+    ClockKind,
+    /// The node, its number before, and in this clock.
+    VectorBack(Text, u64, u64),
     /// The clock before, and this one.
     ClockBack(i64, i64),
     UnknownVariable,
     EventNotFixed,
+}
+
+/// The code and the name of the refusal.
+impl fmt::Display for LogKind {
+    fn fmt<W: fmt::Write>(&self, f: &mut fmt::Formatter<W>) -> fmt::Result {
+        f.write_str(self.code())
+    }
 }
 
 impl LogKind {
@@ -45,6 +57,8 @@ impl LogKind {
             LogKind::LineTooLong => "O11 LineTooLong",
             LogKind::EventNotFixed => "O12 EventNotFixed",
             LogKind::TooManyLines => "O13 TooManyLines",
+            LogKind::VectorBack(_, _, _) => "O14 VectorBack",
+            LogKind::ClockKind => "O15 ClockKind",
         }
     }
 }
@@ -54,6 +68,7 @@ impl LogKind {
 pub enum Outcome {
     Blank,
     Init(Sees),
-    Step(Line),
+    /// A step, and the form of the clocks behind it.
+    Step(Line, ClockForm),
     Refused(LogKind),
 }

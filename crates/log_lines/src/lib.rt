@@ -1,6 +1,7 @@
 //! The lines of a log: what each says, and why it is refused.
 #![tactic(auto)]
 
+mod clocks;
 mod event;
 mod fields;
 mod file;
@@ -13,6 +14,7 @@ mod reading;
 mod step;
 mod values;
 
+pub use clocks::ClockForm;
 pub use file::{FileLines, Refusal, read_log};
 pub use kind::{LogKind, Outcome};
 pub use laws::line_laws;

@@ -1,8 +1,11 @@
 ghost use Rattle.std.specs.Prelude.{◌≡◌, ◌<◌};
 ghost use Rattle.log_lines.specs.Files.{behind_blank, behind_init, behind_step, first_line};
 
+use crate::clocks::ClockForm;
+use path_updates::Clock;
+
 /// Where a line of a log stands, and what was before it.
-#[derive(Clone, Copy, Debug, Drop)]
+#[derive(Drop)]
 pub struct Position {
     /// The number of its log, from 1.
     pub file: u32,
@@ -16,14 +19,16 @@ pub struct Position {
     pub first: bool,
     /// How many lines before it are steps.
     pub steps: u32,
-    /// The clock that the last of them has, or 0.
-    pub clock: i64,
+    /// The form of the first clock that was read, in this log or one before.
+    pub form: ClockForm,
+    /// The clock that the last of the steps before it has, or the number 0.
+    pub clock: Clock,
 }
 
 impl Position {
     /// Where the first line of a file stands.
-    pub(crate) fn first_line(file: u32, many: bool, room: u32) -> Position
-        ensures { result ≡ first_line file many room }
+    pub(crate) fn first_line(file: u32, many: bool, room: u32, form: ClockForm) -> Position
+        ensures { result ≡ first_line file many room form }
     {
         Position {
             file,
@@ -32,7 +37,8 @@ impl Position {
             line: 1,
             first: true,
             steps: 0,
-            clock: 0,
+            form,
+            clock: Clock::Number(0),
         }
     }
 
@@ -60,15 +66,16 @@ impl Position {
     }
 
     /// Where the line behind this one stands, if this one tells of a step at this clock.
-    pub(crate) fn behind_step(self, clock: i64) -> Position
+    pub(crate) fn behind_step(self, form: ClockForm, clock: Clock) -> Position
         requires line { self.line < 4294967295 }
         requires steps { self.steps < 4294967295 }
-        ensures { result ≡ behind_step self clock }
+        ensures { result ≡ behind_step self form clock }
     {
         Position {
             line: self.line + 1,
             first: false,
             steps: self.steps + 1,
+            form,
             clock,
             ..self
         }

@@ -25,10 +25,10 @@ const MAX_LINE: usize = 1_048_576;
 pub fn read_line<N: SpecNames>(
     alloc: Global,
     names: &N,
-    at: Position,
+    at: &Position,
     bytes: &[u8],
 ) -> Result<Outcome, NoMemory>
-    ensures { IfOk result (LineSays (N.setting names.now) at bytes.now) }
+    ensures { IfOk result (LineSays (N.setting names.now) at.now bytes.now) }
 {
     let mut scratch = Scratch::new(alloc);
     line_within(alloc, &mut scratch, names, at, bytes)
@@ -39,10 +39,10 @@ pub(crate) fn line_within<N: SpecNames>(
     alloc: Global,
     scratch: &mut Scratch,
     names: &N,
-    at: Position,
+    at: &Position,
     bytes: &[u8],
 ) -> Result<Outcome, NoMemory>
-    ensures { IfOk result (LineSays (N.setting names.now) at bytes.now) }
+    ensures { IfOk result (LineSays (N.setting names.now) at.now bytes.now) }
 {
     if bytes.len() > MAX_LINE {
         return Ok(Outcome::Refused(LogKind::LineTooLong));
@@ -64,10 +64,10 @@ fn text_line<N: SpecNames>(
     alloc: Global,
     scratch: &mut Scratch,
     names: &N,
-    at: Position,
+    at: &Position,
     bytes: &[u8],
 ) -> Result<Outcome, NoMemory>
-    ensures { IfOk result (TextSays (N.setting names.now) at bytes.now) }
+    ensures { IfOk result (TextSays (N.setting names.now) at.now bytes.now) }
 {
     let Ok(text) = str::from_utf8(bytes) else {
         return Ok(Outcome::Refused(LogKind::NotJson));
@@ -83,13 +83,13 @@ fn text_line<N: SpecNames>(
 fn kept_line<N: SpecNames>(
     alloc: Global,
     names: &N,
-    at: Position,
+    at: &Position,
     text: &str,
     object: &LineObject,
 ) -> Result<Outcome, NoMemory>
     requires utf8 { IsUtf8 text.now }
     requires object { IsObjectWith text.now (members_in object.now) }
-    ensures { IfOk result (TextSays (N.setting names.now) at text.now) }
+    ensures { IfOk result (TextSays (N.setting names.now) at.now text.now) }
 {
     let _text = text;
     object_line(alloc, names, at, object)
@@ -98,10 +98,10 @@ fn kept_line<N: SpecNames>(
 fn object_line<N: SpecNames>(
     alloc: Global,
     names: &N,
-    at: Position,
+    at: &Position,
     object: &LineObject,
 ) -> Result<Outcome, NoMemory>
-    ensures { IfOk result (ShapeSays (N.setting names.now) at (shape_of (members_in object.now))) }
+    ensures { IfOk result (ShapeSays (N.setting names.now) at.now (shape_of (members_in object.now))) }
 {
     match object_shape(object) {
         Ok(shape) => shaped_line(alloc, names, at, &shape),
@@ -113,11 +113,11 @@ fn object_line<N: SpecNames>(
 fn tree_line<N: SpecNames>(
     alloc: Global,
     names: &N,
-    at: Position,
+    at: &Position,
     text: &str,
 ) -> Result<Outcome, NoMemory>
     requires { IsUtf8 text.now }
-    ensures { IfOk result (TextSays (N.setting names.now) at text.now) }
+    ensures { IfOk result (TextSays (N.setting names.now) at.now text.now) }
 {
     match Json::from_str(alloc, text) {
         Ok(json) => json_line(alloc, names, at, &json),
@@ -132,10 +132,10 @@ fn tree_line<N: SpecNames>(
 fn json_line<N: SpecNames>(
     alloc: Global,
     names: &N,
-    at: Position,
+    at: &Position,
     json: &Json,
 ) -> Result<Outcome, NoMemory>
-    ensures { IfOk result (ObjectSays (N.setting names.now) at (as_object (view json.now))) }
+    ensures { IfOk result (ObjectSays (N.setting names.now) at.now (as_object (view json.now))) }
 {
     match json.as_object() {
         Some(members) => members_line(alloc, names, at, members),
@@ -146,10 +146,10 @@ fn json_line<N: SpecNames>(
 fn members_line<N: SpecNames>(
     alloc: Global,
     names: &N,
-    at: Position,
+    at: &Position,
     members: &Map<String, Json>,
 ) -> Result<Outcome, NoMemory>
-    ensures { IfOk result (ShapeSays (N.setting names.now) at (shape_of (members_view members.now.entries))) }
+    ensures { IfOk result (ShapeSays (N.setting names.now) at.now (shape_of (members_view members.now.entries))) }
 {
     match line_shape(members) {
         Ok(shape) => shaped_line(alloc, names, at, &shape),
@@ -160,10 +160,10 @@ fn members_line<N: SpecNames>(
 fn shaped_line<N: SpecNames>(
     alloc: Global,
     names: &N,
-    at: Position,
+    at: &Position,
     shape: &Shape,
 ) -> Result<Outcome, NoMemory>
-    ensures { IfOk result (ShapeSays (N.setting names.now) at (Ok (shape_seen shape.now))) }
+    ensures { IfOk result (ShapeSays (N.setting names.now) at.now (Ok (shape_seen shape.now))) }
 {
     if shape.init {
         init_line(alloc, names, at, shape)
@@ -176,10 +176,10 @@ fn shaped_line<N: SpecNames>(
 fn init_line<N: SpecNames>(
     alloc: Global,
     names: &N,
-    at: Position,
+    at: &Position,
     shape: &Shape,
 ) -> Result<Outcome, NoMemory>
-    ensures { IfOk result (InitSays (N.setting names.now) at (shape_seen shape.now)) }
+    ensures { IfOk result (InitSays (N.setting names.now) at.now (shape_seen shape.now)) }
 {
     if !at.first {
         return Ok(Outcome::Refused(LogKind::InitNotFirst));

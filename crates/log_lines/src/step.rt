@@ -1,15 +1,17 @@
 ghost use Rattle.std.specs.Prelude.{◌≡◌, IfOk, MatchBool};
 ghost use Rattle.line_shapes.specs.Seen.{shape_seen};
-ghost use Rattle.log_lines.specs.Lines.{ArgsSay, ClocksSay, FormSays, HasNoForm, NamesSay, SeesSay, StepSays, TestsSay, UpdatesSay};
+ghost use Rattle.log_lines.specs.Clocks.{clock_or};
+ghost use Rattle.log_lines.specs.Lines.{ArgsSay, ClocksSay, FormSays, HasNoForm, NamesSay, OnBack, SeesSay, StepSays, TestsSay, UpdatesSay};
 
+use crate::clocks::{clock_or, fall_of, form_after, is_clock_missing, is_other_form};
 use crate::event::{event_of, event_with, params_of};
-use crate::fields::{is_clock_missing, knows_sees, knows_updates, sees_of, updates_of};
+use crate::fields::{knows_sees, knows_updates, sees_of, updates_of};
 use crate::kind::{LogKind, Outcome};
 use crate::names::SpecNames;
 use crate::position::Position;
 use crate::values::read_values;
 use line_shapes::{Key, Shape};
-use path_updates::{Line, Sees, Updates, Values};
+use path_updates::{Clock, Line, Sees, Updates, Values};
 use std::alloc::Global;
 use trace_base::{LineAt, NoMemory};
 
@@ -27,10 +29,10 @@ pub(crate) struct Parts {
 pub(crate) fn step_line<N: SpecNames>(
     alloc: Global,
     names: &N,
-    at: Position,
+    at: &Position,
     shape: &Shape,
 ) -> Result<Outcome, NoMemory>
-    ensures { IfOk result (StepSays (N.setting names.now) at (shape_seen shape.now)) }
+    ensures { IfOk result (StepSays (N.setting names.now) at.now (shape_seen shape.now)) }
 {
     if at.room <= at.steps {
         return Ok(Outcome::Refused(LogKind::TooManyLines));
@@ -44,11 +46,11 @@ pub(crate) fn step_line<N: SpecNames>(
 fn step_args<N: SpecNames>(
     alloc: Global,
     names: &N,
-    at: Position,
+    at: &Position,
     shape: &Shape,
     event: Option<(usize, usize)>,
 ) -> Result<Outcome, NoMemory>
-    ensures { IfOk result (ArgsSay (N.setting names.now) at (shape_seen shape.now) event) }
+    ensures { IfOk result (ArgsSay (N.setting names.now) at.now (shape_seen shape.now) event) }
 {
     match read_values(alloc, shape.args)? {
         Some(args) => step_updates(alloc, names, at, shape, event, args),
@@ -59,12 +61,12 @@ fn step_args<N: SpecNames>(
 fn step_updates<N: SpecNames>(
     alloc: Global,
     names: &N,
-    at: Position,
+    at: &Position,
     shape: &Shape,
     event: Option<(usize, usize)>,
     args: Values,
 ) -> Result<Outcome, NoMemory>
-    ensures { IfOk result (UpdatesSay (N.setting names.now) at (shape_seen shape.now) event args) }
+    ensures { IfOk result (UpdatesSay (N.setting names.now) at.now (shape_seen shape.now) event args) }
 {
     match updates_of(alloc, names, shape)? {
         Some(updates) => step_sees(alloc, names, at, shape, event, args, updates),
@@ -75,16 +77,17 @@ fn step_updates<N: SpecNames>(
 fn step_sees<N: SpecNames>(
     alloc: Global,
     names: &N,
-    at: Position,
+    at: &Position,
     shape: &Shape,
     event: Option<(usize, usize)>,
     args: Values,
     updates: Updates,
 ) -> Result<Outcome, NoMemory>
-    ensures { IfOk result (SeesSay (N.setting names.now) at (shape_seen shape.now) event args updates) }
+    ensures { IfOk result (SeesSay (N.setting names.now) at.now (shape_seen shape.now) event args updates) }
 {
     match sees_of(alloc, names, shape)? {
         Some(sees) => step_tests(
+            alloc,
             names,
             at,
             shape,
@@ -100,50 +103,67 @@ fn step_sees<N: SpecNames>(
 }
 
 fn step_tests<N: SpecNames>(
+    alloc: Global,
     names: &N,
-    at: Position,
+    at: &Position,
     shape: &Shape,
     parts: Parts,
 ) -> Result<Outcome, NoMemory>
-    ensures { IfOk result (TestsSay (N.setting names.now) at (shape_seen shape.now) parts) }
+    ensures { IfOk result (TestsSay (N.setting names.now) at.now (shape_seen shape.now) parts) }
 {
     let found = parts.args.len();
     let needed = params_of(parts.event);
     if found != needed {
         return Ok(Outcome::Refused(LogKind::WrongArgs(found, needed)));
     }
-    step_clock(names, at, shape, parts)
+    step_clock(alloc, names, at, shape, parts)
 }
 
 fn step_clock<N: SpecNames>(
+    alloc: Global,
     names: &N,
-    at: Position,
+    at: &Position,
     shape: &Shape,
     parts: Parts,
 ) -> Result<Outcome, NoMemory>
-    ensures { IfOk result (ClocksSay (N.setting names.now) at (shape_seen shape.now) parts) }
+    ensures { IfOk result (ClocksSay (N.setting names.now) at.now (shape_seen shape.now) parts) }
 {
     if is_clock_missing(at.many, shape) {
         return Ok(Outcome::Refused(LogKind::NoClock));
     }
-    match shape.clock {
-        Some(clock) => {
-            if clock < at.clock {
-                return Ok(Outcome::Refused(LogKind::ClockBack(at.clock, clock)));
-            }
-            step_names(names, at, shape, parts)
-        }
-        None => step_names(names, at, shape, parts),
+    if is_other_form(at.form, shape) {
+        return Ok(Outcome::Refused(LogKind::ClockKind));
+    }
+    let clock = clock_or(alloc, &at.clock, shape)?;
+    step_back(names, at, shape, parts, clock)
+}
+
+fn step_back<N: SpecNames>(
+    names: &N,
+    at: &Position,
+    shape: &Shape,
+    parts: Parts,
+    clock: Clock,
+) -> Result<Outcome, NoMemory>
+    requires { clock ≡ clock_or at.now.clock (shape_seen shape.now).clock }
+    ensures { IfOk result (OnBack at.now.clock clock (NamesSay (N.setting names.now) at.now (shape_seen shape.now) parts)) }
+{
+    let fall = fall_of(&at.clock, &clock)?;
+    match fall {
+        Some(kind) => Ok(Outcome::Refused(kind)),
+        None => step_names(names, at, shape, parts, clock),
     }
 }
 
 fn step_names<N: SpecNames>(
     names: &N,
-    at: Position,
+    at: &Position,
     shape: &Shape,
     parts: Parts,
+    clock: Clock,
 ) -> Result<Outcome, NoMemory>
-    ensures { IfOk result (NamesSay (N.setting names.now) at (shape_seen shape.now) parts) }
+    requires { clock ≡ clock_or at.now.clock (shape_seen shape.now).clock }
+    ensures { IfOk result (NamesSay (N.setting names.now) at.now (shape_seen shape.now) parts) }
 {
     if !knows_updates(names, shape) {
         return Ok(Outcome::Refused(LogKind::UnknownVariable));
@@ -151,31 +171,34 @@ fn step_names<N: SpecNames>(
     if !knows_sees(names, shape) {
         return Ok(Outcome::Refused(LogKind::UnknownVariable));
     }
-    step_form(names, at, shape, parts)
+    step_form(names, at, shape, parts, clock)
 }
 
 fn step_form<N: SpecNames>(
     names: &N,
-    at: Position,
+    at: &Position,
     shape: &Shape,
     parts: Parts,
+    clock: Clock,
 ) -> Result<Outcome, NoMemory>
-    ensures { IfOk result (FormSays (N.setting names.now) at (shape_seen shape.now) parts) }
+    requires { clock ≡ clock_or at.now.clock (shape_seen shape.now).clock }
+    ensures { IfOk result (FormSays (N.setting names.now) at.now (shape_seen shape.now) parts) }
 {
     let formed = has_form(names, parts.event, &parts.updates)?;
     if !formed {
         return Ok(Outcome::Refused(LogKind::EventNotFixed));
     }
-    Ok(Outcome::Step(Line {
+    let line = Line {
         at: LineAt {
             file: at.file,
             line: at.line,
         },
-        clock: shape.clock.unwrap_or(at.clock),
+        clock,
         event: event_with(parts.event, parts.args),
         updates: parts.updates,
         sees: parts.sees,
-    }))
+    };
+    Ok(Outcome::Step(line, form_after(at.form, shape)))
 }
 
 /// Whether the operator that the line names has a form; a line that names none needs none.

@@ -8,6 +8,7 @@ use Rattle.tla_terms.specs.declared.spec.Spec.{Spec}
 use Rattle.spec_laws.specs.IsSpec.{IsSpec}
 use Rattle.one_outcome.specs.Outcome.{AreAlike}
 use Rattle.log_lines.specs.Files.{FileSays, first_line}
+use Rattle.log_lines.specs.declared.clocks.ClockForm.{ClockForm}
 use Rattle.log_lines.specs.declared.file.FileLines.{FileLines}
 use Rattle.log_lines.specs.declared.file.Refusal.{Refusal}
 use Rattle.spec_names.specs.Names.{names_of}
@@ -92,10 +93,12 @@ module _ (files : List File) (job : Job) (says : FilesSayAlike) (s t : Spec) (fi
       let at : LogAt (Some files) job p c s (length other.found) = x.accepted in
       let many = are_several job.logs in
       let texts : text ≡ at.text = one_text files name name _ _ text at.text refl log (text_beside other name x) in
-      let moved : FileSays (names_of t) (first_line (1 + length at.read.found) many (steps_left other)) text (Err refusal) =
-      subst (λ (n : ℕ). FileSays (names_of t) (first_line (1 + n) many (steps_left other)) text (Err refusal)) (sym at.count) refused in
-      let left : FileSays (names_of t) (first_line (1 + length at.read.found) many (steps_left at.read)) text (Err refusal) =
-      subst (λ (n : ℕ). FileSays (names_of t) (first_line (1 + length at.read.found) many (200000 - n)) text (Err refusal)) (sym x.reads.steps) moved in
-      let there : FileSays (names_of t) (first_line (1 + length at.read.found) many (steps_left at.read)) at.text (Err refusal) =
-      subst (λ (y : List ℕ). FileSays (names_of t) (first_line (1 + length at.read.found) many (steps_left at.read)) y (Err refusal)) texts left in
-      says s t first second alike (first_line (1 + length at.read.found) many (steps_left at.read)) at.text (Ok at.file) (Err refusal) at.says there
+      let moved : FileSays (names_of t) (first_line (1 + length at.read.found) many (steps_left other) other.form) text (Err refusal) =
+      subst (λ (n : ℕ). FileSays (names_of t) (first_line (1 + n) many (steps_left other) other.form) text (Err refusal)) (sym at.count) refused in
+      let left : FileSays (names_of t) (first_line (1 + length at.read.found) many (steps_left at.read) other.form) text (Err refusal) =
+      subst (λ (n : ℕ). FileSays (names_of t) (first_line (1 + length at.read.found) many (200000 - n) other.form) text (Err refusal)) (sym x.reads.steps) moved in
+      let formed : FileSays (names_of t) (first_line (1 + length at.read.found) many (steps_left at.read) at.read.form) text (Err refusal) =
+      subst (λ (form : ClockForm). FileSays (names_of t) (first_line (1 + length at.read.found) many (steps_left at.read) form) text (Err refusal)) (sym x.reads.form) left in
+      let there : FileSays (names_of t) (first_line (1 + length at.read.found) many (steps_left at.read) at.read.form) at.text (Err refusal) =
+      subst (λ (y : List ℕ). FileSays (names_of t) (first_line (1 + length at.read.found) many (steps_left at.read) at.read.form) y (Err refusal)) texts formed in
+      says s t first second alike (first_line (1 + length at.read.found) many (steps_left at.read) at.read.form) at.text (Ok at.file) (Err refusal) at.says there

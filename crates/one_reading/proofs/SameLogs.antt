@@ -10,6 +10,7 @@ use Rattle.tla_terms.specs.declared.spec.Spec.{Spec}
 use Rattle.spec_laws.specs.IsSpec.{IsSpec}
 use Rattle.one_outcome.specs.Outcome.{AreAlike}
 use Rattle.log_lines.specs.Files.{FileSays, first_line}
+use Rattle.log_lines.specs.declared.clocks.ClockForm.{ClockForm}
 use Rattle.log_lines.specs.declared.file.FileLines.{FileLines}
 use Rattle.spec_names.specs.Names.{names_of}
 use Rattle.alike_steps.specs.AlikeLogs.{AreAlikeLines}
@@ -25,6 +26,7 @@ use Rattle.one_reading.proofs.Stages.{LastRead, head_is, logged_by, one_longer, 
 pub record AreAlikeReads (ops all : List Operator) (read other : LogsRead) : Type 0 where
   pub bytes : read.bytes ≡ other.bytes
   pub steps : read.steps ≡ other.steps
+  pub form : read.form ≡ other.form
   pub found : AllZip (AreAlikeFiles ops all) read.found other.found
 
 zip_length : {A B : Type 0} (R : A → B → Type 0) (xs : List A) (ys : List B) → AllZip R xs ys → length xs ≡ length ys
@@ -39,7 +41,7 @@ one_text files name other n m a b e h g =
     some_is a b (sym h.whole ∙ there.whole)
 
 nothing_found : (ops all : List Operator) → AreAlikeReads ops all no_logs no_logs
-nothing_found ops all = record { bytes = refl; steps = refl; found = tt }
+nothing_found ops all = record { bytes = refl; steps = refl; form = refl; found = tt }
 
 not_longer : (all : LogsRead) (fs : List FileLines) (f : FileLines) → all.found ≡ fs ++ f ∷ [] → length all.found ≡ 0 → ⊥
 not_longer all fs f e z =
@@ -65,17 +67,20 @@ module _ (files : List File) (job : Job) (says : FilesSayAlike) (s t : Spec) (fi
   one_more read other text also f g same texts a b =
       let number : length other.found ≡ length read.found = sym (zip_length _ read.found other.found same.found) in
       let many = are_several job.logs in
-      let moved : FileSays (names_of t) (first_line (1 + length read.found) many (steps_left other)) also (Ok g) =
-      subst (λ (n : ℕ). FileSays (names_of t) (first_line (1 + n) many (steps_left other)) also (Ok g)) number b in
-      let left : FileSays (names_of t) (first_line (1 + length read.found) many (steps_left read)) also (Ok g) =
-      subst (λ (n : ℕ). FileSays (names_of t) (first_line (1 + length read.found) many (200000 - n)) also (Ok g)) (sym same.steps) moved in
-      let there : FileSays (names_of t) (first_line (1 + length read.found) many (steps_left read)) text (Ok g) =
-      subst (λ (x : List ℕ). FileSays (names_of t) (first_line (1 + length read.found) many (steps_left read)) x (Ok g)) (sym texts) left in
-      let lines : AreAlikeFiles s.operators t.operators f g = says s t first second alike (first_line (1 + length read.found) many (steps_left read)) text (Ok f) (Ok g) a there in
+      let moved : FileSays (names_of t) (first_line (1 + length read.found) many (steps_left other) other.form) also (Ok g) =
+      subst (λ (n : ℕ). FileSays (names_of t) (first_line (1 + n) many (steps_left other) other.form) also (Ok g)) number b in
+      let left : FileSays (names_of t) (first_line (1 + length read.found) many (steps_left read) other.form) also (Ok g) =
+      subst (λ (n : ℕ). FileSays (names_of t) (first_line (1 + length read.found) many (200000 - n) other.form) also (Ok g)) (sym same.steps) moved in
+      let formed : FileSays (names_of t) (first_line (1 + length read.found) many (steps_left read) read.form) also (Ok g) =
+      subst (λ (form : ClockForm). FileSays (names_of t) (first_line (1 + length read.found) many (steps_left read) form) also (Ok g)) (sym same.form) left in
+      let there : FileSays (names_of t) (first_line (1 + length read.found) many (steps_left read) read.form) text (Ok g) =
+      subst (λ (x : List ℕ). FileSays (names_of t) (first_line (1 + length read.found) many (steps_left read) read.form) x (Ok g)) (sym texts) formed in
+      let lines : AreAlikeFiles s.operators t.operators f g = says s t first second alike (first_line (1 + length read.found) many (steps_left read) read.form) text (Ok f) (Ok g) a there in
       let count : length f.steps ≡ length g.steps = zip_length (AreAlikeLines s.operators t.operators) f.steps g.steps lines.steps in
       record {
         bytes = λ i. same.bytes i + length (texts i);
         steps = λ i. same.steps i + count i;
+        form = lines.form;
         found = zip_push (AreAlikeFiles s.operators t.operators) read.found other.found f g same.found lines;
       }
 

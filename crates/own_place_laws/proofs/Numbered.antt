@@ -53,8 +53,8 @@ all_numbered : (holds : Option (List File)) (job : Job) (p : Program) (c : Confi
 all_numbered holds job p c s _ _ (has_forms _ _ _ reaches whole) = tt
 all_numbered holds job p c s _ names (reads_log _ _ _ read name _ text f reaches log says) =
     one_more 1 read.found f (all_numbered holds job p c s read (name ∷ names) reaches) (record {
-      stand = file_stands (names_of s) (1 + length read.found) (are_several job.logs) (steps_left read) text f says;
-      rise = (steps_keep (names_of s) (1 + length read.found) (are_several job.logs) (steps_left read) text f says).0;
+      stand = file_stands (names_of s) (1 + length read.found) (are_several job.logs) (steps_left read) read.form text f says;
+      rise = (steps_keep (names_of s) (1 + length read.found) (are_several job.logs) (steps_left read) read.form text f says).0;
     })
 
 stands_there : (n : ℕ) (steps : List Line) (i : ℕ) (a : Line) → All (StandsInFile n) steps → slice_get steps i ≡ Some a → a.at.file ≡ n

@@ -1,5 +1,5 @@
 -- A step that a line of a file tells of stands in that file.
-use Rattle.std.proofs.Common.{◌≡◌, ◌⊎◌, ◌++◌, ◌<ℤ◌, ℕ, List, [], ◌∷◌, All, map, Bool, true, false, Option, Some, None, Result, Ok, Err, inl, inr, refl, sym, subst}
+use Rattle.std.proofs.Common.{◌≡◌, ◌⊎◌, ◌++◌, ℕ, List, [], ◌∷◌, All, map, Bool, true, false, Option, Some, None, Result, Ok, Err, inl, inr, refl, sym, subst}
 use Rattle.std.specs.Prelude.{MatchBool}
 use Rattle.std.proofs.lemmas.List.Elements.{All-nil, All-push}
 use Rattle.serde_json.specs.Data.{Members}
@@ -12,10 +12,13 @@ use Rattle.line_shapes.specs.declared.key.Key.TheVariants as key
 use Rattle.path_updates.specs.declared.line.Line.{Line}
 use Rattle.path_updates.specs.declared.update.See.{See}
 use Rattle.path_updates.specs.declared.update.Update.{Update}
+use Rattle.path_updates.specs.declared.clock.Clock.{Clock}
+use Rattle.log_lines.specs.Clocks.{IsOtherForm, clock_or}
 use Rattle.log_lines.specs.Setting.{Setting}
 use Rattle.log_lines.specs.Values.{EachOf, SeeReads, UpdateReads}
-use Rattle.log_lines.specs.Lines.{ArgsSay, ClocksSay, EventIs, FormSays, HasNoForm, HasUnknown, InitSays, IsBlank, IsJson, LineSays, NamesSay, ObjectSays, OnValue, SeesSay, ShapeSays, StepSays, TestsSay, TextSays, Unless, UpdatesSay, clock_or, step_line}
+use Rattle.log_lines.specs.Lines.{ArgsSay, ClocksSay, EventIs, FormSays, HasNoForm, HasUnknown, InitSays, IsBlank, IsJson, LineSays, NamesSay, ObjectSays, OnBack, OnValue, SeesSay, ShapeSays, StepSays, TestsSay, TextSays, Unless, UpdatesSay, step_line}
 use Rattle.log_lines.specs.Files.{FileSays, GoesOn, LinesSay, behind_blank, behind_init, behind_step, first_line, nothing_found, pieces_of}
+use Rattle.log_lines.specs.declared.clocks.ClockForm.{ClockForm}
 use Rattle.log_lines.specs.declared.position.Position.{Position}
 use Rattle.log_lines.specs.declared.kind.LogKind.{LogKind}
 use Rattle.log_lines.specs.declared.kind.LogKind.TheVariants as kind
@@ -31,7 +34,7 @@ StandsInFile file line = line.at.file ≡ file
 abbrev IfStep : ℕ → Outcome → Type 0
 IfStep file Blank = Unit {0}
 IfStep file (Init sees) = Unit {0}
-IfStep file (Step line) = StandsInFile file line
+IfStep file (Step line form) = StandsInFile file line
 IfStep file (Refused why) = Unit {0}
 
 module _ (g : Setting) (at : Position) where
@@ -41,6 +44,10 @@ module _ (g : Setting) (at : Position) where
   unless : (Bad : Type 0) (why : LogKind) (Q : Outcome → Type 0) (o : Outcome) → (Q o → So o) → Unless Bad why Q o → So o
   unless Bad why Q o next (inl a) = subst So (sym a.1) tt
   unless Bad why Q o next (inr a) = next a.1
+
+  on_back : (before clock : Clock) (Q : Outcome → Type 0) (o : Outcome) → (Q o → So o) → OnBack before clock Q o → So o
+  on_back before clock Q o next (inl a) = subst So (sym a.2) tt
+  on_back before clock Q o next (inr a) = next a.1
 
   on_value : {A : Type 0} (P : A → Type 0) (why : LogKind) (Q : A → Outcome → Type 0) (o : Outcome) → ((a : A) → Q a o → So o) → OnValue P why Q o → So o
   on_value P why Q o next (inl a) = next a.0 a.2
@@ -59,8 +66,10 @@ module _ (g : Setting) (at : Position) where
 
     in_clocks : ClocksSay g at s (record { event = event; args = args; updates = us; sees = sees }) o → So o
     in_clocks h =
-        unless _ _ (Unless (clock_or at.clock s.clock <ℤ at.clock) (kind.ClockBack at.clock (clock_or at.clock s.clock)) (NamesSay g at s (record { event = event; args = args; updates = us; sees = sees }))) o
-        (λ a. unless _ _ (NamesSay g at s (record { event = event; args = args; updates = us; sees = sees })) o (λ b. in_names b) a) h
+        let Names : Outcome → Type 0 = NamesSay g at s (record { event = event; args = args; updates = us; sees = sees }) in
+        let after : Clock = clock_or at.clock s.clock in
+        unless _ _ (Unless (IsOtherForm at.form s.clock) kind.ClockKind (OnBack at.clock after Names)) o
+        (λ a. unless _ _ (OnBack at.clock after Names) o (λ b. on_back at.clock after Names o (λ c. in_names c) b) a) h
 
     in_tests : TestsSay g at s (record { event = event; args = args; updates = us; sees = sees }) o → So o
     in_tests h = unless _ _ (ClocksSay g at s (record { event = event; args = args; updates = us; sees = sees })) o (λ a. in_clocks a) h
@@ -118,10 +127,10 @@ module _ (g : Setting) where
       → ((next : Position) (more : FileLines) → next.file ≡ file → AllStand file more → LinesSay g next more rest (Ok f) → AllStand file f)
       → AllStand file found → IfStep at.file o → GoesOn (λ next more. LinesSay g next more rest (Ok f)) at found (Ok f) o → AllStand file f
   lines_on file rest f at found Blank same next k so h = next (behind_blank at) found same k h
-  lines_on file rest f at found (Init sees) same next k so h = next (behind_init at) (record { init = Some sees; steps = found.steps }) same k h
-  lines_on file rest f at found (Step line) same next k so h =
+  lines_on file rest f at found (Init sees) same next k so h = next (behind_init at) (record { init = Some sees; steps = found.steps; form = found.form }) same k h
+  lines_on file rest f at found (Step line form) same next k so h =
       let stands : StandsInFile file line = subst (λ (n : ℕ). StandsInFile n line) same so in
-      next (behind_step at line.clock) (record { init = found.init; steps = found.steps ++ line ∷ [] }) same (All-push (StandsInFile file) found.steps line k stands) h
+      next (behind_step at form line.clock) (record { init = found.init; steps = found.steps ++ line ∷ []; form = form }) same (All-push (StandsInFile file) found.steps line k stands) h
   lines_on file rest f at found (Refused why) same next k so h = absurd cc
 
   lines_stand : (file : ℕ) (ps : List (List ℕ)) (f : FileLines) (at : Position) (found : FileLines) → at.file ≡ file → AllStand file found → LinesSay g at found ps (Ok f)
@@ -129,5 +138,5 @@ module _ (g : Setting) where
   lines_stand file [] f at found same k h = subst (AllStand file) (sym (ok_is f found (Ok f) (Ok found) refl refl h)) k
   lines_stand file (p ∷ ps) f at found same k h = lines_on file ps f at found h.0 same (lines_stand file ps f) k (step_stands g at p h.0 h.1) h.2
 
-  pub file_stands : (file : ℕ) (many : Bool) (room : ℕ) (bytes : List ℕ) (f : FileLines) → FileSays g (first_line file many room) bytes (Ok f) → All (StandsInFile file) f.steps
-  file_stands file many room bytes f h = lines_stand file (pieces_of bytes) f (first_line file many room) nothing_found refl (All-nil (StandsInFile file)) h
+  pub file_stands : (file : ℕ) (many : Bool) (room : ℕ) (form : ClockForm) (bytes : List ℕ) (f : FileLines) → FileSays g (first_line file many room form) bytes (Ok f) → All (StandsInFile file) f.steps
+  file_stands file many room form bytes f h = lines_stand file (pieces_of bytes) f (first_line file many room form) (nothing_found form) refl (All-nil (StandsInFile file)) h

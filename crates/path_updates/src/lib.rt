@@ -2,6 +2,7 @@
 #![tactic(auto)]
 
 mod applying;
+mod clock;
 mod keys;
 mod line;
 mod lists;
@@ -11,6 +12,7 @@ mod update;
 mod values;
 
 pub use applying::apply;
+pub use clock::Clock;
 pub use keys::{Keys, PathKey};
 pub use line::{Event, Line, LineList, Log};
 pub use lists::{Sees, Updates};

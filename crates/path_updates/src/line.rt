@@ -1,5 +1,6 @@
 ghost use Rattle.std.specs.Prelude.{◌≡◌, ◌≤◌, ◌++◌, [], ◌∷◌, length, slice_get, IfOk, MatchOption, OnOk, OnErr, Some};
 
+use crate::clock::Clock;
 use crate::lists::{Sees, Updates};
 use crate::values::Values;
 use std::alloc::Global;
@@ -17,7 +18,7 @@ pub struct Event {
 #[derive(Drop)]
 pub struct Line {
     pub at: LineAt,
-    pub clock: i64,
+    pub clock: Clock,
     pub event: Option<Event>,
     pub updates: Updates,
     pub sees: Sees,

@@ -21,6 +21,7 @@ use Rattle.line_steps.specs.Asks.{act_of, updated}
 use Rattle.log_lines.specs.Lines.{EventIs, HasNoForm, event_with, params_of}
 use Rattle.spec_names.specs.Names.{HasFormWith, IsTold, names_of}
 use Rattle.spec_names.proofs.ToldLemmas.{told_so}
+use Rattle.term_parts.proofs.Ordering.{body_within}
 use Rattle.ready_lines.specs.Laws.{HasValues}
 use Rattle.ready_specs.specs.Ready.{IsReadyAct}
 
@@ -51,8 +52,7 @@ form_by s k us o (Err f) laws is q named out h = absurd (h (other_outcome s k us
 
 has_form : (s : Spec) (k : ℕ) (us : List Update) (o : Operator) → FormLaws → IsSpec s → slice_get s.operators k ≡ Some o → o.name ≢ [] → ¬ (¬ HasFormWith s k us) → Form s o.body us
 has_form s k us o laws is q named h =
-    let within : k < length s.operators = slice_get_within s.operators k o q in
-    let out = laws.some (setting which.Action s) o.body (updated us) is.smaller (λ j m. let less = is.smaller k o q j m in omega (arith, less, within)) in
+    let out = laws.some (setting which.Action s) o.body (updated us) is.smaller (body_within s.operators k o is.smaller q) in
     form_by s k us o out.0 laws is q named out.1 h
 
 equal_unless : (a b : ℕ) → ¬ (a ≡ b → ⊥) → a ≡ b

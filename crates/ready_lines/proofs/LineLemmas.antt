@@ -1,5 +1,5 @@
 -- A line that was read under the names of a specification.
-use Rattle.std.proofs.Common.{◌≡◌, ◌⊎◌, ◌<ℤ◌, ℕ, List, map, length, Bool, true, false, Option, Some, None, Result, Ok, Err, inl, inr, sym, subst}
+use Rattle.std.proofs.Common.{◌≡◌, ◌⊎◌, ℕ, List, map, length, Bool, true, false, Option, Some, None, Result, Ok, Err, inl, inr, sym, subst}
 use Rattle.std.specs.Prelude.{MatchBool}
 use Rattle.serde_json.specs.Data.{Members}
 use Rattle.serde_json.specs.Find.{as_object}
@@ -12,8 +12,10 @@ use Rattle.line_shapes.specs.declared.key.Key.{Key}
 use Rattle.line_shapes.specs.declared.key.Key.TheVariants as key
 use Rattle.path_updates.specs.declared.update.See.{See}
 use Rattle.path_updates.specs.declared.update.Update.{Update}
+use Rattle.path_updates.specs.declared.clock.Clock.{Clock}
+use Rattle.log_lines.specs.Clocks.{IsOtherForm, clock_or}
 use Rattle.log_lines.specs.Values.{EachOf, SeeReads, UpdateReads}
-use Rattle.log_lines.specs.Lines.{ArgsSay, ClocksSay, EventIs, FormSays, HasNoForm, HasUnknown, InitSays, IsBlank, IsJson, LineSays, NamesSay, ObjectSays, OnValue, SeesSay, ShapeSays, StepSays, TestsSay, TextSays, Unless, UpdatesSay, clock_or, params_of, step_line}
+use Rattle.log_lines.specs.Lines.{ArgsSay, ClocksSay, EventIs, FormSays, HasNoForm, HasUnknown, InitSays, IsBlank, IsJson, LineSays, NamesSay, ObjectSays, OnBack, OnValue, SeesSay, ShapeSays, StepSays, TestsSay, TextSays, Unless, UpdatesSay, params_of, step_line}
 use Rattle.log_lines.specs.declared.position.Position.{Position}
 use Rattle.log_lines.specs.declared.kind.LogKind.{LogKind}
 use Rattle.log_lines.specs.declared.kind.LogKind.TheVariants as kind
@@ -29,13 +31,17 @@ use Rattle.ready_lines.proofs.Variables.{sees_within, updates_within}
 abbrev pub IfReady : Spec → Outcome → Type 0
 IfReady s Blank = Unit {0}
 IfReady s (Init sees) = AreOfVariables s sees
-IfReady s (Step line) = HasValues line.event → IsReadyLine s line
+IfReady s (Step line form) = HasValues line.event → IsReadyLine s line
 IfReady s (Refused why) = Unit {0}
 
 module _ (s : Spec) (is : IsSpec s) (laws : FormLaws) where
   unless : (Bad : Type 0) (why : LogKind) (Q : Outcome → Type 0) (o : Outcome) → (¬ Bad → Q o → IfReady s o) → Unless Bad why Q o → IfReady s o
   unless Bad why Q o next (inl a) = subst (IfReady s) (sym a.1) tt
   unless Bad why Q o next (inr a) = next a.0 a.1
+
+  on_back : (before clock : Clock) (Q : Outcome → Type 0) (o : Outcome) → (Q o → IfReady s o) → OnBack before clock Q o → IfReady s o
+  on_back before clock Q o next (inl a) = subst (IfReady s) (sym a.2) tt
+  on_back before clock Q o next (inr a) = next a.1
 
   on_value : {A : Type 0} (P : A → Type 0) (why : LogKind) (Q : A → Outcome → Type 0) (o : Outcome) → ((a : A) → P a → Q a o → IfReady s o) → OnValue P why Q o → IfReady s o
   on_value P why Q o next (inl a) = next a.0 a.1 a.2
@@ -67,8 +73,10 @@ module _ (s : Spec) (is : IsSpec s) (laws : FormLaws) where
   in_clocks : (at : Position) (h : LineShape) (event : Option (ℕ × ℕ)) (args : List Val) (us : List Update) (sees : List See) (o : Outcome) → Found h event args us sees → ¬ (length args ≡ params_of event → ⊥)
       → ClocksSay (names_of s) at h (record { event = event; args = args; updates = us; sees = sees }) o → IfReady s o
   in_clocks at h event args us sees o found count says =
-      unless _ _ (Unless (clock_or at.clock h.clock <ℤ at.clock) (kind.ClockBack at.clock (clock_or at.clock h.clock)) (NamesSay (names_of s) at h (record { event = event; args = args; updates = us; sees = sees }))) o
-      (λ n a. unless _ _ (NamesSay (names_of s) at h (record { event = event; args = args; updates = us; sees = sees })) o (λ m b. in_names at h event args us sees o found count b) a) says
+      let Names : Outcome → Type 0 = NamesSay (names_of s) at h (record { event = event; args = args; updates = us; sees = sees }) in
+      let after : Clock = clock_or at.clock h.clock in
+      unless _ _ (Unless (IsOtherForm at.form h.clock) kind.ClockKind (OnBack at.clock after Names)) o
+      (λ n a. unless _ _ (OnBack at.clock after Names) o (λ m b. on_back at.clock after Names o (λ c. in_names at h event args us sees o found count c) b) a) says
 
   in_tests : (at : Position) (h : LineShape) (event : Option (ℕ × ℕ)) (args : List Val) (us : List Update) (sees : List See) (o : Outcome) → Found h event args us sees
       → TestsSay (names_of s) at h (record { event = event; args = args; updates = us; sees = sees }) o → IfReady s o

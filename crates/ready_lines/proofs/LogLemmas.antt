@@ -11,6 +11,8 @@ use Rattle.path_updates.specs.declared.line.Log.{Log}
 use Rattle.path_updates.specs.declared.update.See.{See}
 use Rattle.clock_merge.specs.declared.order.LineRef.{LineRef}
 use Rattle.log_lines.specs.Files.{FileSays, GoesOn, LinesSay, behind_blank, behind_init, behind_step, first_line, nothing_found, pieces_of}
+use Rattle.log_lines.specs.declared.clocks.ClockForm.{ClockForm}
+use Rattle.log_lines.specs.declared.clocks.ClockForm.TheVariants.{Free}
 use Rattle.log_lines.specs.declared.position.Position.{Position}
 use Rattle.log_lines.specs.declared.kind.Outcome.{Outcome}
 use Rattle.log_lines.specs.declared.kind.Outcome.TheVariants.{Blank, Init, Step, Refused}
@@ -42,33 +44,33 @@ module _ (s : Spec) (is : IsSpec s) (laws : FormLaws) where
       → IsReadyFile s found → IfReady s o → GoesOn (λ next more. LinesSay (names_of s) next more rest (Ok f)) at found (Ok f) o → IsReadyFile s f
   file_on rest f at found Blank next k fits h = next (behind_blank at) found k h
   file_on rest f at found (Init sees) next k fits h =
-      next (behind_init at) (record { init = Some sees; steps = found.steps }) (record { init = fits; steps = k.steps }) h
-  file_on rest f at found (Step line) next k fits h =
-      next (behind_step at line.clock) (record { init = found.init; steps = found.steps ++ line ∷ [] }) (record { init = k.init; steps = All-push (IfValues s) found.steps line k.steps fits }) h
+      next (behind_init at) (record { init = Some sees; steps = found.steps; form = found.form }) (record { init = fits; steps = k.steps }) h
+  file_on rest f at found (Step line form) next k fits h =
+      next (behind_step at form line.clock) (record { init = found.init; steps = found.steps ++ line ∷ []; form = form }) (record { init = k.init; steps = All-push (IfValues s) found.steps line k.steps fits }) h
   file_on rest f at found (Refused why) next k fits h = absurd cc
 
   lines_ready : (ps : List (List ℕ)) (f : FileLines) (at : Position) (found : FileLines) → IsReadyFile s found → LinesSay (names_of s) at found ps (Ok f) → IsReadyFile s f
   lines_ready [] f at found k h = subst (IsReadyFile s) (sym (file_is f found h)) k
   lines_ready (p ∷ ps) f at found k h = file_on ps f at found h.0 (lines_ready ps f) k (line_ready s is laws at p h.0 h.1) h.2
 
-  file_ready : (file : ℕ) (many : Bool) (room : ℕ) (bytes : List ℕ) (f : FileLines) → FileSays (names_of s) (first_line file many room) bytes (Ok f) → IsReadyFile s f
-  file_ready file many room bytes f h = lines_ready (pieces_of bytes) f (first_line file many room) nothing_found (record { init = All-nil _; steps = All-nil _ }) h
+  file_ready : (file : ℕ) (many : Bool) (room : ℕ) (form : ClockForm) (bytes : List ℕ) (f : FileLines) → FileSays (names_of s) (first_line file many room form) bytes (Ok f) → IsReadyFile s f
+  file_ready file many room form bytes f h = lines_ready (pieces_of bytes) f (first_line file many room form) (nothing_found form) (record { init = All-nil _; steps = All-nil _ }) h
 
   -- ALL FILES
 
   files_is : (a b : List FileLines) → ◌≡◌ {A = Result (List FileLines) LogRefusal} (Ok a) (Ok b) → a ≡ b
   files_is a b e = cc
 
-  files_on : (many : Bool) (file room : ℕ) (found fs : List FileLines) (text : List ℕ) (texts : List (List ℕ)) → ((f : FileLines) → IsReadyFile s f → FilesSay (names_of s) many (file + 1) (room - length f.steps) (found ++ f ∷ []) texts (Ok fs) → All (IsReadyFile s) fs)
-      → (r : Result FileLines Refusal) → FileSays (names_of s) (first_line file many room) text r
-      → FilesGoOn (λ f. FilesSay (names_of s) many (file + 1) (room - length f.steps) (found ++ f ∷ []) texts (Ok fs)) file (Ok fs) r → All (IsReadyFile s) fs
-  files_on many file room found fs text texts next (Ok f) says h = next f (file_ready file many room text f says) h
-  files_on many file room found fs text texts next (Err refusal) says h = absurd cc
+  files_on : (many : Bool) (file room : ℕ) (form : ClockForm) (found fs : List FileLines) (text : List ℕ) (texts : List (List ℕ)) → ((f : FileLines) → IsReadyFile s f → FilesSay (names_of s) many (file + 1) (room - length f.steps) f.form (found ++ f ∷ []) texts (Ok fs) → All (IsReadyFile s) fs)
+      → (r : Result FileLines Refusal) → FileSays (names_of s) (first_line file many room form) text r
+      → FilesGoOn (λ f. FilesSay (names_of s) many (file + 1) (room - length f.steps) f.form (found ++ f ∷ []) texts (Ok fs)) file (Ok fs) r → All (IsReadyFile s) fs
+  files_on many file room form found fs text texts next (Ok f) says h = next f (file_ready file many room form text f says) h
+  files_on many file room form found fs text texts next (Err refusal) says h = absurd cc
 
-  files_ready : (texts : List (List ℕ)) (many : Bool) (file room : ℕ) (found fs : List FileLines) → All (IsReadyFile s) found → FilesSay (names_of s) many file room found texts (Ok fs) → All (IsReadyFile s) fs
-  files_ready [] many file room found fs k h = subst (All (IsReadyFile s)) (sym (files_is fs found h)) k
-  files_ready (text ∷ texts) many file room found fs k h =
-      files_on many file room found fs text texts (λ f ready. files_ready texts many (file + 1) (room - length f.steps) (found ++ f ∷ []) fs (All-push (IsReadyFile s) found f k ready)) h.0 h.1 h.2
+  files_ready : (texts : List (List ℕ)) (many : Bool) (file room : ℕ) (form : ClockForm) (found fs : List FileLines) → All (IsReadyFile s) found → FilesSay (names_of s) many file room form found texts (Ok fs) → All (IsReadyFile s) fs
+  files_ready [] many file room form found fs k h = subst (All (IsReadyFile s)) (sym (files_is fs found h)) k
+  files_ready (text ∷ texts) many file room form found fs k h =
+      files_on many file room form found fs text texts (λ f ready. files_ready texts many (file + 1) (room - length f.steps) f.form (found ++ f ∷ []) fs (All-push (IsReadyFile s) found f k ready)) h.0 h.1 h.2
 
   -- ONE LOG
 
@@ -133,23 +135,23 @@ module _ (s : Spec) (is : IsSpec s) (laws : FormLaws) where
   log_is : (a b : Log) → ◌≡◌ {A = Result Log LogRefusal} (Ok a) (Ok b) → a ≡ b
   log_is a b e = cc
 
-  together_ready : (texts : List (List ℕ)) (log : Log) (r : Result (List FileLines) LogRefusal) → FilesSay (names_of s) (are_several texts) 1 max_steps [] texts r → Together r (Ok log) → All (λ line. HasValues line.event) log.lines → IsReadyLog s log
+  together_ready : (texts : List (List ℕ)) (log : Log) (r : Result (List FileLines) LogRefusal) → FilesSay (names_of s) (are_several texts) 1 max_steps Free [] texts r → Together r (Ok log) → All (λ line. HasValues line.event) log.lines → IsReadyLog s log
   together_ready texts log (Ok files) says h values =
       let of : IsLogOf files log = subst (IsLogOf files) (sym (log_is log h.0 h.2)) h.1 in
-      log_of_files files log (files_ready texts (are_several texts) 1 max_steps [] files (All-nil _) says) of values
+      log_of_files files log (files_ready texts (are_several texts) 1 max_steps Free [] files (All-nil _) says) of values
   together_ready texts log (Err refusal) says h values = absurd cc
 
 pub logs_ready : FormLaws → LogsAreReady
 logs_ready laws s texts log is h values = together_ready s is laws texts log h.0 h.1 h.2 values
 
 pub lines_are_ready : FormLaws → LinesAreReady
-lines_are_ready laws s at text line is h = line_ready s is laws at text (Step line) h
+lines_are_ready laws s at text line form is h = line_ready s is laws at text (Step line form) h
 
 pub sees_are_ready : FormLaws → SeesAreReady
 sees_are_ready laws s at text sees is h = line_ready s is laws at text (Init sees) h
 
 pub files_are_ready : FormLaws → FilesAreReady
-files_are_ready laws s file many room bytes f is h = file_ready s is laws file many room bytes f h
+files_are_ready laws s file many room form bytes f is h = file_ready s is laws file many room form bytes f h
 
 pub together_are_ready : FormLaws → TogetherReady
 together_are_ready laws s files log is h of values = log_of_files s is laws files log h of values

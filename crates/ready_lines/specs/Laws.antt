@@ -8,6 +8,7 @@ use Rattle.path_updates.specs.declared.line.Line.{Line}
 use Rattle.path_updates.specs.declared.line.Log.{Log}
 use Rattle.path_updates.specs.declared.update.See.{See}
 use Rattle.log_lines.specs.Lines.{LineSays}
+use Rattle.log_lines.specs.declared.clocks.ClockForm.{ClockForm}
 use Rattle.log_lines.specs.declared.position.Position.{Position}
 use Rattle.log_lines.specs.declared.kind.Outcome.TheVariants.{Init, Step}
 use Rattle.log_lines.specs.Files.{FileSays, first_line}
@@ -51,7 +52,7 @@ pub record IsReadyFile (s : Spec) (f : FileLines) : Type 0 where
   pub steps : All (λ line. HasValues line.event → IsReadyLine s line) f.steps
 
 abbrev pub LinesAreReady : Type 0
-LinesAreReady = (s : Spec) (at : Position) (text : List ℕ) (line : Line) → IsSpec s → LineSays (names_of s) at text (Step line) → HasValues line.event → IsReadyLine s line
+LinesAreReady = (s : Spec) (at : Position) (text : List ℕ) (line : Line) (form : ClockForm) → IsSpec s → LineSays (names_of s) at text (Step line form) → HasValues line.event → IsReadyLine s line
 
 abbrev pub SeesAreReady : Type 0
 SeesAreReady = (s : Spec) (at : Position) (text : List ℕ) (sees : List See) → IsSpec s → LineSays (names_of s) at text (Init sees) → AreOfVariables s sees
@@ -60,7 +61,7 @@ abbrev pub LogsAreReady : Type 0
 LogsAreReady = (s : Spec) (texts : List (List ℕ)) (log : Log) → IsSpec s → LogsSay (names_of s) texts (Ok log) → All (λ line. HasValues line.event) log.lines → IsReadyLog s log
 
 abbrev pub FilesAreReady : Type 0
-FilesAreReady = (s : Spec) (file : ℕ) (many : Bool) (room : ℕ) (bytes : List ℕ) (f : FileLines) → IsSpec s → FileSays (names_of s) (first_line file many room) bytes (Ok f) → IsReadyFile s f
+FilesAreReady = (s : Spec) (file : ℕ) (many : Bool) (room : ℕ) (form : ClockForm) (bytes : List ℕ) (f : FileLines) → IsSpec s → FileSays (names_of s) (first_line file many room form) bytes (Ok f) → IsReadyFile s f
 
 -- the log of files that can be asked
 abbrev pub TogetherReady : Type 0

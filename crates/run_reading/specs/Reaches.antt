@@ -45,9 +45,9 @@ pub data Stage : Type 0 where
 abbrev pub IsLog : Option (List File) → LogsRead → List ℕ → List ℕ → Type 0
 IsLog holds read name text = HasText holds name (bytes_left read) text
 
--- what its text says: files of logs are numbered from 1, and each has the room for steps that those before it left
+-- what its text says: files of logs are numbered from 1, and each has the room for steps, and the form of clocks, that those before it left
 abbrev pub LogSays : Job → Spec → LogsRead → List ℕ → Result FileLines Refusal → Type 0
-LogSays job s read text r = FileSays (names_of s) (first_line (1 + length read.found) (are_several job.logs) (steps_left read)) text r
+LogSays job s read text r = FileSays (names_of s) (first_line (1 + length read.found) (are_several job.logs) (steps_left read) read.form) text r
 
 -- it comes so far, and nothing before is refused
 pub data Reaches (holds : Option (List File)) (job : Job) : Stage → Type 0 where
@@ -82,8 +82,8 @@ pub record Wants (holds : Option (List File)) (job : Job) (name : List ℕ) (lim
   pub reaches : Reaches holds job stage
   pub is_next : IsNext holds job stage name limit
 
--- All texts are read and none is refused: this is the specification, and these are the lines of all logs, in their one order; or, with the word `--ties`,
--- those of several logs in each order that their clocks leave open.
+-- All texts are read and none is refused: this is the specification, and these are the lines of all logs, in their one order; or, where
+-- several logs have clocks of nodes or the word `--ties` stands, in each order that their clocks leave open.
 pub record AllRead (holds : Option (List File)) (job : Job) (p : Program) (c : Config) (s : Spec) (lined : Lined) : Type 0 where
   pub read : LogsRead
   pub reaches : Reaches holds job (logged p c s read [])

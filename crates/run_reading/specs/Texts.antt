@@ -2,6 +2,8 @@
 use Rattle.std.specs.Prelude.{◌≡◌, ◌≤◌, ◌+◌, ◌-◌, ℕ, List, [], ◌∷◌, ◌++◌, length, Option, Some, None, Bool, nat_lt, codes}
 use Rattle.trace_base.specs.Device.{File, IsWhole}
 use Rattle.tla_ast.specs.declared.config.Config.{Config}
+use Rattle.log_lines.specs.declared.clocks.ClockForm.{ClockForm}
+use Rattle.log_lines.specs.declared.clocks.ClockForm.TheVariants.{Free}
 use Rattle.log_lines.specs.declared.file.FileLines.{FileLines}
 use Rattle.log_files.specs.Logs.{max_steps}
 
@@ -21,18 +23,19 @@ pub record HasText (holds : Option (List File)) (name : List ℕ) (limit : ℕ) 
 abbrev pub without_file : Config
 without_file = record { file = []; init = Some (codes "Init"); next = Some (codes "Next"); specification = None; givens = []; unchecked = [] }
 
--- what was read of the logs: their bytes and their steps together, and what each says
+-- what was read of the logs: their bytes and their steps together, the form of their clocks, and what each says
 pub record LogsRead : Type 0 where
   pub bytes : ℕ
   pub steps : ℕ
+  pub form : ClockForm
   pub found : List FileLines
 
 abbrev pub no_logs : LogsRead
-no_logs = record { bytes = 0; steps = 0; found = [] }
+no_logs = record { bytes = 0; steps = 0; form = Free; found = [] }
 
 -- one log more, of that text
 abbrev pub with_log : LogsRead → List ℕ → FileLines → LogsRead
-with_log read text f = record { bytes = read.bytes + length text; steps = read.steps + length f.steps; found = read.found ++ f ∷ [] }
+with_log read text f = record { bytes = read.bytes + length text; steps = read.steps + length f.steps; form = f.form; found = read.found ++ f ∷ [] }
 
 -- how many bytes the logs behind may have together, and how many steps
 abbrev pub bytes_left : LogsRead → ℕ

@@ -1,24 +1,27 @@
 -- The logs are read one behind the other.
-use Rattle.std.proofs.Common.{◌≡◌, ◌≤◌, ◌<◌, ◌+◌, ◌-◌, refl, sym, subst, ap, ℕ, suc, List, map, [], ◌∷◌, ◌++◌, length, length-append, All, AllPairs, Option, Result, Ok, Err, Bool, nat_lt, arith}
+use Rattle.std.proofs.Common.{◌≡◌, ◌≤◌, ◌<◌, ◌+◌, ◌-◌, ◌∙◌, refl, sym, subst, ap, ℕ, suc, List, map, [], ◌∷◌, ◌++◌, length, length-append, All, AllPairs, Option, Result, Ok, Err, Bool, nat_lt, arith}
+use Rattle.std.specs.Prelude.{true, false, if◌then◌else◌}
 use Rattle.std.specs.List.{AllZip}
 use Rattle.std.proofs.lemmas.List.{length-map}
 use Rattle.std.proofs.lemmas.List.Elements.{All-nil, All-push, All-weaker}
 use Rattle.trace_base.specs.Device.{File}
 use Rattle.log_lines.specs.Files.{FileSays, first_line}
 use Rattle.log_lines.specs.Laws.{Precedes, StepsKeep}
+use Rattle.log_lines.specs.declared.clocks.ClockForm.TheVariants.{Free}
 use Rattle.log_lines.specs.declared.file.FileLines.{FileLines}
 use Rattle.log_lines.specs.declared.file.Refusal.{Refusal}
+use Rattle.path_updates.specs.Clocks.{number_in, vector_in}
 use Rattle.path_updates.specs.declared.line.Line.{Line}
 use Rattle.clock_merge.specs.declared.order.LineRef.{LineRef}
-use Rattle.clock_merge.specs.Orders.{AreFew, Clocks, NoneFalls, lines_in}
+use Rattle.clock_merge.specs.Orders.{Clocks, lines_in}
 use Rattle.clock_merge.proofs.Counting.{as_long}
 use Rattle.log_cuts.specs.Cuts.{total}
-use Rattle.log_cuts.specs.Orders.{Order, sizes, sizes_of}
+use Rattle.log_cuts.specs.Orders.{Order, by_clock, by_vectors, sizes, sizes_of}
 use Rattle.tied_logs.specs.declared.logs.Lined.{Lined}
 use Rattle.tied_logs.specs.declared.logs.Lined.TheVariants.{Sequence, Tied}
 use Rattle.lined_specs.specs.Beside.{lines_of}
 use Rattle.log_files.specs.Lined.{IsLinedOf}
-use Rattle.log_files.specs.Logs.{StandsAt, clocks_in}
+use Rattle.log_files.specs.Logs.{AreFew, NoneFalls, StandsAt, are_vectors, clocks_in, numbers_in, vectors_in}
 use Rattle.log_files.proofs.KeptFiles as kept
 use Rattle.spec_names.specs.Names.{names_of}
 use Rattle.run_reading.specs.Texts.{HasText, no_logs}
@@ -28,8 +31,8 @@ use Rattle.run_stages.specs.declared.logs.LogsSoFar.{LogsSoFar}
 use Rattle.run_stages.specs.Logs.{AreKept, IsOnTheWay, read_of}
 
 -- one file more has its steps more
-lines_more : (files : List FileLines) (f : FileLines) → lines_in (clocks_in (files ++ f ∷ [])) ≡ lines_in (clocks_in files) + length f.steps
-lines_more [] f = let size : length (map (λ (l : Line). l.clock) f.steps) ≡ length f.steps = length-map f.steps (λ l. l.clock) in omega (arith, size)
+lines_more : (files : List FileLines) (f : FileLines) → lines_in (numbers_in (files ++ f ∷ [])) ≡ lines_in (numbers_in files) + length f.steps
+lines_more [] f = let size : length (map (λ (l : Line). number_in l.clock) f.steps) ≡ length f.steps = length-map f.steps (λ l. number_in l.clock) in omega (arith, size)
 lines_more (g ∷ gs) f = let h = lines_more gs f in omega (arith, h)
 
 -- as many lines as places
@@ -38,6 +41,15 @@ as_many files [] [] h = refl
 as_many files [] (y ∷ ys) h = absurd h
 as_many files (x ∷ xs) [] h = absurd h
 as_many files (x ∷ xs) (y ∷ ys) h = ap suc (as_many files xs ys h.1)
+
+-- vectors are as many as numbers
+vector_sizes : (files : List FileLines) → sizes_of (vectors_in files) ≡ sizes_of (numbers_in files)
+vector_sizes [] = refl
+vector_sizes (f ∷ fs) = λ i. (length-map f.steps (λ l. vector_in l.clock) ∙ sym (length-map f.steps (λ l. number_in l.clock))) i ∷ vector_sizes fs i
+
+either_sizes : (files : List FileLines) (b : Bool) → sizes (if b then by_vectors (vectors_in files) else by_clock (numbers_in files)) ≡ sizes_of (numbers_in files)
+either_sizes files true = vector_sizes files
+either_sizes files false = refl
 
 -- a cut of all lines counts them
 counted : (clocks : Clocks) → total (sizes_of clocks) ≡ lines_in clocks
@@ -57,19 +69,19 @@ module _ (holds : Option (List File)) (course : Course) where
 
   -- what the next log says, by its number
   pub log_said : (so : LogsSoFar) (name text : List ℕ) (rest : List (List ℕ)) (r : Result FileLines Refusal) → IsOnTheWay holds course so (name ∷ rest)
-      → FileSays (names_of course.spec.now) (first_line so.number (nat_lt 1 (length course.job.now.logs)) (200000 - so.steps)) text r
-      → FileSays (names_of course.spec.now) (first_line (1 + length so.found.items) (nat_lt 1 (length course.job.now.logs)) (200000 - so.steps)) text r
+      → FileSays (names_of course.spec.now) (first_line so.number (nat_lt 1 (length course.job.now.logs)) (200000 - so.steps) so.form) text r
+      → FileSays (names_of course.spec.now) (first_line (1 + length so.found.items) (nat_lt 1 (length course.job.now.logs)) (200000 - so.steps) so.form) text r
   log_said so name text rest r way says =
-      subst (λ (n : ℕ). FileSays (names_of course.spec.now) (first_line n (nat_lt 1 (length course.job.now.logs)) (200000 - so.steps)) text r) way.number says
+      subst (λ (n : ℕ). FileSays (names_of course.spec.now) (first_line n (nat_lt 1 (length course.job.now.logs)) (200000 - so.steps) so.form) text r) way.number says
 
   -- one log more
   pub next_way : (so next : LogsSoFar) (name text : List ℕ) (rest : List (List ℕ)) (f : FileLines) → StepsKeep (names_of course.spec.now) → IsOnTheWay holds course so (name ∷ rest)
       → HasText holds name (67108864 - so.bytes) text
-      → FileSays (names_of course.spec.now) (first_line so.number (nat_lt 1 (length course.job.now.logs)) (200000 - so.steps)) text (Ok f)
-      → next.number ≡ so.number + 1 → next.bytes ≡ so.bytes + length text → next.steps ≡ so.steps + length f.steps → next.found.items ≡ so.found.items ++ f ∷ []
+      → FileSays (names_of course.spec.now) (first_line so.number (nat_lt 1 (length course.job.now.logs)) (200000 - so.steps) so.form) text (Ok f)
+      → next.number ≡ so.number + 1 → next.bytes ≡ so.bytes + length text → next.steps ≡ so.steps + length f.steps → next.form ≡ f.form → next.found.items ≡ so.found.items ++ f ∷ []
       → IsOnTheWay holds course next rest
-  next_way so next name text rest f law way has says en eb es ef =
-      let keep = law so.number (nat_lt 1 (length course.job.now.logs)) (200000 - so.steps) text f says in
+  next_way so next name text rest f law way has says en eb es fo ef =
+      let keep = law so.number (nat_lt 1 (length course.job.now.logs)) (200000 - so.steps) so.form text f says in
       let few : length f.steps ≤ 200000 - so.steps = keep.1 in
       let short : length text ≤ 67108864 - so.bytes = has.short in
       let at = log_said so name text rest (Ok f) way says in
@@ -77,7 +89,7 @@ module _ (holds : Option (List File)) (course : Course) where
       let bound : so.steps ≤ 200000 = way.kept.few in
       let bytes : so.bytes ≤ 67108864 = way.bytes in
       record {
-        reaches = rw (eb, es, ef) (reads_log course.program.now course.config.now course.spec.now (read_of so) name rest text f way.reaches has at);
+        reaches = rw (eb, es, fo, ef) (reads_log course.program.now course.config.now course.spec.now (read_of so) name rest text f way.reaches has at);
         kept = record {
           each = subst (λ (fs : List FileLines). All IsKept fs) (sym ef) all;
           total = rw ef (omega (arith, es, way.kept.total, lines_more so.found.items f));
@@ -90,9 +102,9 @@ module _ (holds : Option (List File)) (course : Course) where
 
   -- before the first
   pub first_way : (so : LogsSoFar) → Reaches holds course.job.now (logged course.program.now course.config.now course.spec.now no_logs course.job.now.logs) → length course.job.now.logs ≤ 64
-      → so.number ≡ 1 → so.bytes ≡ 0 → so.steps ≡ 0 → so.found.items ≡ [] → IsOnTheWay holds course so course.job.now.logs
-  first_way so reaches few en eb es ef = record {
-    reaches = rw (eb, es, ef) reaches;
+      → so.number ≡ 1 → so.bytes ≡ 0 → so.steps ≡ 0 → so.form ≡ Free → so.found.items ≡ [] → IsOnTheWay holds course so course.job.now.logs
+  first_way so reaches few en eb es fo ef = record {
+    reaches = rw (eb, es, fo, ef) reaches;
     kept = record { each = rw ef (All-nil IsKept); total = rw ef es; few = omega (arith, es) };
     number = rw (en, ef) refl;
     bytes = omega (arith, eb);
@@ -113,8 +125,8 @@ module _ (holds : Option (List File)) (course : Course) where
       → lines_of lined ≤ 200000
   few_lines so names way ties (Sequence log) is =
       let lines = as_many so.found.items is.1.order log.lines is.1.lines in
-      let long = as_long (clocks_in so.found.items) is.1.order is.1.merged in
+      let long = as_long (numbers_in so.found.items) is.1.order is.1.merged in
       omega (arith, lines, long, way.kept.total, way.kept.few)
   few_lines so names way ties (Tied logs) is =
-      let all : total (sizes logs.order) ≡ total (sizes_of (clocks_in so.found.items)) = ap (λ (o : Order). total (sizes o)) is.2.order in
-      omega (arith, all, counted (clocks_in so.found.items), way.kept.total, way.kept.few)
+      let all : total (sizes logs.order) ≡ total (sizes_of (numbers_in so.found.items)) = ap (λ (o : Order). total (sizes o)) is.2.order ∙ ap total (either_sizes so.found.items (are_vectors so.found.items)) in
+      omega (arith, all, counted (numbers_in so.found.items), way.kept.total, way.kept.few)

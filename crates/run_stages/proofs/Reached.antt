@@ -71,7 +71,7 @@ pub files_ready : (holds : Option (List File)) (job : Job) (p : Program) (c : Co
 files_ready holds job p c s _ _ law is (has_forms _ _ _ reaches whole) = All-nil (IsReadyFile s)
 files_ready holds job p c s _ names law is (reads_log _ _ _ read name _ text f reaches log says) =
     All-push (IsReadyFile s) read.found f (files_ready holds job p c s read (name ∷ names) law is reaches)
-    (law s (1 + length read.found) (are_several job.logs) (steps_left read) text f is says)
+    (law s (1 + length read.found) (are_several job.logs) (steps_left read) read.form text f is says)
 
 -- and so can the lines of all logs, beside which the specification is ready
 pub ready_over : (s : Spec) (lined : Lined) → IsReadySpec s → IsReadyLined s lined → AreMadeSo lined → IsReadyOver s lined

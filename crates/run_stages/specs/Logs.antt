@@ -3,7 +3,7 @@ use Rattle.std.specs.Prelude.{◌≡◌, ◌+◌, ◌≤◌, ℕ, List, [], All,
 use Rattle.trace_base.specs.Device.{File}
 use Rattle.clock_merge.specs.Orders.{lines_in}
 use Rattle.log_lines.specs.Laws.{Precedes}
-use Rattle.log_files.specs.Logs.{clocks_in}
+use Rattle.log_files.specs.Logs.{numbers_in}
 use Rattle.log_lines.specs.declared.file.FileLines.{FileLines}
 use Rattle.std.specs.Prelude.{AllPairs}
 use Rattle.run_reading.specs.Texts.{LogsRead, logs_limit}
@@ -12,12 +12,12 @@ use Rattle.run_stages.specs.declared.logs.Course.{Course}
 use Rattle.run_stages.specs.declared.logs.LogsSoFar.{LogsSoFar}
 
 abbrev pub read_of : LogsSoFar → LogsRead
-read_of so = record { bytes = so.bytes; steps = so.steps; found = so.found.items }
+read_of so = record { bytes = so.bytes; steps = so.steps; form = so.form; found = so.found.items }
 
--- in each file the lines stand in order and no clock falls; the files have so many steps together, and no more than all may have
+-- in each file the lines stand in order, and each clock may follow those before it; the files have so many steps together, and no more than all may have
 pub record AreKept (files : List FileLines) (steps : ℕ) : Type 0 where
   pub each : All (λ f. AllPairs Precedes f.steps × (length f.steps ≤ 200000)) files
-  pub total : steps ≡ lines_in (clocks_in files)
+  pub total : steps ≡ lines_in (numbers_in files)
   pub few : steps ≤ 200000
 
 -- the logs before are read, and these are still to be read

@@ -11,7 +11,7 @@ ghost use Rattle.run_stages.specs.Logs.{AreKept, IsOnTheWay};
 use crate::stop::Stop;
 use crate::wanted::read_wanted;
 use log_files::lined_of;
-use log_lines::{FileLines, line_laws, read_log};
+use log_lines::{ClockForm, FileLines, line_laws, read_log};
 use run_texts::log_refusal;
 use run_words::Job;
 use spec_names::LogNames;
@@ -35,12 +35,13 @@ pub(crate) struct Course<'a> {
     pub(crate) spec: &'a Spec,
 }
 
-/// What was read of the logs: the number of the next, from 1, the bytes and the steps of those before together, and what each says.
+/// What was read of the logs: the number of the next, from 1, the bytes and the steps of those before together, the form of their clocks, and what each says.
 #[derive(Drop)]
 pub(crate) struct LogsSoFar {
     pub(crate) number: u32,
     pub(crate) bytes: usize,
     pub(crate) steps: u32,
+    pub(crate) form: ClockForm,
     pub(crate) found: Vec<FileLines>,
 }
 
@@ -65,6 +66,7 @@ pub(crate) fn read_logs<F: Files>(
         number: 1,
         bytes: 0,
         steps: 0,
+        form: ClockForm::Free,
         found: Vec::new(alloc),
     };
     for name in course.job.logs.items() {
@@ -94,21 +96,24 @@ fn read_next<F: Files>(
         number,
         bytes,
         steps,
+        form,
         found,
     } = so;
     let text = read_wanted(alloc, course.job, files, name, LOGS_LIMIT - bytes)?;
     let piece = text.as_slice();
     let many = course.job.logs.len() > 1;
     line_laws(names);
-    match read_log(alloc, names, number, many, MAX_STEPS - steps, piece)? {
+    match read_log(alloc, names, number, many, MAX_STEPS - steps, form, piece)? {
         Ok(file) => {
             let count = file.steps.len() as u32;
+            let form = file.form;
             let mut found = found;
             found.push(file)?;
             Ok(LogsSoFar {
                 number: number + 1,
                 bytes: bytes + piece.len(),
                 steps: steps + count,
+                form,
                 found,
             })
         }

@@ -19,6 +19,10 @@ at_line name line = codes " at " ++ line_text name line
 abbrev pub clocks_text : ℤ → ℤ → List ℕ
 clocks_text before now = codes " clocks " ++ signed_decimal before ++ codes " and " ++ signed_decimal now
 
+-- a node, its number before, and this one
+abbrev pub node_text : List ℕ → ℕ → ℕ → List ℕ
+node_text node before now = codes " node " ++ node ++ codes " clocks " ++ decimal before ++ codes " and " ++ decimal now
+
 -- a line of the log is refused for this
 abbrev pub kind_refusal : List ℕ → LogKind → ℕ → List ℕ
 kind_refusal name log.NotJson line = refused (log_code log.NotJson) (at_line name line)
@@ -35,6 +39,9 @@ kind_refusal name log.InitNotFirst line = refused (log_code log.InitNotFirst) (a
 kind_refusal name log.NoClock line = refused (log_code log.NoClock) (at_line name line)
 kind_refusal name (log.ClockBack before now) line =
     refused (log_code (log.ClockBack before now)) (at_line name line ++ clocks_text before now)
+kind_refusal name log.ClockKind line = refused (log_code log.ClockKind) (at_line name line)
+kind_refusal name (log.VectorBack node before now) line =
+    refused (log_code (log.VectorBack node before now)) (at_line name line ++ node_text node before now)
 kind_refusal name log.LineTooLong line = refused (log_code log.LineTooLong) (at_line name line)
 kind_refusal name log.EventNotFixed line = refused (log_code log.EventNotFixed) (at_line name line)
 kind_refusal name log.TooManyLines line = refused (log_code log.TooManyLines) (at_line name line)

@@ -1,11 +1,11 @@
-ghost use Rattle.std.specs.Prelude.{◌≡◌, ◌++◌, IfOk, OnOk, string_bytes};
+ghost use Rattle.std.specs.Prelude.{◌≡◌, ◌++◌, IfOk, OnOk, codes, string_bytes};
 ghost use Rattle.run_texts.specs.Places.{detail, found_needed, refused};
-ghost use Rattle.run_texts.specs.Logs.{line_text, at_line, clocks_text, kind_refusal, log_refusal};
+ghost use Rattle.run_texts.specs.Logs.{line_text, at_line, clocks_text, kind_refusal, log_refusal, node_text};
 
 use crate::places::{push_detail, push_found_needed, refusal};
 use log_lines::{LogKind, Refusal};
 use std::alloc::Global;
-use trace_base::NoMemory;
+use trace_base::{NoMemory, Text};
 
 /// The line for a log of this name that is refused.
 pub fn log_refusal(alloc: Global, name: &str, refused: Refusal) -> Result<String, NoMemory>
@@ -27,12 +27,16 @@ fn kind_refusal(alloc: Global, name: &str, kind: LogKind, line: u32) -> Result<S
         LogKind::ClockBack(before, now) => {
             refused_clock(alloc, kind.code(), before, now, name, line)
         }
+        LogKind::VectorBack(node, before, now) => {
+            refused_vector(alloc, &node, before, now, name, line)
+        }
         LogKind::NotJson
         | LogKind::NotObject
         | LogKind::UnknownVariable
         | LogKind::UnknownEvent
         | LogKind::InitNotFirst
         | LogKind::NoClock
+        | LogKind::ClockKind
         | LogKind::LineTooLong
         | LogKind::EventNotFixed
         | LogKind::TooManyLines => refused_line(alloc, kind.code(), name, line),
@@ -121,6 +125,33 @@ fn refused_clock(
     push_clocks(&mut text, before, now)?;
     text.push_str("\n")?;
     Ok(text)
+}
+
+/// The line for a clock of nodes in which the number of this node falls.
+fn refused_vector(
+    alloc: Global,
+    node: &Text,
+    before: u64,
+    now: u64,
+    name: &str,
+    line: u32,
+) -> Result<String, NoMemory>
+    ensures { IfOk result (λ t. string_bytes t ≡ refused (codes "O14 VectorBack") (at_line name.now line ++ node_text node.now before now)) }
+{
+    let mut text = refusal(alloc, "O14 VectorBack")?;
+    push_at_line(&mut text, name, line)?;
+    push_node(&mut text, node, before, now)?;
+    text.push_str("\n")?;
+    Ok(text)
+}
+
+/// Adds a node, its number before, and this one.
+fn push_node(text: &mut String, node: &Text, before: u64, now: u64) -> Result<(), NoMemory>
+    ensures { OnOk result (string_bytes text.new ≡ string_bytes text.old ++ node_text node.now before now) }
+{
+    text.push_str(" node ")?;
+    text.push_str(node.as_str())?;
+    write!(text, " clocks {before} and {now}")
 }
 
 /// Adds the clock before, and this one.

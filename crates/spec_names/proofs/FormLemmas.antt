@@ -86,7 +86,7 @@ pub record AtLevels (w : Walk) (bound : ℕ) (body : Term) (B : VariableSet) : T
 
 pub at_levels : (w : Walk) (bound : ℕ) (body : Term) (B : VariableSet) → HasFormOutcome → IsBodyInOrder w bound body → AtLevels w bound body B
 at_levels w bound body B some h =
-    let out : (r : _) × IsOutcome (setting_of w) body B r = some (setting_of w) body B h.ready.smaller (λ k m. let less = h.below k m in omega (arith, less, h.within)) in
+    let out : (r : _) × IsOutcome (setting_of w) body B r = some (setting_of w) body B h.ready.smaller h.uses in
     record { levels = out.1.0; ends = out.1.1; walked = record { ready = h.ready; within = h.within; fits = record { below = h.below; orderly = h.sound; ends = out.1.1 } } }
 
 pub has_one : (w : Walk) (bound : ℕ) (body : Term) (B : VariableSet) (c : ℕ) → HasFormOutcome → IsBodyInOrder w bound body → SaysFixed w bound B body (Ok c) → HasForm w body B

@@ -12,7 +12,12 @@ use Rattle.tla_terms.specs.declared.spec.Spec.{Spec}
 use Rattle.tla_terms.specs.PartCodes.{level_code}
 use Rattle.tla_terms.specs.Terms as term
 use Rattle.tla_terms.specs.Terms.{Term, Placed, Meaning, level_of}
-use Rattle.term_parts.specs.Slots.{Mentions, UsesSmaller}
+use Rattle.tla_terms.specs.declared.operator.Own.{Own}
+use Rattle.tla_terms.specs.declared.operator.Own.TheVariants as owns
+use Rattle.term_parts.specs.Slots.{IsInOrder, MentionsBelow, UsesSmaller}
+use Rattle.term_parts.proofs.Ordering.{body_within}
+use Rattle.early_reads.specs.Levels.{StaysBelow}
+use Rattle.early_reads.proofs.Within.{body-stays}
 use Rattle.spec_laws.specs.IsSpec.{IsSpec}
 use Rattle.tla_actions.specs.declared.which.Which.{Which}
 use Rattle.tla_actions.specs.declared.which.Which.TheVariants as which
@@ -40,8 +45,13 @@ variables_differ s t = ∥∥₁_elim t (pairs-prop s.variables) (λ is. is.vari
 pub few_variables : (s : Spec) → ∥ IsSpec s ∥₁ → length s.variables ≤ 64
 few_variables s t = ∥∥₁_elim t le_prop (λ is. is.few)
 
+in-order-prop : (count k : ℕ) (own : Own) (e : Term) → IsProp (IsInOrder count k own e)
+in-order-prop count k owns.Apart e = hlevel props
+in-order-prop count k owns.Itself e = ×_prop (Coded-set level_code _ _) (hlevel props)
+in-order-prop count k owns.Function e = ×_prop (Coded-set level_code _ _) (hlevel props)
+
 smaller-prop : (ops : List Operator) → IsProp (UsesSmaller ops)
-smaller-prop ops = hlevel props
+smaller-prop ops = Π_prop (λ k. Π_prop (λ o. Π_prop (λ q. in-order-prop (length ops) k o.own o.body)))
 
 pub uses_smaller : (s : Spec) → ∥ IsSpec s ∥₁ → UsesSmaller s.operators
 uses_smaller s t = ∥∥₁_elim t (smaller-prop s.operators) (λ is. is.smaller)
@@ -99,6 +109,7 @@ pub in_order : (s : Spec) (w : Walk) (k : ℕ) (body : Term) → ∥ IsSpec s �
 in_order s w k body t law v o r n = record {
   ready = is_ready w r;
   within = subst (λ (ops : List Operator). k ≤ length ops) (sym o) (let less = slice_get_within s.operators k n.operator n.is in omega (arith, less));
-  below = λ j m. uses_smaller s t k n.operator n.is j (subst (λ e. Mentions e j) (sym n.same) m);
+  uses = subst (λ e. MentionsBelow (length (table_of w)) e) n.same (subst (λ (ops : List Operator). MentionsBelow (length ops) n.operator.body) (sym o) (body_within s.operators k n.operator (uses_smaller s t) n.is));
+  below = subst (λ e. StaysBelow k e) n.same (body-stays s.operators k n.operator (uses_smaller s t) n.is);
   sound = subst (λ e. IsSoundThroughout (table_of w) w.variables e) n.same (subst (λ (ops : List Operator). IsSoundThroughout ops w.variables n.operator.body) (sym o) (subst (λ (x : ℕ). IsSoundThroughout s.operators x n.operator.body) (sym v) (body_sound s t law k n.operator n.is n.named)));
 }

@@ -8,6 +8,7 @@ use Rattle.tla_actions.specs.declared.which.Which.TheVariants as which
 use Rattle.tla_actions.specs.Reads.{VariableSet}
 use Rattle.tla_actions.specs.Outcomes.{Fixes}
 use Rattle.early_reads.specs.declared.walking.Walk.{Walk}
+use Rattle.early_reads.specs.Levels.{StaysBelow}
 use Rattle.early_reads.specs.Orderly.{IsSoundThroughout}
 use Rattle.early_reads.specs.Ready.{IsReady, setting_of, table_of}
 
@@ -29,11 +30,12 @@ pub record IsNamedBody (ops : List Operator) (k : ℕ) (body : Term) : Type 0 wh
 abbrev pub HasNoName : List Operator → ℕ → Type 0
 HasNoName ops k = (o : Operator) → slice_get ops k ≡ Some o → o.name ≡ []
 
--- the body is in order, where it uses definitions below a bound alone
+-- the body is in order, where it uses definitions of the table, and those below a bound alone or is constant
 pub record IsBodyInOrder (w : Walk) (bound : ℕ) (body : Term) : Type 0 where
   pub ready : IsReady w
   pub within : bound ≤ length (table_of w)
-  pub below : MentionsBelow bound body
+  pub uses : MentionsBelow (length (table_of w)) body
+  pub below : StaysBelow bound body
   pub sound : IsSoundThroughout (table_of w) w.variables body
 
 abbrev pub HasForm : Walk → Term → VariableSet → Type 0

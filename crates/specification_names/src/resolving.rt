@@ -55,9 +55,18 @@ fn resolve_behind(
 {
     let behind = looked_through(alloc, program, config)?;
     match resolve(alloc, program, &behind, silent) {
-        Ok(spec) => Ok(spec),
-        Err(ResolveFault::NoMemory) => Err(ResolveFault::NoMemory),
-        Err(_) => Err(refusal),
+        Ok(spec) => {
+            drop(refusal);
+            Ok(spec)
+        }
+        Err(ResolveFault::NoMemory) => {
+            drop(refusal);
+            Err(ResolveFault::NoMemory)
+        }
+        Err(fault) => {
+            drop(fault);
+            Err(refusal)
+        }
     }
 }
 

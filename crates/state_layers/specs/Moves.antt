@@ -78,6 +78,10 @@ at_layer n j xs = map (entry n j) xs
 abbrev pub IsRange : {A : Type 0} → Move → List (Node A) → ℕ → Type 0
 IsRange {A} move nodes from = (i : ℕ) (x : Node A) → slice_get nodes i ≡ Some x → (from ≤ i ↔ IsSource move x.line x.silents)
 
+-- The node of that index is one that the move starts from.
+abbrev pub IsSourceAt : {A : Type 0} → Move → List (Node A) → ℕ → Type 0
+IsSourceAt {A} move nodes i = (x : Node A) → slice_get nodes i ≡ Some x → IsSource move x.line x.silents
+
 -- What was found is one step from the node that it names.
 pub record Comes {A : Type 0} (y : System A) (move : Move) (nodes : List (Node A)) (f : Found A) : Type 0 where
   pub node : Node A

@@ -1,10 +1,10 @@
-ghost use Rattle.std.specs.Prelude.{◌≡◌, ◌⊎◌, ◌≤◌, ◌<◌, ◌+◌, ◌-◌, ◌++◌, IfOk, IfErr, OnOk, length};
+ghost use Rattle.std.specs.Prelude.{◌≡◌, ◌⊎◌, ◌≤◌, ◌<◌, ◌+◌, ◌-◌, ◌++◌, ℕ, IfOk, IfErr, OnOk, length};
 ghost use Rattle.tla_core.specs.Sets.{AreOf, IsList};
 ghost use Rattle.tla_core.specs.Runs.{Layer, Upto};
 ghost use Rattle.state_layers.specs.Answers.{HasLayer};
 ghost use Rattle.state_layers.specs.Gives.{Gives, IsSmall};
 ghost use Rattle.state_layers.specs.Found.{members_of};
-ghost use Rattle.state_layers.specs.Moves.{IsSource, line_of, silents_of, line_after, silents_after, IsOpen, Moves, MoveFaults, MoveSeen, entries, at_layer, IsRange, Grown};
+ghost use Rattle.state_layers.specs.Moves.{IsSource, line_of, silents_of, line_after, silents_after, IsOpen, Moves, MoveFaults, MoveSeen, entries, at_layer, IsRange, IsSourceAt, Part, Growing, Grown};
 ghost use Rattle.state_layers.specs.Says.{IsStop, Expands};
 ghost use Rattle.state_layers.specs.Kept.{Kept, IsBehind, nodes_of};
 ghost use Rattle.state_layers.specs.Repeats.{AllKnown};
@@ -135,6 +135,39 @@ fn check_size<S: Steps>(
     Ok(())
 }
 
+/// Adds the entries to which a move leads from the node of that index to the layer.
+fn grow_by<S: Steps>(
+    alloc: Global,
+    steps: &S,
+    nodes: &[Node<S::Entry>],
+    index: usize,
+    step: Move,
+    layer: &mut IndexMap<S::Entry, u32>,
+    known: &mut KnownSteps<S::Entry>,
+) -> Result<(), Stop>
+    requires ready { S.ready steps.now }
+    requires small { IsSmall (S.system steps.now) }
+    requires opens { IsOpen (S.system steps.now) step }
+    requires kept { IsList (Upto (S.system steps.now) (line_of step) (silents_of (S.system steps.now) step)) (entries nodes.now) }
+    requires room { length nodes.now ≤ (S.system steps.now).total }
+    requires within { index < length nodes.now }
+    requires source { IsSourceAt step nodes.now index }
+    requires part { Part (S.system steps.now) step nodes.now layer.old.entries }
+    requires known { AllKnown (S.system steps.now) S.Entry.eq known.old.lists.entries }
+    ensures grows { OnOk result ((from : ℕ) → Growing (S.system steps.now) step nodes.now from index layer.old.entries → Growing (S.system steps.now) step nodes.now from (index + 1) layer.new.entries) }
+    ensures known { OnOk result (AllKnown (S.system steps.now) S.Entry.eq known.new.lists.entries) }
+    ensures stopped { IfErr result (λ stop. IsStop (S.system steps.now) stop) }
+{
+    let line = line_after_move(step);
+    let silents = silents_after_move(step);
+    let limit = steps.limit() as usize;
+    let node = &nodes[index];
+    let list = expand(alloc, steps, step, node, known)?;
+    merge(layer, list, index as u32, limit)?;
+    check_size(steps, nodes, layer, line, silents)?;
+    Ok(())
+}
+
 /// The layer that a move leads to. An entry that several layers of a line have is gone on from once.
 fn grow<S: Steps>(
     alloc: Global,
@@ -155,9 +188,6 @@ fn grow<S: Steps>(
     ensures known { IfOk result (λ layer. AllKnown (S.system steps.now) S.Entry.eq known.new.lists.entries) }
     ensures stopped { IfErr result (λ stop. IsStop (S.system steps.now) stop) }
 {
-    let line = line_after_move(step);
-    let silents = silents_after_move(step);
-    let limit = steps.limit() as usize;
     let may_repeat = matches!(step, Move::Go { .. }) && steps.within() > 1;
     let mut gone = IndexSet::new(alloc);
     let mut layer = IndexMap::new(alloc);
@@ -168,9 +198,7 @@ fn grow<S: Steps>(
             index += 1;
             continue;
         }
-        let list = expand(alloc, steps, step, node, known)?;
-        merge(&mut layer, list, index as u32, limit)?;
-        check_size(steps, nodes, &layer, line, silents)?;
+        grow_by(alloc, steps, nodes, index, step, &mut layer, known)?;
         index += 1;
     }
     Ok(layer)

@@ -1,6 +1,6 @@
 -- What a note is told by the pieces of a text.
 use Rattle.std.proofs.Common.{◌≡◌, ◌∙◌, sym, ap, refl, List, [], ◌∷◌, ◌++◌, inl, inr, subst, arith, ◌<◌, zero-add, add-zero}
-use Rattle.std.specs.Prelude.{◌⊎◌, ℕ, zero, suc, Bool, true, false, Option, Some, None, if◌then◌else◌, Contains, slice_get, ◌+◌, ◌&&◌, ◌||◌, ◌==◌, MatchOption}
+use Rattle.std.specs.Prelude.{◌⊎◌, ℕ, zero, suc, Bool, true, false, Option, Some, None, if◌then◌else◌, Contains, slice_get, ◌+◌, ◌&&◌, ◌||◌, ◌==◌, IsTrue}
 use Rattle.trace_base.specs.declared.place.Place.{Place}
 use Rattle.tla_terms.specs.declared.level.Level.TheVariants.{Constant}
 use Rattle.tla_terms.specs.declared.operator.Operator.{Operator}
@@ -9,17 +9,15 @@ use Rattle.term_parts.specs.declared.fault.LevelFault.{LevelFault}
 use Rattle.term_parts.specs.declared.fault.LevelFault.TheVariants.{TooHigh, PrimedArgument}
 use Rattle.term_levels.specs.declared.note.Note.{Note}
 use Rattle.term_parts.specs.FaultOrder.{is_before, earlier, held, held_all}
-use Rattle.term_levels.specs.Faults.{IsFault, IsFirst}
 use Rattle.term_levels.specs.Findings.{Finding, Standing, Under, Wrong, Reaches, Covers, Says, Adds, LimitFinds, SlotFinds, NamedFinds, LetFinds, LetsFind, ArgumentFinds}
 use Rattle.term_parts.specs.Limits.{Limit, limits, is_above}
 use Rattle.term_parts.proofs.Contained.{contains_cons, contains_head, contains_tail, contains_nothing}
 use Rattle.term_parts.specs.Marks.{has}
-use Rattle.term_levels.specs.Notes.{IsNote}
-use Rattle.term_parts.specs.Slots.{Occurs, IsPrimed}
+use Rattle.term_levels.specs.Told.{IsNoted}
 use Rattle.term_levels.specs.Arguments.{earlier_of, argued, argued_from, TakesIn}
 use Rattle.std.proofs.lemmas.List.Elements.{Contains-push, Contains-push_cases, Contains-append_left}
 use Rattle.term_parts.proofs.Marks.{and_both, and_cases, are_same, or_cases, or_left, or_right, same}
-use Rattle.term_levels.proofs.Order.{earlier_keeps, earlier_tells, earlier_sound, reaches_on}
+use Rattle.term_levels.proofs.Order.{earlier_keeps, earlier_tells, earlier_sound, not_before_itself, reaches_on}
 
 -- one limit
 keeps_test : (b : Bool) (o : Option LevelFault) (f h : LevelFault) → Reaches o f → Reaches (if b then earlier o h else o) f
@@ -95,106 +93,96 @@ adds_both P Q R a b c split left right p q = record {
 }
 
 -- the slots of a definition
-pub adds_named : (ops : List Operator) (b : Bool) (k : ℕ) (o : Operator) (n old new : Note) → slice_get ops k ≡ Some o → IsNote ops o.body n → TakesIn o.outer b n old new → Adds (NamedFinds ops b k) old new
-adds_named ops b k o n old new is noted takes = record {
+pub adds_named : (ops : List Operator) (ns : List Note) (b : Bool) (k : ℕ) (o : Operator) (n old new : Note) → IsNoted ops ns k o n → TakesIn o.outer b n old new → Adds (NamedFinds ops ns b k) old new
+adds_named ops ns b k o n old new here takes = record {
   kept = kept_one;
   told = told_one;
   sound = sound_one;
 }
   where
-    same : (p : Operator) → slice_get ops k ≡ Some p → o ≡ p
-    same p q = cc (q, is)
+    -- one definition and one note have a number
+    same : (p : Operator) (m : Note) → IsNoted ops ns k p m → (P : Operator → Note → Type 0) → P p m → P o n
+    same p m there P h =
+        let q : p ≡ o = cc (there.is, here.is) in
+        let r : m ≡ n = cc (there.told, here.told) in
+        subst (P o) r (subst (λ (y : Operator). P y m) q h)
 
     kept_one : (x : Finding) → Covers old x → Covers new x
     kept_one (Standing i) h = takes.occurs.kept i h
     kept_one (Under i) h = takes.kept i h
     kept_one (Wrong f) h = let P : Option LevelFault → Type 0 = λ y. Reaches y f in subst P (sym takes.fault) h
 
-    told_one : (x : Finding) → NamedFinds ops b k x → Covers new x
-    told_one (Standing i) (p, q, lt, w) = let P : Operator → Type 0 = λ y. (i < y.outer) × Occurs ops y.body i in let r : P o = subst P (sym (same p q)) (lt, w) in takes.occurs.added i r.0 ((noted.occurs i).1 r.1)
-    told_one (Under i) (p, q, lt, w) =
-        let P : Operator → Type 0 = λ y. (i < y.outer) × (IsPrimed ops y.body i ⊎ ((b ≡ true) × Occurs ops y.body i)) in
-        let r : P o = subst P (sym (same p q)) (lt, w) in
-        elim r.1 [ inl u ↦ takes.added i r.0 ((noted.primed i).1 u) | inr u ↦ takes.under i u.0 r.0 ((noted.occurs i).1 u.1) ]
+    told_one : (x : Finding) → NamedFinds ops ns b k x → Covers new x
+    told_one (Standing i) (p, m, there, lt, w) =
+        let r : (i < o.outer) × IsTrue (has n.occurs i) = same p m there (λ y z. (i < y.outer) × IsTrue (has z.occurs i)) (lt, w) in
+        takes.occurs.added i r.0 r.1
+    told_one (Under i) (p, m, there, lt, w) =
+        let r : (i < o.outer) × (IsTrue (has n.primed i) ⊎ ((b ≡ true) × IsTrue (has n.occurs i))) =
+        same p m there (λ y z. (i < y.outer) × (IsTrue (has z.primed i) ⊎ ((b ≡ true) × IsTrue (has z.occurs i)))) (lt, w) in
+        elim r.1 [ inl u ↦ takes.added i r.0 u | inr u ↦ takes.under i u.0 r.0 u.1 ]
     told_one (Wrong f) h = absurd h
 
-    sound_one : (x : Finding) → Says new x → Says old x ⊎ NamedFinds ops b k x
-    sound_one (Standing i) h = elim (takes.occurs.sound i h) [ inl u ↦ inl u | inr u ↦ inr (o, is, u.0, (noted.occurs i).0 u.1) ]
-    sound_one (Under i) h = elim (takes.sound i h) [
-      | inl u ↦ inl u
-      | inr u ↦ elim u.1 [
-        | inl v ↦ inr (o, is, u.0, inl ((noted.primed i).0 v))
-        | inr v ↦ inr (o, is, u.0, inr (v.0, (noted.occurs i).0 v.1))
-      ]
-    ]
+    sound_one : (x : Finding) → Says new x → Says old x ⊎ NamedFinds ops ns b k x
+    sound_one (Standing i) h = elim (takes.occurs.sound i h) [ inl u ↦ inl u | inr u ↦ inr (o, n, here, u.0, u.1) ]
+    sound_one (Under i) h = elim (takes.sound i h) [ inl u ↦ inl u | inr u ↦ inr (o, n, here, u.0, u.1) ]
     sound_one (Wrong f) h = inl (sym takes.fault ∙ h)
 
 -- the first fault of a definition
-abbrev pub FaultFinds : List Operator → ℕ → Finding → Type 0
-FaultFinds ops k (Wrong f) = (o : Operator) × (slice_get ops k ≡ Some o) × IsFault ops o.body f
-FaultFinds ops k x = ⊥
+abbrev pub FaultFinds : List Note → ℕ → Finding → Type 0
+FaultFinds ns k (Wrong f) = (n : Note) × (slice_get ns k ≡ Some n) × (n.fault ≡ Some f)
+FaultFinds ns k x = ⊥
 
--- the note of a text tells its faults
-pub note_reaches : (ops : List Operator) (e : Term) (found : Option LevelFault) (f : LevelFault) → MatchOption found ((g : LevelFault) → ¬ IsFault ops e g) (IsFirst (IsFault ops e)) → IsFault ops e f → Reaches found f
-note_reaches ops e None f h w = absurd (h f w)
-note_reaches ops e (Some g) f h w = (g, refl, h.none_before f w)
-
-pub note_sound : (ops : List Operator) (e : Term) (found : Option LevelFault) (f : LevelFault) → MatchOption found ((g : LevelFault) → ¬ IsFault ops e g) (IsFirst (IsFault ops e)) → found ≡ Some f → IsFault ops e f
-note_sound ops e None f h q = absurd (cc)
-note_sound ops e (Some g) f h q = let P : LevelFault → Type 0 = IsFault ops e in let same : g ≡ f = cc in subst P same h.is_such
-
-earlier_of_keeps : (o found : Option LevelFault) (f : LevelFault) → Reaches o f → Reaches (earlier_of o found) f
+pub earlier_of_keeps : (o found : Option LevelFault) (f : LevelFault) → Reaches o f → Reaches (earlier_of o found) f
 earlier_of_keeps o None f r = r
 earlier_of_keeps o (Some g) f r = earlier_keeps o f g r
 
-earlier_of_tells : (o found : Option LevelFault) (f : LevelFault) → Reaches found f → Reaches (earlier_of o found) f
+pub earlier_of_tells : (o found : Option LevelFault) (f : LevelFault) → Reaches found f → Reaches (earlier_of o found) f
 earlier_of_tells o None f r = absurd (let q : None ≡ Some r.0 = r.1 in cc)
 earlier_of_tells o (Some g) f r = let same : g ≡ r.0 = cc (r.1) in reaches_on (earlier o g) f g (ap (λ y. is_before f y) same ∙ r.2) (earlier_tells o g)
 
-earlier_of_sound : (o found : Option LevelFault) (f : LevelFault) → earlier_of o found ≡ Some f → (o ≡ Some f) ⊎ (found ≡ Some f)
+pub earlier_of_sound : (o found : Option LevelFault) (f : LevelFault) → earlier_of o found ≡ Some f → (o ≡ Some f) ⊎ (found ≡ Some f)
 earlier_of_sound o None f q = inl q
 earlier_of_sound o (Some g) f q = elim (earlier_sound o f g q) [ inl e ↦ inl e | inr e ↦ inr (ap Some (sym e)) ]
 
-pub adds_fault : (ops : List Operator) (k : ℕ) (o : Operator) (n old new : Note) → slice_get ops k ≡ Some o → IsNote ops o.body n → new ≡ record old { fault = earlier_of old.fault n.fault } → Adds (FaultFinds ops k) old new
-adds_fault ops k o n old new is noted q = subst (λ (y : Note). Adds (FaultFinds ops k) old y) (sym q) record {
+pub adds_fault : (ns : List Note) (k : ℕ) (n old new : Note) → slice_get ns k ≡ Some n → new ≡ record old { fault = earlier_of old.fault n.fault } → Adds (FaultFinds ns k) old new
+adds_fault ns k n old new at q = subst (λ (y : Note). Adds (FaultFinds ns k) old y) (sym q) record {
   kept = kept_one;
   told = told_one;
   sound = sound_one;
 }
   where
-    same : (p : Operator) → slice_get ops k ≡ Some p → p ≡ o
-    same p r = cc (r, is)
-
     kept_one : (x : Finding) → Covers old x → Covers (record old { fault = earlier_of old.fault n.fault }) x
     kept_one (Standing i) h = h
     kept_one (Under i) h = h
     kept_one (Wrong f) h = earlier_of_keeps old.fault n.fault f h
 
-    told_one : (x : Finding) → FaultFinds ops k x → Covers (record old { fault = earlier_of old.fault n.fault }) x
+    told_one : (x : Finding) → FaultFinds ns k x → Covers (record old { fault = earlier_of old.fault n.fault }) x
     told_one (Standing i) h = absurd h
     told_one (Under i) h = absurd h
-    told_one (Wrong f) h = let P : Operator → Type 0 = λ y. IsFault ops y.body f in earlier_of_tells old.fault n.fault f (note_reaches ops o.body n.fault f noted.fault (subst P (same h.0 h.1) h.2))
+    told_one (Wrong f) (m, there, is) =
+        let same : m ≡ n = cc (there, at) in
+        earlier_of_tells old.fault n.fault f (f, ap (λ y. y.fault) (sym same) ∙ is, not_before_itself f)
 
-    sound_one : (x : Finding) → Says (record old { fault = earlier_of old.fault n.fault }) x → Says old x ⊎ FaultFinds ops k x
+    sound_one : (x : Finding) → Says (record old { fault = earlier_of old.fault n.fault }) x → Says old x ⊎ FaultFinds ns k x
     sound_one (Standing i) h = inl h
     sound_one (Under i) h = inl h
-    sound_one (Wrong f) h = elim (earlier_of_sound old.fault n.fault f h) [ inl e ↦ inl e | inr e ↦ inr (o, is, note_sound ops o.body n.fault f noted.fault e) ]
+    sound_one (Wrong f) h = elim (earlier_of_sound old.fault n.fault f h) [ inl e ↦ inl e | inr e ↦ inr (n, at, e) ]
 
 -- all of a definition of a LET
-pub adds_let : (ops : List Operator) (b : Bool) (k : ℕ) (old mid new : Note) → Adds (NamedFinds ops b k) old mid → Adds (FaultFinds ops k) mid new → Adds (LetFinds ops b k) old new
-adds_let ops b k old mid new p q = adds_both (NamedFinds ops b k) (FaultFinds ops k) (LetFinds ops b k) old mid new split left right p q
+pub adds_let : (ops : List Operator) (ns : List Note) (b : Bool) (k : ℕ) (old mid new : Note) → Adds (NamedFinds ops ns b k) old mid → Adds (FaultFinds ns k) mid new → Adds (LetFinds ops ns b k) old new
+adds_let ops ns b k old mid new p q = adds_both (NamedFinds ops ns b k) (FaultFinds ns k) (LetFinds ops ns b k) old mid new split left right p q
   where
-    split : (x : Finding) → LetFinds ops b k x → NamedFinds ops b k x ⊎ FaultFinds ops k x
+    split : (x : Finding) → LetFinds ops ns b k x → NamedFinds ops ns b k x ⊎ FaultFinds ns k x
     split (Standing i) h = inl h
     split (Under i) h = inl h
     split (Wrong f) h = inr h
 
-    left : (x : Finding) → NamedFinds ops b k x → LetFinds ops b k x
+    left : (x : Finding) → NamedFinds ops ns b k x → LetFinds ops ns b k x
     left (Standing i) h = h
     left (Under i) h = h
     left (Wrong f) h = absurd h
 
-    right : (x : Finding) → FaultFinds ops k x → LetFinds ops b k x
+    right : (x : Finding) → FaultFinds ns k x → LetFinds ops ns b k x
     right (Standing i) h = absurd h
     right (Under i) h = absurd h
     right (Wrong f) h = h
@@ -203,12 +191,12 @@ adds_let ops b k old mid new p q = adds_both (NamedFinds ops b k) (FaultFinds op
 pub adds_nothing : (P : Finding → Type 0) (old : Note) → ((x : Finding) → ¬ P x) → Adds P old old
 adds_nothing P old none = record { kept = λ x h. h; told = λ x h. absurd (none x h); sound = λ x h. inl h }
 
-pub lets_none : (ops : List Operator) (b : Bool) (old : Note) → Adds (LetsFind ops b []) old old
-lets_none ops b old = adds_nothing (LetsFind ops b []) old (λ x h. contains_nothing h.0 h.1)
+pub lets_none : (ops : List Operator) (ns : List Note) (b : Bool) (old : Note) → Adds (LetsFind ops ns b []) old old
+lets_none ops ns b old = adds_nothing (LetsFind ops ns b []) old (λ x h. contains_nothing h.0 h.1)
 
-pub lets_more : (ops : List Operator) (b : Bool) (ks : List ℕ) (k : ℕ) (old mid new : Note) → Adds (LetsFind ops b ks) old mid → Adds (LetFinds ops b k) mid new → Adds (LetsFind ops b (ks ++ k ∷ [])) old new
-lets_more ops b ks k old mid new p q = adds_both (LetsFind ops b ks) (LetFinds ops b k) (LetsFind ops b (ks ++ k ∷ [])) old mid new
-    (λ x h. elim (Contains-push_cases ks k h.0 h.1) [ inl c ↦ inl (h.0, c, h.2) | inr e ↦ inr (subst (λ (y : ℕ). LetFinds ops b y x) (sym e) h.2) ])
+pub lets_more : (ops : List Operator) (ns : List Note) (b : Bool) (ks : List ℕ) (k : ℕ) (old mid new : Note) → Adds (LetsFind ops ns b ks) old mid → Adds (LetFinds ops ns b k) mid new → Adds (LetsFind ops ns b (ks ++ k ∷ [])) old new
+lets_more ops ns b ks k old mid new p q = adds_both (LetsFind ops ns b ks) (LetFinds ops ns b k) (LetsFind ops ns b (ks ++ k ∷ [])) old mid new
+    (λ x h. elim (Contains-push_cases ks k h.0 h.1) [ inl c ↦ inl (h.0, c, h.2) | inr e ↦ inr (subst (λ (y : ℕ). LetFinds ops ns b y x) (sym e) h.2) ])
     (λ x h. (h.0, Contains-append_left ks (k ∷ []) h.0 h.1, h.2))
     (λ x h. (k, Contains-push ks k, h))
     p q

@@ -1,6 +1,6 @@
 -- Arguments, one more.
 use Rattle.std.proofs.Common.{◌≡◌, ◌∙◌, sym, ap, refl, List, [], ◌∷◌, ◌++◌, length, take, ◌<◌, ◌≤◌, arith, add-zero, get_or}
-use Rattle.std.specs.Prelude.{ℕ, zero, suc, ◌+◌, ◌||◌, Bool, Option, ◌-◌}
+use Rattle.std.specs.Prelude.{ℕ, zero, suc, ◌+◌, ◌||◌, Bool, Option}
 use Rattle.tla_terms.specs.Terms.{Term}
 use Rattle.term_parts.specs.Parts.{part}
 use Rattle.term_parts.specs.declared.fault.LevelFault.{LevelFault}

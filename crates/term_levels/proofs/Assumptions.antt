@@ -12,8 +12,15 @@ use Rattle.term_parts.specs.FaultOrder.{is_before, earlier, held}
 use Rattle.term_levels.specs.Faults.{IsFault, IsFirst, IsAssumptionFault, in_term, no_constant}
 use Rattle.term_levels.specs.Findings.{Reaches}
 use Rattle.term_parts.specs.Limits.{is_above, limit}
-use Rattle.term_levels.proofs.Adds.{note_reaches, note_sound}
 use Rattle.term_levels.proofs.Order.{earlier_keeps, earlier_tells, earlier_sound}
+
+note_reaches : (ops : List Operator) (e : Term) (found : Option LevelFault) (f : LevelFault) → MatchOption found ((g : LevelFault) → ¬ IsFault ops e g) (IsFirst (IsFault ops e)) → IsFault ops e f → Reaches found f
+note_reaches ops e None f h w = absurd (h f w)
+note_reaches ops e (Some g) f h w = (g, refl, h.none_before f w)
+
+note_sound : (ops : List Operator) (e : Term) (found : Option LevelFault) (f : LevelFault) → MatchOption found ((g : LevelFault) → ¬ IsFault ops e g) (IsFirst (IsFault ops e)) → found ≡ Some f → IsFault ops e f
+note_sound ops e None f h q = absurd (cc)
+note_sound ops e (Some g) f h q = let P : LevelFault → Type 0 = IsFault ops e in let same : g ≡ f = cc in subst P same h.is_such
 
 -- the first of those that are reached
 told_match : (r : Option LevelFault) (IsSuch : LevelFault → Type 0) → ((f : LevelFault) → r ≡ Some f → IsSuch f) → ((g : LevelFault) → IsSuch g → Reaches r g) → MatchOption r ((f : LevelFault) → ¬ IsSuch f) (IsFirst IsSuch)

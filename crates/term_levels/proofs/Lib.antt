@@ -1,10 +1,15 @@
 mod Adds
 mod Arguments
+mod Bounds
+mod Closing
 mod Assumptions
 mod Conjuncts
 mod Fair
+mod Lessening
 mod Noted
 mod Order
+mod Passing
+mod Rereading
 mod Shapes
 mod Texts
 mod Ways

@@ -1,5 +1,5 @@
 -- What is wrong with the levels in a text: parts that are too high, and arguments of parameters that stand under a prime.
-use Rattle.std.specs.Prelude.{◌≡◌, ◌+◌, ◌-◌, ℕ, true, false, List, Contains, Some, slice_get}
+use Rattle.std.specs.Prelude.{◌≡◌, ◌+◌, ℕ, true, false, List, Contains, Some, slice_get}
 use Rattle.trace_base.specs.declared.place.Place.{Place}
 use Rattle.tla_terms.specs.declared.level.Level.{Level}
 use Rattle.tla_terms.specs.declared.level.Level.TheVariants.{Constant}

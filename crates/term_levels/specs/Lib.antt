@@ -5,3 +5,5 @@ pub mod Faults
 pub mod Findings
 pub mod Notes
 pub mod Shape
+pub mod Told
+pub mod Telling

@@ -6,6 +6,7 @@ ghost use Rattle.term_levels.specs.Fairness.{Splits, fair_in, fair_use, split, s
 ghost use Rattle.term_levels.specs.Notes.{AreNotes};
 ghost use Rattle.term_parts.specs.Parts.{listed};
 ghost use Rattle.term_levels.specs.Shape.{IsFair};
+ghost use Rattle.term_levels.specs.Told.{IsFairBy};
 ghost use Rattle.term_parts.specs.Slots.{MentionsBelow};
 ghost use Rattle.term_parts.specs.Waiting.{waiting};
 
@@ -90,6 +91,21 @@ fn split<'a>(
     }
 }
 
+/// Whether a term is a fairness conjunct, where notes tell which definitions mean one.
+pub fn fair_by(alloc: Global, notes: &[Note], term: &Term) -> Result<bool, NoMemory>
+    ensures { IfOk result (λ b. IsTrue b ↔ IsFairBy notes.now term.now) }
+{
+    let mut stack = Vec::new(alloc);
+    push(&mut stack, false, term)?;
+    while let Some(pending) = stack.pop() {
+        let part = pending.term;
+        if !split(notes, &mut stack, &*part.node)? {
+            return Ok(false);
+        }
+    }
+    Ok(true)
+}
+
 /// Whether a term is a fairness conjunct, where the definitions that it uses have their notes.
 pub fn is_fair(
     alloc: Global,
@@ -103,13 +119,5 @@ pub fn is_fair(
     ensures { IfOk result (λ b. IsTrue b ↔ IsFair table.now term.now) }
 {
     let _definitions = table;
-    let mut stack = Vec::new(alloc);
-    push(&mut stack, false, term)?;
-    while let Some(pending) = stack.pop() {
-        let part = pending.term;
-        if !split(notes, &mut stack, &*part.node)? {
-            return Ok(false);
-        }
-    }
-    Ok(true)
+    fair_by(alloc, notes, term)
 }

@@ -7,6 +7,7 @@ mod note;
 mod noting;
 mod reading;
 mod shape;
+mod telling;
 
 pub use note::Note;
 pub use noting::{assumption_fault, note_of, notes};

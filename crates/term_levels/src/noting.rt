@@ -6,9 +6,8 @@ ghost use Rattle.term_levels.specs.Faults.{IsAssumptionFault, IsFirst};
 ghost use Rattle.term_levels.specs.Notes.{AreNotes, IsNote};
 ghost use Rattle.term_parts.specs.Slots.{MentionsBelow, UsesSmaller};
 
-use crate::fairness::is_fair;
 use crate::note::Note;
-use crate::reading::read_text;
+use crate::telling::{all_untold, read_all, told_by};
 use std::alloc::Global;
 use term_parts::{LevelFault, held};
 use tla_terms::{Level, Operator, Term};
@@ -26,19 +25,7 @@ pub fn note_of(
     requires below { MentionsBelow (length notes.now) term.now }
     ensures { IfOk result (λ n. IsNote table.now term.now n) }
 {
-    let fair = is_fair(alloc, table, notes, term)?;
-    let Note {
-        occurs,
-        primed,
-        fault,
-        fair: _,
-    } = read_text(alloc, table, notes, term)?;
-    Ok(Note {
-        occurs,
-        primed,
-        fault,
-        fair,
-    })
+    told_by(alloc, table, notes, term)
 }
 
 /// The first fault of an assumption: what is wrong in its term, and that it is no constant.
@@ -57,16 +44,16 @@ pub fn assumption_fault(
     Ok(held(note.fault, term.at, Level::Constant, term.level))
 }
 
-/// The notes of a table's definitions, by their numbers.
+/// The notes of a table's definitions, by their numbers. The bodies are read in turn until none tells more than its note.
 pub fn notes(alloc: Global, table: &[Operator]) -> Result<Vec<Note>, NoMemory>
     requires { UsesSmaller table.now }
     ensures noted { IfOk result (λ ns. AreNotes table.now ns.items) }
     ensures all { IfOk result (λ ns. vec_len ns ≡ length table.now) }
 {
-    let mut notes = Vec::new(alloc);
-    for operator in table {
-        let note = note_of(alloc, table, &notes, &operator.body)?;
-        notes.push(note)?;
+    let mut notes = all_untold(alloc, table.len())?;
+    loop {
+        if !read_all(alloc, table, &mut notes)? {
+            return Ok(notes);
+        }
     }
-    Ok(notes)
 }

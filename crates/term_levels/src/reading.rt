@@ -2,7 +2,6 @@
 
 ghost use Rattle.std.specs.Prelude.{◌≡◌, ◌≤◌, ◌<◌, ◌||◌, ◌++◌, ℕ, Contains, OnOk, IfOk, length};
 ghost use Rattle.term_levels.specs.Findings.{Adds, LetFinds, LetsFind, NamedFinds, Reads, ReadsUse, SlotFinds, IsTold};
-ghost use Rattle.term_levels.specs.Notes.{AreNotes};
 ghost use Rattle.term_parts.specs.Parts.{part};
 ghost use Rattle.term_parts.specs.Slots.{MentionsBelow};
 ghost use Rattle.term_levels.specs.Arguments.{argued, argued_from, arguments_from, earlier_of, TakesIn};
@@ -97,15 +96,15 @@ fn read_named(
     primed: bool,
     number: usize,
 ) -> Result<(), NoMemory>
-    requires noted { AreNotes table.now notes.now }
     requires known { length notes.now ≤ length table.now }
     requires below { number < length notes.now }
-    ensures { OnOk result (Adds (NamedFinds table.now primed number) note.old note.new) }
+    ensures { OnOk result (Adds (NamedFinds table.now notes.now primed number) note.old note.new) }
 {
     absorb(note, &notes[number], table[number].outer, primed)
 }
 
-fn read_fault(note: &mut Note, fault: Option<LevelFault>)
+/// Keeps the earlier of the note's fault and another.
+pub fn read_fault(note: &mut Note, fault: Option<LevelFault>)
     ensures { note.new ≡ record note.old { fault = earlier_of note.old.fault fault } }
 {
     if let Some(fault) = fault {
@@ -120,10 +119,9 @@ fn read_definition(
     primed: bool,
     number: usize,
 ) -> Result<(), NoMemory>
-    requires noted { AreNotes table.now notes.now }
     requires known { length notes.now ≤ length table.now }
     requires below { number < length notes.now }
-    ensures { OnOk result (Adds (LetFinds table.now primed number) note.old note.new) }
+    ensures { OnOk result (Adds (LetFinds table.now notes.now primed number) note.old note.new) }
 {
     read_named(table, notes, note, primed, number)?;
     read_fault(note, notes[number].fault);
@@ -137,10 +135,9 @@ fn read_let(
     primed: bool,
     numbers: &DefIds,
 ) -> Result<(), NoMemory>
-    requires noted { AreNotes table.now notes.now }
     requires known { length notes.now ≤ length table.now }
     requires below { (k : ℕ) → Contains numbers.now k → k < length notes.now }
-    ensures { OnOk result (Adds (LetsFind table.now primed numbers.now) note.old note.new) }
+    ensures { OnOk result (Adds (LetsFind table.now notes.now primed numbers.now) note.old note.new) }
 {
     for index in 0..numbers.len() {
         match numbers.get(index) {
@@ -161,10 +158,9 @@ fn read_use<'a>(
     number: usize,
     arguments: &'a [Term],
 ) -> Result<(), NoMemory>
-    requires noted { AreNotes table.now notes.now }
     requires known { length notes.now ≤ length table.now }
     requires below { number < length notes.now }
-    ensures { OnOk result (ReadsUse table.now primed number arguments.now (waiting stack.old.items) (waiting stack.new.items) note.old note.new) }
+    ensures { OnOk result (ReadsUse table.now notes.now primed number arguments.now (waiting stack.old.items) (waiting stack.new.items) note.old note.new) }
 {
     read_named(table, notes, note, primed, number)?;
     let outer = table[number].outer;
@@ -182,10 +178,9 @@ fn read<'a>(
     term: &'a Term,
     primed: bool,
 ) -> Result<(), NoMemory>
-    requires noted { AreNotes table.now notes.now }
     requires known { length notes.now ≤ length table.now }
     requires below { MentionsBelow (length notes.now) term.now }
-    ensures { OnOk result (Reads table.now (length notes.now) (part primed term.now) (waiting stack.old.items) (waiting stack.new.items) note.old note.new) }
+    ensures { OnOk result (Reads table.now notes.now (length notes.now) (part primed term.now) (waiting stack.old.items) (waiting stack.new.items) note.old note.new) }
 {
     let node = &*term.node;
     note.fault = check_limits(note.fault, term.at, node);
@@ -202,17 +197,16 @@ fn read<'a>(
     }
 }
 
-/// The note of a text whose definitions have their notes, without whether it means fairness.
+/// What is told of a text where notes tell of its definitions, without whether it means fairness.
 pub fn read_text(
     alloc: Global,
     table: &[Operator],
     notes: &[Note],
     term: &Term,
 ) -> Result<Note, NoMemory>
-    requires noted { AreNotes table.now notes.now }
     requires known { length notes.now ≤ length table.now }
     requires below { MentionsBelow (length notes.now) term.now }
-    ensures { IfOk result (λ n. IsTold table.now term.now n) }
+    ensures { IfOk result (λ n. IsTold table.now notes.now term.now n) }
 {
     let mut note = Note {
         occurs: Slots::new(alloc),

@@ -1,7 +1,7 @@
 use std::alloc::{AllocError, Global};
 use std::rt::HostRuntime;
 use term_parts::{mentions_below, uses_smaller};
-use tla_terms::{DefId, DefIds, Level, Operator, Term, TermNode, Terms};
+use tla_terms::{DefId, DefIds, Level, Operator, Own, Term, TermNode, Terms};
 use trace_base::{Place, Text};
 
 fn term(alloc: Global, node: TermNode) -> Result<Term, AllocError> {
@@ -40,6 +40,7 @@ fn define(alloc: Global, table: &mut Vec<Operator>, node: TermNode) -> Result<()
         outer: 0,
         params: 0,
         level: Level::Temporal,
+        own: Own::Apart,
         body,
     })?;
     Ok(())
@@ -63,9 +64,32 @@ fn ordered(alloc: Global) -> Result<bool, AllocError> {
     Ok(before && !uses_smaller(alloc, &table)?)
 }
 
+/// A definition that uses itself, with a body of this level.
+fn recursive(alloc: Global, level: Level) -> Result<bool, AllocError> {
+    let at = Place {
+        file: 0,
+        line: 1,
+        col: 60,
+    };
+    let node = TermNode::Use(DefId(0), Terms::new(alloc));
+    let body = Term::new(alloc, at, level, node)?;
+    let mut table = Vec::new(alloc);
+    table.push(Operator {
+        name: Text::from_text(alloc, "")?,
+        outer: 0,
+        params: 0,
+        level,
+        own: Own::Itself,
+        body,
+    })?;
+    uses_smaller(alloc, &table)
+}
+
 #[test]
 fn definitions_of_smaller_numbers(rt: HostRuntime) {
     let alloc = rt.alloc();
     assert!(rt; mentioned(alloc) == Ok(true));
     assert!(rt; ordered(alloc) == Ok(true));
+    assert!(rt; recursive(alloc, Level::Constant) == Ok(true));
+    assert!(rt; recursive(alloc, Level::State) == Ok(false));
 }

@@ -8,7 +8,7 @@ use Rattle.tla_terms.specs.declared.operator.Operator.{Operator}
 use Rattle.tla_terms.specs.Terms as term
 use Rattle.tla_terms.specs.Terms.{Term, Placed, Meaning, meaning_of}
 use Rattle.term_parts.specs.Parts.{Part, part, parts}
-use Rattle.term_parts.specs.Slots.{Mentions, used, listed_in_let, mentioned_in_part, MentionsBelow, UsesSmaller}
+use Rattle.term_parts.specs.Slots.{Mentions, used, listed_in_let, mentioned_in_part, MentionsBelow, IsInOrder, UsesSmaller}
 use Rattle.term_parts.specs.Special.{IsOwnBelow}
 use Rattle.term_parts.specs.Weights.{weight, total}
 use Rattle.std.proofs.lemmas.Bool.{cases_lt}
@@ -77,17 +77,17 @@ below_ends n e stack q way = way.suffices (λ p c. let P : List Part → Type 0 
 pub own_let : (n : ℕ) (m : Meaning) (ks : List ℕ) (e : Term) (b : Bool) → m ≡ term.Scoped ks e → IsTrue b ↔ ((k : ℕ) → Contains ks k → k < n) → IsTrue b ↔ IsOwnBelow n m
 own_let n m ks e b q h = subst (λ (y : Meaning). IsTrue b ↔ IsOwnBelow n y) (sym q) h
 
-pub smaller_more : (ops : List Operator) (n : ℕ) (o : Operator) → ((k : ℕ) (p : Operator) → k < n → slice_get ops k ≡ Some p → MentionsBelow k p.body) → slice_get ops n ≡ Some o → MentionsBelow n o.body → (k : ℕ) (p : Operator) → k < n + 1 → slice_get ops k ≡ Some p → MentionsBelow k p.body
-smaller_more ops n o before is here k p lt is_p = elim (cases_lt k n) [
+pub smaller_more : (ops : List Operator) (count n : ℕ) (o : Operator) → ((k : ℕ) (p : Operator) → k < n → slice_get ops k ≡ Some p → IsInOrder count k p.own p.body) → slice_get ops n ≡ Some o → IsInOrder count n o.own o.body → (k : ℕ) (p : Operator) → k < n + 1 → slice_get ops k ≡ Some p → IsInOrder count k p.own p.body
+smaller_more ops count n o before is here k p lt is_p = elim (cases_lt k n) [
   | inl below ↦ before k p below is_p
   | inr above ↦
       let same_number : n ≡ k = omega arith in
       let same : o ≡ p = some_same (sym is ∙ ap (slice_get ops) same_number ∙ is_p) in
-      subst (λ (y : ℕ). MentionsBelow y p.body) same_number (subst (λ (y : Operator). MentionsBelow n y.body) same here)
+      subst (λ (y : ℕ). IsInOrder count y p.own p.body) same_number (subst (λ (y : Operator). IsInOrder count n y.own y.body) same here)
 ]
   where
     some_same : {a b : Operator} → Some a ≡ Some b → a ≡ b
     some_same e = cc
 
-pub smaller_all : (ops : List Operator) (n : ℕ) → length ops ≤ n → ((k : ℕ) (p : Operator) → k < n → slice_get ops k ≡ Some p → MentionsBelow k p.body) → UsesSmaller ops
+pub smaller_all : (ops : List Operator) (n : ℕ) → length ops ≤ n → ((k : ℕ) (p : Operator) → k < n → slice_get ops k ≡ Some p → IsInOrder (length ops) k p.own p.body) → UsesSmaller ops
 smaller_all ops n all before k o is = let lt : k < length ops = item_within ops k o is in before k o (omega arith) is

@@ -4,7 +4,7 @@ use Rattle.std.specs.Prelude.{◌⊎◌, ◌==◌, ◌||◌, ◌&&◌, ◌+◌, 
 use Rattle.std.proofs.lemmas.Bool.{cases_lt}
 use Rattle.std.proofs.lemmas.Bool.Decides.{nat_tests}
 use Rattle.std.proofs.lemmas.List.{get_or_past}
-use Rattle.term_parts.specs.Marks.{Absorbs, has}
+use Rattle.term_parts.specs.Marks.{Absorbs, Lacks, has}
 
 pub absorbs_none : (old other : List Bool) → Absorbs 0 old other old
 absorbs_none old other = record {
@@ -52,6 +52,23 @@ absorbs_more n old other now new h taken = record {
     | inr old_one ↦ elim (h.sound i old_one) [ inl o ↦ inl o | inr p ↦ let lt : i < n = p.0 in inr ((omega arith), p.1) ]
   ];
 }
+
+-- a marked slot is within the marks
+pub has_within : (marks : List Bool) (i : ℕ) → has marks i ≡ true → i < length marks
+has_within marks i h = elim (cases_lt i (length marks)) [
+  | inl under ↦ under
+  | inr over ↦ absurd (true_false (sym h ∙ get_or_past marks i false over))
+]
+  where
+    true_false : true ≡ false → ⊥
+    true_false q = cc
+
+-- a set that has all slots of another before the end of it
+pub lacks_none : (n : ℕ) (marks other : List Bool) → length other ≤ n → ((i : ℕ) → i < n → has other i ≡ true → has marks i ≡ true) → Lacks marks other → ⊥
+lacks_none n marks other end h l =
+    let lt : l.0 < length other = has_within other l.0 l.1 in
+    let on : has marks l.0 ≡ true = h l.0 (omega (arith, lt, end)) l.1 in
+    absurd (let q : true ≡ false = sym on ∙ l.2 in cc)
 
 -- no slot is marked behind the marks
 pub absorbs_all : (n below : ℕ) (old other new : List Bool) → n ≤ below → ((n ≡ below) ⊎ (length other ≤ n)) → Absorbs n old other new → Absorbs below old other new

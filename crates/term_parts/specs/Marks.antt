@@ -4,6 +4,10 @@ use Rattle.std.specs.Prelude.{◌≡◌, ◌⊎◌, ◌<◌, ℕ, Bool, true, fa
 abbrev pub has : List Bool → ℕ → Bool
 has marks slot = slice_index_or marks slot false
 
+-- the second set has a slot that the first has not
+abbrev pub Lacks : List Bool → List Bool → Type 0
+Lacks marks other = (i : ℕ) × (has other i ≡ true) × (has marks i ≡ false)
+
 -- the slots of another set below a bound are added
 pub record Absorbs (below : ℕ) (old other new : List Bool) : Type 0 where
   pub kept : (i : ℕ) → has old i ≡ true → has new i ≡ true

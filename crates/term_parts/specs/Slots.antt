@@ -1,9 +1,12 @@
 -- Which definitions a term uses, which slots stand in it, and which of them stand under a prime.
-use Rattle.std.specs.Prelude.{◌≡◌, ◌<◌, ◌+◌, ℕ, true, false, List, Contains, Some, slice_get}
+use Rattle.std.specs.Prelude.{◌≡◌, ◌<◌, ◌+◌, ℕ, true, false, List, Contains, Some, length, slice_get}
 use Rattle.trace_base.specs.declared.place.Place.{Place}
 use Rattle.tla_terms.specs.declared.level.Level.{Level}
+use Rattle.tla_terms.specs.declared.level.Level.TheVariants.{Constant}
 use Rattle.tla_terms.specs.declared.operator.Operator.{Operator}
-use Rattle.tla_terms.specs.Terms.{Term, Placed, Meaning, Slot, Use, Scoped, Terms}
+use Rattle.tla_terms.specs.declared.operator.Own.{Own}
+use Rattle.tla_terms.specs.declared.operator.Own.TheVariants.{Apart}
+use Rattle.tla_terms.specs.Terms.{Term, Placed, Meaning, Slot, Use, Scoped, Terms, level_of}
 use Rattle.term_parts.specs.Parts.{Part, parts, listed}
 
 -- the definition of that number is used in the term, or is one of a LET in it
@@ -16,9 +19,15 @@ pub data Mentions : Term → ℕ → Type 0 where
 abbrev pub MentionsBelow : ℕ → Term → Type 0
 MentionsBelow n e = (k : ℕ) → Mentions e k → k < n
 
--- each definition uses those of smaller numbers alone
+-- the body of the definition of that number uses definitions of smaller numbers alone; where it uses itself, directly or through others, it is constant and
+-- may use any of so many
+abbrev pub IsInOrder : ℕ → ℕ → Own → Term → Type 0
+IsInOrder count k Apart body = MentionsBelow k body
+IsInOrder count k own body = (level_of body ≡ Constant) × MentionsBelow count body
+
+-- each definition is so
 abbrev pub UsesSmaller : List Operator → Type 0
-UsesSmaller ops = (k : ℕ) (o : Operator) → slice_get ops k ≡ Some o → MentionsBelow k o.body
+UsesSmaller ops = (k : ℕ) (o : Operator) → slice_get ops k ≡ Some o → IsInOrder (length ops) k o.own o.body
 
 -- The slot stands in the term: in its text, with the definitions of its LETs, used or not; and in the definition of a LET where that is
 -- used. Of the slots of a definition those around it alone are slots of the term.

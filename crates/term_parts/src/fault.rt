@@ -45,7 +45,8 @@ fn standing(fault: LevelFault) -> [u32; 6]
     }
 }
 
-fn is_before(fault: LevelFault, other: LevelFault) -> bool
+/// Whether a fault stands before another in the order of the text.
+pub fn is_before(fault: LevelFault, other: LevelFault) -> bool
     ensures { result ≡ is_before fault other }
 {
     standing(fault) < standing(other)

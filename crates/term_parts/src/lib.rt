@@ -9,7 +9,7 @@ mod pending;
 mod slots;
 mod special;
 
-pub use fault::{LevelFault, earlier, held, is_above};
+pub use fault::{LevelFault, earlier, held, is_above, is_before};
 pub use limits::check_limits;
 pub use ordered::{mentions_below, uses_smaller};
 pub use pending::{Pending, push, push_parts, push_terms};

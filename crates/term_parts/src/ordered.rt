@@ -1,14 +1,16 @@
 //! Whether definitions use those of smaller numbers alone.
 
-ghost use Rattle.std.specs.Prelude.{◌↔◌, ◌<◌, ℕ, Contains, IfOk, IsTrue};
+ghost use Rattle.std.specs.Prelude.{◌≡◌, ◌↔◌, ◌<◌, ℕ, Contains, IfOk, IsTrue};
+ghost use Rattle.tla_terms.specs.declared.level.Level.TheVariants.{Constant};
 ghost use Rattle.tla_terms.specs.TermViews.{node_view};
-ghost use Rattle.term_parts.specs.Slots.{MentionsBelow, UsesSmaller};
+ghost use Rattle.tla_terms.specs.Terms.{level_of};
+ghost use Rattle.term_parts.specs.Slots.{IsInOrder, MentionsBelow, UsesSmaller};
 ghost use Rattle.term_parts.specs.Special.{IsOwnBelow};
 
 use crate::pending::{push, push_parts};
 use crate::special::{Special, special_of};
 use std::alloc::Global;
-use tla_terms::{DefIds, Operator, Term, TermNode};
+use tla_terms::{DefIds, Level, Operator, Own, Term, TermNode};
 use trace_base::NoMemory;
 
 fn are_below(count: usize, numbers: &DefIds) -> bool
@@ -55,12 +57,39 @@ pub fn mentions_below(alloc: Global, count: usize, term: &Term) -> Result<bool, 
     Ok(true)
 }
 
-/// Whether each definition of a table uses those of smaller numbers alone.
+/// Whether a body is constant, and uses the definitions below a number alone.
+fn is_recursive(alloc: Global, count: usize, body: &Term) -> Result<bool, NoMemory>
+    ensures { IfOk result (λ b. IsTrue b ↔ ((level_of body.now ≡ Constant) × MentionsBelow count body.now)) }
+{
+    match body.level {
+        Level::Constant => mentions_below(alloc, count, body),
+        Level::State | Level::Action | Level::Temporal => Ok(false),
+    }
+}
+
+/// Whether the definition of a number, of so many, stands in order.
+fn is_in_order(
+    alloc: Global,
+    count: usize,
+    number: usize,
+    operator: &Operator,
+) -> Result<bool, NoMemory>
+    ensures { IfOk result (λ b. IsTrue b ↔ IsInOrder count number operator.now.own operator.now.body) }
+{
+    match operator.own {
+        Own::Apart => mentions_below(alloc, number, &operator.body),
+        Own::Itself => is_recursive(alloc, count, &operator.body),
+        Own::Function => is_recursive(alloc, count, &operator.body),
+    }
+}
+
+/// Whether each definition of a table that does not use itself uses those of smaller numbers alone.
 pub fn uses_smaller(alloc: Global, table: &[Operator]) -> Result<bool, NoMemory>
     ensures { IfOk result (λ b. IsTrue b ↔ UsesSmaller table.now) }
 {
+    let count = table.len();
     for (number, operator) in table.iter().enumerate() {
-        if !mentions_below(alloc, number, &operator.body)? {
+        if !is_in_order(alloc, count, number, operator)? {
             return Ok(false);
         }
     }

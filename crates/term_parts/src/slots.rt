@@ -1,7 +1,7 @@
 //! Sets of slots.
 
-ghost use Rattle.std.specs.Prelude.{◌≡◌, ◌==◌, ◌+◌, ◌||◌, ◌&&◌, ℕ, [], OnOk, length};
-ghost use Rattle.term_parts.specs.Marks.{Absorbs, has};
+ghost use Rattle.std.specs.Prelude.{◌≡◌, ◌==◌, ◌↔◌, ◌+◌, ◌||◌, ◌&&◌, ℕ, [], IsTrue, OnOk, length};
+ghost use Rattle.term_parts.specs.Marks.{Absorbs, Lacks, has};
 
 use std::alloc::Global;
 use std::marker::Model;
@@ -71,6 +71,25 @@ impl Slots {
             return self.add(slot);
         }
         Ok(())
+    }
+
+    /// Whether another set has a slot that this one has not.
+    pub fn lacks(&self, other: &Slots) -> bool
+        ensures { IsTrue result ↔ Lacks self.now other.now }
+    {
+        for slot in 0..other.count() {
+            if other.has(slot) && !self.has(slot) {
+                return true;
+            }
+        }
+        false
+    }
+
+    /// Adds the slots of another set.
+    pub fn join(&mut self, other: &Slots) -> Result<(), NoMemory>
+        ensures { OnOk result (Absorbs (length other.now) self.old other.now self.new) }
+    {
+        self.absorb(other, other.count())
     }
 
     /// Adds the slots of another set that are below a bound.

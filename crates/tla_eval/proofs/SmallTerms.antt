@@ -10,6 +10,7 @@ use Rattle.tla_ast.specs.declared.operators.Quantifier.TheVariants.{Exists}
 use Rattle.tla_terms.specs.declared.level.Level.TheVariants as levels
 use Rattle.tla_terms.specs.declared.standard.NamedSet.TheVariants as sets
 use Rattle.tla_terms.specs.declared.operator.Operator.{Operator}
+use Rattle.tla_terms.specs.declared.operator.Own.TheVariants.{Apart}
 use Rattle.tla_terms.specs.Terms.{Term, Meaning, Placed, Known, Named, Infix, First, Next, NoTerms, MoreTerms, Variable, Slot, Use, Prefix, Postfix, NoSteps, MoreSteps, Prime, Index, Tuple, Quantified, Choose, NoBounds, MoreBounds, Case, NoArms, MoreArms, Except, NoChanges, MoreChanges}
 use Rattle.eval_sets.specs.DescribedSets as described
 use Rattle.eval_sets.specs.DescribedSets.{Listed}
@@ -52,7 +53,7 @@ next = (integer (pos 2), refl, refl)
 
 -- a definition of a LET under one bound name, used under two: it sees the first alone
 abbrev inner : Operator
-inner = record { name = []; outer = 1; params = 0; level = levels.Constant; body = constant 7 (Slot 0) }
+inner = record { name = []; outer = 1; params = 0; level = levels.Constant; own = Apart; body = constant 7 (Slot 0) }
 
 pub handed_on : Evaluates (inner ∷ []) 2 (record { slots = integer (pos 5) ∷ integer (pos 6) ∷ []; now = []; next = [] }) (constant 9 (Use 0 NoTerms)) (Ok (integer (pos 5)))
 handed_on = inl (Listed (integer (pos 5)), (inner, refl, inl (integer (pos 5), (integer (pos 5), refl, refl), refl)), refl)
@@ -85,7 +86,7 @@ not_finite = inl (described.Nat, refl, (0, refl, refl))
 
 -- UNCHANGED vars, where vars == <<x>>, under a bound name
 abbrev vars : Operator
-vars = record { name = 118 ∷ []; outer = 0; params = 0; level = levels.State; body = Placed (at 7) levels.State (Tuple (MoreTerms NoTerms (Placed (at 9) levels.State (Variable 0)))) }
+vars = record { name = 118 ∷ []; outer = 0; params = 0; level = levels.State; own = Apart; body = Placed (at 7) levels.State (Tuple (MoreTerms NoTerms (Placed (at 9) levels.State (Variable 0)))) }
 
 pub same_tuple : Evaluates (vars ∷ []) 4 (record { slots = integer (pos 5) ∷ []; now = Some (integer (pos 1)) ∷ []; next = Some (integer (pos 1)) ∷ [] }) (Placed (at 2) levels.Action (Prefix Unchanged (Placed (at 12) levels.State (Use 0 NoTerms)))) (Ok (truth true))
 same_tuple =

@@ -5,8 +5,10 @@ use Rattle.std.proofs.lemmas.Option.{slice_get_within}
 use Rattle.tla_ast.specs.declared.expr.Definition.{Definition}
 use Rattle.tla_ast.specs.declared.module.Program.{Program}
 use Rattle.tla_terms.specs.declared.operator.Operator.{Operator}
+use Rattle.term_parts.specs.Slots.{MentionsBelow, UsesSmaller}
+use Rattle.term_parts.proofs.Ordering.{body_within}
 use Rattle.tla_program.specs.InUnits.{definitions_in}
-use Rattle.tla_program.specs.Names.{definition_index, numbers_of}
+use Rattle.tla_program.specs.Names.{Numbers, definition_index, numbers_of}
 use Rattle.tla_tables.specs.declared.table.Table.{Table}
 use Rattle.tla_levels.specs.Givens.{row_of}
 use Rattle.tla_levels.specs.Configured.{definition_of, if_alone, missing, operator_for, operator_named, row_named, unless_there}
@@ -54,3 +56,16 @@ not_unnumbered p t n i h e at q =
     let there : numbers_of t.numbers.items i ≡ Some r.0 = subst (λ (x : ℕ). numbers_of t.numbers.items x ≡ Some r.0) same r.2 in
     let bad : None ≡ Some r.0 = sym q ∙ there in
     absurd (cc)
+
+-- the body of an operator that is found uses definitions of the table alone
+pub operator_within : (p : Program) (number : Numbers) (ops : List Operator) (n : List ℕ) (o : Operator) → UsesSmaller ops → operator_for p number ops n ≡ Some o
+    → MentionsBelow (length ops) o.body
+operator_within p number ops n o ordered found = of_index (definition_index p n) found
+  where
+    of_row : (row : Option ℕ) → row_of ops row ≡ Some o → MentionsBelow (length ops) o.body
+    of_row None e = absurd (cc)
+    of_row (Some k) e = body_within ops k o ordered e
+
+    of_index : (index : Option ℕ) → row_named number ops index ≡ Some o → MentionsBelow (length ops) o.body
+    of_index None e = absurd (cc)
+    of_index (Some i) e = of_row (number i) e

@@ -4,6 +4,7 @@ use Rattle.std.specs.Prelude.{◌⊎◌, slice_get, ℕ, zero, suc, ◌+◌, Boo
 use Rattle.std.specs.Str.{bytes_eq}
 use Rattle.tla_terms.specs.declared.ids.DefId.{DefId}
 use Rattle.tla_terms.specs.declared.operator.Operator.{Operator}
+use Rattle.tla_terms.specs.declared.operator.Own.TheVariants.{Apart}
 use Rattle.tla_scopes.specs.declared.scope.Local.{Local}
 use Rattle.tla_scopes.specs.declared.scope.Local.TheVariants.{Bound, Defined}
 use Rattle.tla_scopes.specs.declared.meant.Meant.{Meant}
@@ -14,6 +15,7 @@ use Rattle.tla_scopes.specs.Standing.{IsIn, AreIn, LocalsIn, AddsSlots}
 use Rattle.tla_scopes.specs.Scopes.{later, named, bound_from, bound, among}
 use Rattle.tla_scopes.proofs.ScopeLemmas.{one_slot}
 use Rattle.term_parts.specs.Slots.{MentionsBelow, UsesSmaller}
+use Rattle.term_parts.proofs.Ordering.{smaller_pushed}
 use Rattle.tla_names.specs.Around.{Around, IsAround}
 use Rattle.tla_names.specs.Outcomes.{IsSought, unless_unnamed, named_in, IsOrdered, KeepsOrder}
 
@@ -80,25 +82,12 @@ longer : (table : List Operator) (o : Operator) → length (table ++ o ∷ []) �
 longer [] o = refl
 longer (x ∷ table) o = let r : length (table ++ o ∷ []) ≡ length table + 1 = longer table o in omega (arith, r)
 
--- what stands in a longer table
-pushed_at : (xs : List Operator) (x : Operator) (k : ℕ) (p : Operator) → slice_get (xs ++ x ∷ []) k ≡ Some p → (slice_get xs k ≡ Some p) ⊎ ((k ≡ length xs) × (x ≡ p))
-pushed_at [] x zero p e = inr (refl, cc)
-pushed_at [] x (suc k) p e = absurd (cc)
-pushed_at (y ∷ xs) x zero p e = inl e
-pushed_at (y ∷ xs) x (suc k) p e = elim (pushed_at xs x k p e) [ inl a ↦ inl a | inr b ↦ inr (ap suc b.0, b.1) ]
-
 unless_same : (n : List ℕ) (o : Operator) (os ps : List Operator) → os ≡ ps → unless_unnamed n o os ≡ unless_unnamed n o ps
 unless_same n o os ps e = ap (unless_unnamed n o) e
 
 pub named_pushed : (table : List Operator) (o : Operator) → o.name ≡ [] → named_in (table ++ o ∷ []) ≡ named_in table
 named_pushed [] o n = ap (λ (m : List ℕ). unless_unnamed m o []) n
 named_pushed (x ∷ table) o n = unless_same x.name x (named_in (table ++ o ∷ [])) (named_in table) (named_pushed table o n)
-
-smaller_pushed : (table : List Operator) (o : Operator) → UsesSmaller table → MentionsBelow (length table) o.body → UsesSmaller (table ++ o ∷ [])
-smaller_pushed table o h below k p e = elim (pushed_at table o k p e) [
-  | inl a ↦ h k p a
-  | inr b ↦ subst (λ (i : ℕ). MentionsBelow i p.body) (sym b.0) (subst (λ (q : Operator). MentionsBelow (length table) q.body) b.1 below)
-]
 
 -- An order.
 
@@ -111,10 +100,10 @@ unfolding IsOrdered
 smaller_by table h = h
 
 -- one more definition, which uses those before it alone
-pub order_kept : (a : Around) (names : List Entry) (sc : List Local) (table new : List Operator) (o : Operator) → record { here = record { names = names; scope = sc }; table = table } ≡ a → new ≡ table ++ o ∷ [] → MentionsBelow (length table) o.body → KeepsOrder a.table new
-order_kept a names sc table new o v p below h =
+pub order_kept : (a : Around) (names : List Entry) (sc : List Local) (table new : List Operator) (o : Operator) → record { here = record { names = names; scope = sc }; table = table } ≡ a → new ≡ table ++ o ∷ [] → o.own ≡ Apart → MentionsBelow (length table) o.body → KeepsOrder a.table new
+order_kept a names sc table new o v p apart below h =
     let before : IsOrdered table = subst (λ (x : Around). IsOrdered x.table) (sym v) h in
-    subst (λ (x : List Operator). IsOrdered x) (sym p) (ordered_by (table ++ o ∷ []) (smaller_pushed table o (smaller_by table before) below))
+    subst (λ (x : List Operator). IsOrdered x) (sym p) (ordered_by (table ++ o ∷ []) (smaller_pushed table o (smaller_by table before) apart below))
 
 pub around_more : (names : List Entry) (sc : List Local) (table : List Operator) (o : Operator) → IsAround names sc table → IsAround names sc (table ++ o ∷ [])
 around_more names sc table o h =

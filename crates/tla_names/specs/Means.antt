@@ -14,6 +14,7 @@ use Rattle.tla_terms.specs.declared.standard.NamedSet.{NamedSet}
 use Rattle.tla_terms.specs.declared.standard.NamedSet.TheVariants as sets
 use Rattle.tla_terms.specs.declared.ids.DefId.{DefId}
 use Rattle.tla_terms.specs.declared.operator.Operator.{Operator}
+use Rattle.tla_terms.specs.declared.operator.Own.TheVariants.{Apart}
 use Rattle.tla_terms.specs.Terms as term
 use Rattle.tla_terms.specs.Terms.{Term, Meaning, Terms, Placed, level_of}
 use Rattle.tla_scopes.specs.declared.scope.Local.{Local}
@@ -53,7 +54,7 @@ chain o os e = term.Infix o os e
 
 -- the definition of a LET as one of the table
 abbrev pub local_operator : ℕ → ℕ → Term → Operator
-local_operator around own body = record { name = []; outer = around; params = own; level = level_of body; body = body }
+local_operator around own body = record { name = []; outer = around; params = own; level = level_of body; own = Apart; body = body }
 
 module _ (names : List Entry) (ops : List Operator) where
   -- the term has the place of the tree and the level of its meaning

@@ -17,7 +17,7 @@ use std::alloc::Global;
 use std::marker::Model;
 use tla_ast::Bounds;
 use tla_scopes::{Local, Meant, ProgramNames, Scope, level_for};
-use tla_terms::{DefId, Operator, Operators, Term, TermNode};
+use tla_terms::{DefId, Operator, Operators, Own, Term, TermNode};
 use trace_base::{NoMemory, Place, Text};
 
 /// The names of the program, those that are bound around the place, and the table of definitions so far. Each definition that a name means stands
@@ -137,6 +137,7 @@ impl<'a> Walk<'a> {
             outer,
             params,
             level: body.level,
+            own: Own::Apart,
             body,
         })?;
         self.scope

@@ -33,7 +33,8 @@ use Rattle.tla_tables.specs.NameFaults.{HasFineNames}
 use Rattle.tla_tables.specs.Tables.{IsTable, IsTabled, StaysTable, unit_operator}
 use Rattle.tla_tables.specs.UnitComplaints.{AreUses}
 use Rattle.tla_tables.proofs.NamesKept.{has_more, with_cases}
-use Rattle.tla_tables.proofs.Places.{grows_by, grows_none, grows_on, last_stands, named_before, pushed_at, smaller_pushed, stays_at}
+use Rattle.term_parts.proofs.Ordering.{smaller_pushed}
+use Rattle.tla_tables.proofs.Places.{grows_by, grows_none, grows_on, last_stands, named_before, pushed_at, stays_at}
 use Rattle.tla_tables.proofs.ProgramTakes.{fine_there}
 use Rattle.tla_tables.proofs.UnitPlaces.{fine_definition}
 
@@ -127,7 +128,7 @@ is_added by_definition index d old new body middle o number grown smaller unname
       unnamed = unnamed;
       pushed = whole;
       means = means;
-      smaller = subst (λ (l : List Operator). UsesSmaller l) (sym whole) (smaller_pushed middle (unit_operator d body) smaller below);
+      smaller = subst (λ (l : List Operator). UsesSmaller l) (sym whole) (smaller_pushed middle (unit_operator d body) smaller refl below);
       as_many = ap length numbers ∙ length-set old.numbers.items index (Some number);
       numbers = λ i. ap (λ (l : List (Option ℕ)). numbers_of l i) numbers ∙ ap (λ (k : ℕ). numbers_of (set old.numbers.items index (Some k)) i) n ∙ set_number old.numbers.items index (length middle) i lt;
       are = λ p c values lists none a. subst (λ (k : ℕ). AreNames p c values (with_number (numbers_of old.numbers.items) index k) new.names) n (are p c values (numbers_of old.numbers.items) lists none a);

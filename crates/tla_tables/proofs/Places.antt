@@ -4,7 +4,7 @@ use Rattle.std.specs.Borrow.{Bor}
 use Rattle.std.specs.Prelude.{ℕ, zero, suc, Some, option_map, slice_get}
 use Rattle.std.proofs.lemmas.Option.{slice_get-map, slice_get_read}
 use Rattle.tla_terms.specs.declared.operator.Operator.{Operator}
-use Rattle.term_parts.specs.Slots.{MentionsBelow, UsesSmaller}
+use Rattle.term_parts.specs.Slots.{UsesSmaller}
 use Rattle.tla_names.specs.Outcomes.{Grows, named_in, unless_unnamed}
 
 pub left_stands : {A : Type 0} (xs ys : List A) (k : ℕ) (x : A) → slice_get xs k ≡ Some x → slice_get (xs ++ ys) k ≡ Some x
@@ -32,12 +32,6 @@ read_at items xs i x e lt at =
     subst (λ l. slice_get l i ≡ Some x.now) e (slice_get-map (λ d. d.now) items i ∙ ap (option_map (λ d. d.now)) (slice_get_read items (length items) i x refl lt at))
 
 -- Tables of definitions.
-
-pub smaller_pushed : (table : List Operator) (o : Operator) → UsesSmaller table → MentionsBelow (length table) o.body → UsesSmaller (table ++ o ∷ [])
-smaller_pushed table o h below k p e = elim (pushed_at table o k p e) [
-  | inl a ↦ h k p a
-  | inr b ↦ subst (λ (i : ℕ). MentionsBelow i p.body) b.0 (subst (λ (q : Operator). MentionsBelow (length table) q.body) b.1 below)
-]
 
 pub grows_on : (a b c : List Operator) → Grows a b → Grows b c → Grows a c
 grows_on a b c g h = (g.0 ++ h.0, h.1 ∙ ap (λ (l : List Operator). l ++ h.0) g.1 ∙ append_assoc a g.0 h.0)

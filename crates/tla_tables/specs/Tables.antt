@@ -6,6 +6,7 @@ use Rattle.tla_ast.specs.declared.config.Config.{Config}
 use Rattle.tla_ast.specs.declared.expr.Definition.{Definition}
 use Rattle.tla_ast.specs.declared.module.Program.{Program}
 use Rattle.tla_terms.specs.declared.operator.Operator.{Operator}
+use Rattle.tla_terms.specs.declared.operator.Own.TheVariants.{Apart}
 use Rattle.tla_terms.specs.Terms.{Term, level_of}
 use Rattle.term_parts.specs.Slots.{UsesSmaller}
 use Rattle.tla_scopes.specs.declared.meant.Entry.{Entry}
@@ -23,7 +24,7 @@ pub record MeansThere (p : Program) (c : Config) (values : List Val) (number : N
 
 -- a definition of a unit as one of the table
 abbrev pub unit_operator : Definition → Term → Operator
-unit_operator d body = record { name = d.name; outer = 0; params = length d.params; level = level_of body; body = body }
+unit_operator d body = record { name = d.name; outer = 0; params = length d.params; level = level_of body; own = Apart; body = body }
 
 -- The definition of that index stands in the table under its number.
 pub record IsTabled (p : Program) (c : Config) (values : List Val) (number : Numbers) (ops : List Operator) (i : ℕ) (d : Definition) : Type 0 where
@@ -33,7 +34,8 @@ pub record IsTabled (p : Program) (c : Config) (values : List Val) (number : Num
   pub stands : slice_get ops row ≡ Some (unit_operator d body)
   pub means : MeansThere p c values number ops d.params d.body body
 
--- The table of a program: each definition has a row, each row with a name is one of a definition, and each uses rows of smaller numbers alone.
+-- The table of a program: each definition has a row, each row with a name is one of a definition, and each that does not use itself uses rows of smaller
+-- numbers alone.
 pub record IsTable (p : Program) (c : Config) (values : List Val) (number : Numbers) (ops : List Operator) : Type 0 where
   pub definitions : (i : ℕ) (d : Definition) → slice_get (definitions_in p.units) i ≡ Some d → IsTabled p c values number ops i d
   pub named : (k : ℕ) (o : Operator) → slice_get ops k ≡ Some o → o.name ≢ [] → (i : ℕ) × (d : Definition) × (slice_get (definitions_in p.units) i ≡ Some d) × (number i ≡ Some k)

@@ -4,6 +4,7 @@ ghost use Rattle.std.specs.Prelude.{◌≡◌, [], ◌∷◌, ℕ, List, IfOk, M
 ghost use Rattle.std.specs.List.{slice_index_or};
 ghost use Rattle.tla_values.specs.Data.{Val};
 ghost use Rattle.tla_ast.specs.declared.module.Unit.TheVariants.{Define};
+ghost use Rattle.tla_terms.specs.declared.operator.Own.TheVariants.{Apart};
 ghost use Rattle.term_parts.specs.Slots.{MentionsBelow, UsesSmaller};
 ghost use Rattle.tla_scopes.specs.Standing.{AreIn};
 ghost use Rattle.tla_names.specs.Complaints.{complaint};
@@ -20,7 +21,7 @@ use std::alloc::Global;
 use tla_ast::{Config, Definition, Expr, Program, Unit};
 use tla_names::NameFault;
 use tla_scopes::ProgramNames;
-use tla_terms::{Level, Operator, Operators, Term, TermNode};
+use tla_terms::{Level, Operator, Operators, Own, Term, TermNode};
 use tla_values::Value;
 use trace_base::{Names, NoMemory, Place, Text};
 
@@ -32,7 +33,8 @@ const NOWHERE: Place = Place {
 
 /// A definition that stands for one whose body is not known yet.
 fn placeholder(alloc: Global) -> Result<Operator, NoMemory>
-    ensures { IfOk result (λ o. (k : ℕ) → MentionsBelow k o.body) }
+    ensures apart { IfOk result (λ o. o.own ≡ Apart) }
+    ensures below { IfOk result (λ o. (k : ℕ) → MentionsBelow k o.body) }
 {
     let name = Text::from_text(alloc, "")?;
     let node = TermNode::Known(Value::boolean(false));
@@ -42,6 +44,7 @@ fn placeholder(alloc: Global) -> Result<Operator, NoMemory>
         outer: 0,
         params: 0,
         level: Level::Constant,
+        own: Own::Apart,
         body,
     })
 }

@@ -20,7 +20,7 @@ use std::alloc::Global;
 use tla_ast::{Config, Definition, Program};
 use tla_program::{add_numbered, definitions, names_by_definition, numbered_names};
 use tla_scopes::ProgramNames;
-use tla_terms::{Operator, Operators, Term};
+use tla_terms::{Operator, Operators, Own, Term};
 use trace_base::NoMemory;
 use use_order::order;
 
@@ -68,6 +68,7 @@ fn unit_operator(definition: &Definition, body: Term) -> Result<Operator, NoMemo
         outer: 0,
         params: definition.params.len(),
         level: body.level,
+        own: Own::Apart,
         body,
     })
 }

@@ -8,6 +8,8 @@ use Rattle.tla_values.specs.Data.{Val}
 use Rattle.tla_values.specs.Tree.{stored, from_stored, from_stored-stored, to_tree, from_tree, from_tree-to_tree}
 use Rattle.tla_terms.specs.declared.level.Level.{Level}
 use Rattle.tla_terms.specs.declared.level.Level.TheVariants as levels
+use Rattle.tla_terms.specs.declared.operator.Own.{Own}
+use Rattle.tla_terms.specs.declared.operator.Own.TheVariants as owns
 use Rattle.tla_terms.specs.declared.standard.NamedSet.{NamedSet}
 use Rattle.tla_terms.specs.declared.standard.NamedSet.TheVariants as sets
 use Rattle.tla_terms.specs.declared.standard.StandardOperator.{StandardOperator}
@@ -53,6 +55,25 @@ level_back levels.Temporal = refl
 
 abbrev pub level_code : Coded Level
 level_code = code_by Gv itself level_gv gv_level level_back
+
+abbrev pub own_gv : Own → Gv
+own_gv owns.Apart = gnum 0
+own_gv owns.Itself = gnum 1
+own_gv owns.Function = gnum 2
+
+abbrev pub gv_own : Gv → Own
+gv_own (gnum zero) = owns.Apart
+gv_own (gnum (suc zero)) = owns.Itself
+gv_own (gnum (suc (suc zero))) = owns.Function
+gv_own _ = owns.Apart
+
+pub own_back : (o : Own) → gv_own (own_gv o) ≡ o
+own_back owns.Apart = refl
+own_back owns.Itself = refl
+own_back owns.Function = refl
+
+abbrev pub own_code : Coded Own
+own_code = code_by Gv itself own_gv gv_own own_back
 
 abbrev pub named_gv : NamedSet → Gv
 named_gv sets.Nat = gnum 0

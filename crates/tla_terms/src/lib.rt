@@ -10,7 +10,7 @@ mod term;
 
 pub use ids::{DefId, DefIds};
 pub use level::Level;
-pub use operator::Operator;
+pub use operator::{Operator, Own};
 pub use spec::{Operators, Spec};
 pub use standard::{NamedSet, StandardOperator};
 pub use term::{

@@ -5,11 +5,11 @@ ghost use Rattle.tla_tokens.specs.FaultCodes.{lex_code};
 ghost use Rattle.tla_tokens.specs.Tokens.{OneOutcome, SomeOutcome};
 
 use crate::token::Kind;
+use std::fmt;
 use thiserror::Error;
 
 /// Why a text has no tokens.
 #[derive(Clone, Copy, Debug, Drop, PartialEq, Eq, Error)]
-#[error("{}", self.code())]
 pub enum LexKind {
     /// The text is no UTF-8. It stands at the first byte behind the longest front that is.
     NotUtf8,
@@ -23,6 +23,13 @@ pub enum LexKind {
     NumberTooLarge,
     /// More than 200,000 tokens; it stands at the first beyond them.
     TooManyTokens,
+}
+
+/// The code and the name of the refusal.
+impl fmt::Display for LexKind {
+    fn fmt<W: fmt::Write>(&self, f: &mut fmt::Formatter<W>) -> fmt::Result {
+        f.write_str(self.code())
+    }
 }
 
 impl LexKind {

@@ -1,6 +1,6 @@
 //! How the tokens are spelled.
 
-ghost use Rattle.std.specs.Prelude.{◌≡◌, slice_get};
+ghost use Rattle.std.specs.Prelude.{◌≡◌, ◌≤◌, ◌<◌, slice_get};
 ghost use Rattle.tla_tokens.specs.Spellings.{words, runs, signs, kind_in};
 ghost use Rattle.tla_tokens.specs.Tables.{entry_of, table_of};
 
@@ -18,8 +18,20 @@ pub enum Table {
 }
 
 /// The words and their kinds, by their number in the table.
-#[tactic(auto, unfolding(crate::specs::Spellings::words))]
 fn word_at(i: usize) -> Option<(&'static [u8], Kind)>
+    ensures { slice_get words i ≡ entry_of result }
+{
+    if i < 30 {
+        reserved_word_at(i)
+    } else {
+        foreign_word_at(i)
+    }
+}
+
+/// The reserved words.
+#[tactic(auto, unfolding(crate::specs::Spellings::words))]
+fn reserved_word_at(i: usize) -> Option<(&'static [u8], Kind)>
+    requires to { i < 30 }
     ensures { slice_get words i ≡ entry_of result }
 {
     match i {
@@ -53,6 +65,17 @@ fn word_at(i: usize) -> Option<(&'static [u8], Kind)>
         27 => Some((b"UNION", Kind::Word(Word::Union))),
         28 => Some((b"VARIABLE", Kind::Word(Word::Variable))),
         29 => Some((b"VARIABLES", Kind::Word(Word::Variables))),
+        _ => None,
+    }
+}
+
+/// The words that are foreign to the profile.
+#[tactic(auto, unfolding(crate::specs::Spellings::words))]
+fn foreign_word_at(i: usize) -> Option<(&'static [u8], Kind)>
+    requires from { 30 ≤ i }
+    ensures { slice_get words i ≡ entry_of result }
+{
+    match i {
         30 => Some((b"LAMBDA", Kind::Foreign(Foreign::Lambda))),
         31 => Some((b"LOCAL", Kind::Foreign(Foreign::Local))),
         32 => Some((b"INSTANCE", Kind::Foreign(Foreign::Instance))),
@@ -105,8 +128,23 @@ fn run_at(i: usize) -> Option<(&'static [u8], Kind)>
 }
 
 /// The signs and their kinds.
-#[tactic(auto, unfolding(crate::specs::Spellings::signs))]
 fn sign_at(i: usize) -> Option<(&'static [u8], Kind)>
+    ensures { slice_get signs i ≡ entry_of result }
+{
+    if i < 20 {
+        return mark_at(i);
+    }
+    if i < 43 {
+        operator_at(i)
+    } else {
+        foreign_sign_at(i)
+    }
+}
+
+/// The brackets and marks.
+#[tactic(auto, unfolding(crate::specs::Spellings::signs))]
+fn mark_at(i: usize) -> Option<(&'static [u8], Kind)>
+    requires to { i < 20 }
     ensures { slice_get signs i ≡ entry_of result }
 {
     match i {
@@ -130,6 +168,18 @@ fn sign_at(i: usize) -> Option<(&'static [u8], Kind)>
         17 => Some((b"->", Kind::Symbol(Symbol::Arrow))),
         18 => Some((b"|->", Kind::Symbol(Symbol::MapsTo))),
         19 => Some((b"<-", Kind::Symbol(Symbol::LeftArrow))),
+        _ => None,
+    }
+}
+
+/// The operators.
+#[tactic(auto, unfolding(crate::specs::Spellings::signs))]
+fn operator_at(i: usize) -> Option<(&'static [u8], Kind)>
+    requires from { 20 ≤ i }
+    requires to { i < 43 }
+    ensures { slice_get signs i ≡ entry_of result }
+{
+    match i {
         20 => Some((b"=", Kind::Symbol(Symbol::Equal))),
         21 => Some((b"#", Kind::Symbol(Symbol::NotEqual))),
         22 => Some((b"/=", Kind::Symbol(Symbol::NotEqual))),
@@ -153,6 +203,17 @@ fn sign_at(i: usize) -> Option<(&'static [u8], Kind)>
         40 => Some((b"..", Kind::Symbol(Symbol::Interval))),
         41 => Some((b":>", Kind::Symbol(Symbol::SingleFunction))),
         42 => Some((b"@@", Kind::Symbol(Symbol::MergedFunctions))),
+        _ => None,
+    }
+}
+
+/// The signs that are foreign to the profile.
+#[tactic(auto, unfolding(crate::specs::Spellings::signs))]
+fn foreign_sign_at(i: usize) -> Option<(&'static [u8], Kind)>
+    requires from { 43 ≤ i }
+    ensures { slice_get signs i ≡ entry_of result }
+{
+    match i {
         43 => Some((b"--", Kind::Foreign(Foreign::MinusMinus))),
         44 => Some((b"++", Kind::Foreign(Foreign::PlusPlus))),
         45 => Some((b"**", Kind::Foreign(Foreign::StarStar))),

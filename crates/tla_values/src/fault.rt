@@ -4,6 +4,7 @@ ghost use Rattle.tla_values.specs.Refusals.{refusal_of};
 
 use crate::value::ValueFault;
 use std::alloc::AllocError;
+use std::fmt;
 use thiserror::Error;
 
 /// The number that the fault of a whole term has in place of an operand's.
@@ -11,7 +12,6 @@ pub const THE_TERM: u8 = 255;
 
 /// What went wrong in an evaluation, in the order of this project's codes E1 to E17.
 #[derive(Clone, Copy, Debug, Drop, PartialEq, Eq, Error)]
-#[error("{}", self.code())]
 pub enum EvalKind {
     NotBoolean,
     NotInteger,
@@ -30,6 +30,13 @@ pub enum EvalKind {
     TooDeep,
     Nested,
     NotFinite,
+}
+
+/// The code and the name of the refusal.
+impl fmt::Display for EvalKind {
+    fn fmt<W: fmt::Write>(&self, f: &mut fmt::Formatter<W>) -> fmt::Result {
+        f.write_str(self.code())
+    }
 }
 
 impl EvalKind {

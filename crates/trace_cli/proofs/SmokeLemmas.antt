@@ -1,7 +1,6 @@
 -- From what is true of the module Ring beside its log to what the smoke test calls for.
-use Rattle.std.proofs.Common.{arith, ◌≡◌, ◌∙◌, ℕ, List, Some, None, Result, Ok, Err, IfOk, refl, string_bytes, subst, sym}
-use Rattle.std.specs.Prelude.{◌≢◌, false}
-use Rattle.std.proofs.Common.{true≢false}
+use Rattle.std.proofs.Common.{arith, ◌≡◌, ◌≤◌, ◌<◌, ◌+◌, ◌∙◌, ℕ, List, [], ◌∷◌, length, length-append, Option, Some, None, Result, Ok, Err, IfOk, refl, string_bytes, subst, sym}
+use Rattle.std.specs.Prelude.{◌≢◌, Bool, false}
 use Rattle.trace_base.specs.Device.{File}
 use Rattle.trace_base.specs.declared.place.Place.{Place}
 use Rattle.tla_values.specs.declared.fault.EvalKind.{EvalKind}
@@ -26,7 +25,8 @@ use Rattle.lined_verdicts.specs.Laws.{ExplainedIsJudgedValid, HaveOneOf}
 use Rattle.lined_verdicts.specs.Verdicts.{IsJudgedOf}
 use Rattle.ring_files.specs.Ring.{ring_files, ring_job}
 use Rattle.run_words.specs.declared.job.Job.{Job}
-use Rattle.run_reading.specs.Reaches.{AllRead}
+use Rattle.run_reading.specs.Reaches.{AllRead, Reaches, has_forms, logged, reads_log}
+use Rattle.run_reading.specs.Texts.{LogsRead}
 use Rattle.run_stages.specs.declared.stop.Stop.{Stop}
 use Rattle.run_stages.specs.declared.stop.Stop.TheVariants as stop
 use Rattle.run_stages.specs.Stops.{StopsBy}
@@ -105,12 +105,21 @@ pub smoke_stop : (n : ℕ) (files : List File) (job : Job) (x : Stop) → files 
 smoke_stop n files job x held is by =
     stop_of_ring n x (subst (λ (fs : List File). StopsBy (Some fs) 0 0 ring_job x) held (subst (λ (k : Job). StopsBy (Some files) 0 0 k x) is by))
 
--- without the word `--ties` the lines stand in one order
-one_order : (files : List FileLines) (lined : Lined) → IsLinedOf false files lined → AreTellable lined
-one_order files (Sequence log) is = tt
-one_order files (Tied logs) is = absurd (true≢false (sym is.0))
+-- as many logs are read as were named
+counted : (holds : Option (List File)) (job : Job) (p : Program) (c : Config) (s : Spec) (read : LogsRead) (names : List (List ℕ)) → Reaches holds job (logged p c s read names)
+    → length read.found + length names ≡ length job.logs
+counted holds job p c s _ _ (has_forms _ _ _ reaches whole) = omega arith
+counted holds job p c s _ names (reads_log _ _ _ read name _ text f reaches log says) =
+    let before = counted holds job p c s read (name ∷ names) reaches in
+    omega (arith, before, length-append read.found (f ∷ []))
+
+-- the lines of one log stand in one order
+one_order : (ties : Bool) (files : List FileLines) (lined : Lined) → length files ≡ 1 → IsLinedOf ties files lined → AreTellable lined
+one_order ties files (Sequence log) one is = tt
+one_order ties files (Tied logs) one is = absurd (omega (arith, one, is.1))
 
 pub ring_in_order : (n : ℕ) (files : List File) (job : Job) (p : Program) (c : Config) (s : Spec) (lined : Lined) → job ≡ ring_job → AllRead (Some files) job p c s lined → AreTellable lined
 ring_in_order n files job p c s lined is read =
     let own = subst (λ (x : Job). AllRead (Some files) x p c s lined) is read in
-    one_order own.read.found lined own.lines
+    let count : length own.read.found + 0 ≡ 1 = counted (Some files) ring_job p c s own.read [] own.reaches in
+    one_order false own.read.found lined (omega (arith, count)) own.lines

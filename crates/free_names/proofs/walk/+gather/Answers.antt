@@ -53,8 +53,8 @@ gather_changes-gather_steps-requires t c =
     let whole : changes_size (changes_of c.items-change-items.result.now) ≡ changes_size c.args.changes.now = ap changes_size c.items-change-items.ensures in
     omega (arith, below, whole, c.decreases)
 
-pub gather_changes-gather-requires : goal.gather_changes-gather-requires
-gather_changes-gather-requires t c =
+pub gather_changes-gather_under-requires : goal.gather_changes-gather_under-requires
+gather_changes-gather_under-requires t c =
     let below : tree_size c.change-item.result.value < changes_size (changes_of c.items-change-items.result.now) = change_below tree.NoChanges c.items-change-items.result.now c.loop-change.change-index c.change-item.result c.loop-change-test.true c.change-item.is in
     let whole : changes_size (changes_of c.items-change-items.result.now) ≡ changes_size c.args.changes.now = ap changes_size c.items-change-items.ensures in
     omega (arith, below, whole, c.decreases)

@@ -5,7 +5,7 @@ use Rattle.log_files.proofs.FileLemmas.{begun, ended, read_next, short_text, sto
 use Rattle.log_files.proofs.files.read_files.Goals as goal
 
 pub loop-text-init : goal.loop-text-init
-loop-text-init g c = begun (g.N.SpecNames.setting c.args.names.now) c.args.many c.args.room (texts_of c.args.texts.now) _ refl refl c.in_ok-found.ensures.items
+loop-text-init g c = begun (g.N.SpecNames.setting c.args.names.now) c.args.many c.args.room (texts_of c.args.texts.now) _ refl refl refl c.in_ok-found.ensures.items
 
 pub read_on-requires-clause-short : goal.read_on-requires-clause-short
 read_on-requires-clause-short g c =

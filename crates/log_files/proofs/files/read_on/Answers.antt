@@ -8,7 +8,7 @@ pub returns-in_ok-next-in-Ok-clause-says : goal.returns-in_ok-next-in-Ok-clause-
 returns-in_ok-next-in-Ok-clause-says g c =
     let says = rw c.in-Ok.is at c.in_ok-read.ensures.says in
     file_taken (g.N.SpecNames.setting c.args.names.now) c.args.many c.args.reading c.in_ok-next-in-Ok.next c.args.text.now c.in-Ok.found says
-    c.in_ok-next-in-Ok.ensures.file c.in_ok-next-in-Ok.ensures.left c.in_ok-next-in-Ok.ensures.found
+    c.in_ok-next-in-Ok.ensures.file c.in_ok-next-in-Ok.ensures.left c.in_ok-next-in-Ok.ensures.form c.in_ok-next-in-Ok.ensures.found
 
 pub returns-in-Err-clause-says : goal.returns-in-Err-clause-says
 returns-in-Err-clause-says g c =

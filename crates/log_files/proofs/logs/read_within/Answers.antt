@@ -1,5 +1,6 @@
 use Rattle.std.proofs.Common.{◌≡◌, [], length, Bool, Ok, Err, subst, refl, arith}
 use Rattle.std.proofs.lemmas.List.{length-map}
+use Rattle.log_lines.specs.declared.clocks.ClockForm.TheVariants.{Free}
 use Rattle.log_files.specs.Logs.{FilesSay, texts_of}
 use Rattle.log_files.proofs.KeptFiles.{are_few, files_kept, none_falls}
 use Rattle.log_files.proofs.logs.read_within.Goals as goal
@@ -28,7 +29,7 @@ returns-in_ok-log-in-Ok g c =
     let texts = texts_of c.args.texts.now in
     let says = rw c.in-Ok.is at c.in_ok-read.ensures in (
       Ok c.in-Ok.files.items,
-      subst (λ (many : Bool). FilesSay (g.N.SpecNames.setting c.args.names.now) many 1 c.args.room [] texts (Ok c.in-Ok.files.items)) c.are_several.ensures says,
+      subst (λ (many : Bool). FilesSay (g.N.SpecNames.setting c.args.names.now) many 1 c.args.room Free [] texts (Ok c.in-Ok.files.items)) c.are_several.ensures says,
       (c.in_ok-log-in-Ok.log, c.in_ok-log-in-Ok.ensures, refl),
     )
 
@@ -37,6 +38,6 @@ returns-in-Err g c =
     let texts = texts_of c.args.texts.now in
     let says = rw c.in-Err.is at c.in_ok-read.ensures in (
       Err c.in-Err.refusal,
-      subst (λ (many : Bool). FilesSay (g.N.SpecNames.setting c.args.names.now) many 1 c.args.room [] texts (Err c.in-Err.refusal)) c.are_several.ensures says,
+      subst (λ (many : Bool). FilesSay (g.N.SpecNames.setting c.args.names.now) many 1 c.args.room Free [] texts (Err c.in-Err.refusal)) c.are_several.ensures says,
       refl,
     )

@@ -1,7 +1,6 @@
 use Rattle.std.proofs.Common.{◌≡◌, ◌≤◌, List, length, IfOk, subst, sym, arith}
-use Rattle.clock_merge.specs.Orders.{AreFew, NoneFalls}
 use Rattle.log_lines.specs.declared.file.FileLines.{FileLines}
-use Rattle.log_files.specs.Logs.{IsLogOf, clocks_in}
+use Rattle.log_files.specs.Logs.{AreFew, IsLogOf, NoneFalls, clocks_in}
 use Rattle.log_files.proofs.OneFile.{sole}
 use Rattle.log_files.proofs.placing.log_of.Goals as goal
 

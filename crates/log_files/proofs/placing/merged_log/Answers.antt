@@ -2,13 +2,13 @@ use Rattle.std.proofs.Common.{List, All, subst, sym}
 use Rattle.std.specs.List.{AllZip}
 use Rattle.clock_merge.specs.Orders.{IsLine}
 use Rattle.clock_merge.specs.declared.order.LineRef.{LineRef}
-use Rattle.log_files.specs.Logs.{StandsAt, clocks_in}
+use Rattle.log_files.specs.Logs.{StandsAt, numbers_in}
 use Rattle.log_files.proofs.PlaceLemmas.{each_line}
 use Rattle.log_files.proofs.placing.merged_log.Goals as goal
 
 pub placed_lines-requires : goal.placed_lines-requires
 placed_lines-requires c =
-    subst (λ (order : List LineRef). All (IsLine (clocks_in c.args.files.now)) order) (sym c.as_slice.ensures.value) (each_line c.args.files.now c.in_ok-order.order.items c.in_ok-order.ensures)
+    subst (λ (order : List LineRef). All (IsLine (numbers_in c.args.files.now)) order) (sym c.as_slice.ensures.value) (each_line c.args.files.now c.in_ok-order.order.items c.in_ok-order.ensures)
 
 pub returns : goal.returns
 returns c = record {

@@ -4,7 +4,7 @@ use Rattle.log_lines.proofs.WalkLemmas.{IsWalked}
 use Rattle.log_lines.proofs.file.read_log.Given as goal
 
 abbrev pub invariant-loop-scratch : goal.invariant-loop-scratch
-invariant-loop-scratch g l = IsWalked (g.N.SpecNames.setting l.names) (first_line l.fn.file l.fn.many l.fn.room) l.fn.bytes l.walk l.rest
+invariant-loop-scratch g l = IsWalked (g.N.SpecNames.setting l.names) (first_line l.fn.file l.fn.many l.fn.room l.fn.form) l.fn.bytes l.walk l.rest
 
 abbrev pub decreases-loop-scratch : goal.decreases-loop-scratch
 decreases-loop-scratch g l = length l.rest

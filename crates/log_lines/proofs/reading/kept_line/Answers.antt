@@ -4,5 +4,5 @@ use Rattle.log_lines.proofs.reading.kept_line.Goals as goal
 
 pub returns : goal.returns
 returns g c =
-    object_says (g.N.SpecNames.setting c.args.names.now) c.args.at c.args.text.now (members_in c.args.object.now) c.object_line.result c.requires.utf8 c.requires.object
+    object_says (g.N.SpecNames.setting c.args.names.now) c.args.at.now c.args.text.now (members_in c.args.object.now) c.object_line.result c.requires.utf8 c.requires.object
     c.object_line.ensures

@@ -12,9 +12,9 @@ returns-in_ok-push-in-Ok-clause-read g c = λ rest way.
     let says = rw (c.in-Ok.is, c.as_slice-piece.ensures.value, c.len-many.ensures, c.requires.names) at c.in_ok-file.ensures in
     let law = rw c.requires.names at c.line_laws.ensures.steps in
     next_way (g.F.Files.holds c.args.files.now) c.args.course c.args.so
-    (record { number = c.args.so.number + 1; bytes = c.args.so.bytes + length c.as_slice-piece.result.now; steps = c.args.so.steps + c.len-count.result; found = c.push.new.self })
+    (record { number = c.args.so.number + 1; bytes = c.args.so.bytes + length c.as_slice-piece.result.now; steps = c.args.so.steps + c.len-count.result; form = c.in-Ok.file.form; found = c.push.new.self })
     c.args.name.now c.in_ok-text.text.items rest c.in-Ok.file law way c.in_ok-text.ensures.text says refl (ap (λ (t : List ℕ). c.args.so.bytes + length t) c.as_slice-piece.ensures.value)
-    (ap (λ n. c.args.so.steps + n) c.len-count.ensures) c.in_ok-push-in-Ok.ensures.items
+    (ap (λ n. c.args.so.steps + n) c.len-count.ensures) refl c.in_ok-push-in-Ok.ensures.items
 
 pub returns-in_ok-log_refusal-in-Err-clause-stopped : goal.returns-in_ok-log_refusal-in-Err-clause-stopped
 returns-in_ok-log_refusal-in-Err-clause-stopped g c =

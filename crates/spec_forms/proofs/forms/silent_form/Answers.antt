@@ -1,6 +1,10 @@
 use Rattle.std.proofs.Common.{sym, Ok, Err}
+use Rattle.term_parts.proofs.Ordering.{body_within}
 use Rattle.spec_forms.proofs.Telling.{silent_says}
 use Rattle.spec_forms.proofs.forms.silent_form.Goals as goal
+
+pub fixed-requires-clause-below : goal.fixed-requires-clause-below
+fixed-requires-clause-below c = body_within c.args.spec.now.operators c.in-Some.number.0 c.in-Some-get.operator.now c.requires.smaller (sym c.in-Some-get.ensures.item)
 
 pub returns-in-Ok : goal.returns-in-Ok
 returns-in-Ok c =

@@ -1,27 +1,7 @@
-use Rattle.std.proofs.Common.{◌≡◌, ◌∙◌, ap, false, true, subst}
-use Rattle.tla_terms.specs.Terms.{Placed}
-use Rattle.tla_terms.specs.TermViews.{node_view}
-use Rattle.term_parts.specs.Parts.{part}
-use Rattle.term_parts.specs.Waiting.{waiting}
-use Rattle.term_levels.specs.Fairness.{Splits, fair_in, split}
-use Rattle.term_levels.proofs.Fair.{fair_on, fair_less, fair_off}
-use Rattle.term_parts.proofs.Lists.{waiting-push}
+use Rattle.term_levels.proofs.Closing.{fair_is}
+use Rattle.term_levels.proofs.Conjuncts.{if_ok_mapped}
 use Rattle.term_levels.proofs.fairness.is_fair.Goals as goal
 
-pub returns-then-not-branch : goal.returns-then-not-branch
-returns-then-not-branch c =
-    let p = c.in-Some.pending in
-    let b : c.in_ok-split.field-0 ≡ false = c.if-not-branch.true in
-    ((λ h. absurd (let q : false ≡ true = h in cc)), (λ w. absurd (fair_off c.args.table.now c.args.notes.now c.args.term.now (part p.primed p.term.now) c.part.inside.at c.part.inside.level (node_view c.deref.result.now) (waiting c.loop-pending.stack.items) (waiting c.pop.new.self.items) (waiting c.split.new.stack.items) c.requires.noted c.requires.known (ap (λ n. Placed c.part.inside.at c.part.inside.level (node_view n)) c.deref.ensures ∙ c.part.view_is) (ap waiting c.in-Some.ensures.items ∙ waiting-push c.pop.new.self.items p) c.loop-pending.invariant (subst (λ y. Splits (split (fair_in c.args.notes.now) (node_view c.deref.result.now)) y (waiting c.pop.new.self.items) (waiting c.split.new.stack.items)) b c.in_ok-split.ensures) w)))
-
-pub loop-pending-smaller : goal.loop-pending-smaller
-loop-pending-smaller c =
-    let p = c.in-Some.pending in
-    let b : c.in_ok-split.field-0 ≡ true = c.if-not-branch.false in
-    fair_less c.args.table.now c.args.notes.now c.args.term.now (part p.primed p.term.now) c.part.inside.at c.part.inside.level (node_view c.deref.result.now) (waiting c.loop-pending.stack.items) (waiting c.pop.new.self.items) (waiting c.split.new.stack.items) c.requires.noted c.requires.known (ap (λ n. Placed c.part.inside.at c.part.inside.level (node_view n)) c.deref.ensures ∙ c.part.view_is) (ap waiting c.in-Some.ensures.items ∙ waiting-push c.pop.new.self.items p) c.loop-pending.invariant (subst (λ y. Splits (split (fair_in c.args.notes.now) (node_view c.deref.result.now)) y (waiting c.pop.new.self.items) (waiting c.split.new.stack.items)) b c.in_ok-split.ensures)
-
-pub loop-pending-preserved : goal.loop-pending-preserved
-loop-pending-preserved c =
-    let p = c.in-Some.pending in
-    let b : c.in_ok-split.field-0 ≡ true = c.if-not-branch.false in
-    fair_on c.args.table.now c.args.notes.now c.args.term.now (part p.primed p.term.now) c.part.inside.at c.part.inside.level (node_view c.deref.result.now) (waiting c.loop-pending.stack.items) (waiting c.pop.new.self.items) (waiting c.split.new.stack.items) c.requires.noted c.requires.known (ap (λ n. Placed c.part.inside.at c.part.inside.level (node_view n)) c.deref.ensures ∙ c.part.view_is) (ap waiting c.in-Some.ensures.items ∙ waiting-push c.pop.new.self.items p) c.loop-pending.invariant (subst (λ y. Splits (split (fair_in c.args.notes.now) (node_view c.deref.result.now)) y (waiting c.pop.new.self.items) (waiting c.split.new.stack.items)) b c.in_ok-split.ensures)
+pub returns : goal.returns
+returns c =
+    if_ok_mapped c.fair_by.result _ _ (λ b h. fair_is c.args.table.now c.args.notes.now c.args.term.now b c.requires.noted c.requires.known c.requires.below h) c.fair_by.ensures

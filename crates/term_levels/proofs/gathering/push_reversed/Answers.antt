@@ -1,5 +1,4 @@
 use Rattle.std.proofs.Common.{◌∙◌, ap, arith}
-use Rattle.std.specs.Prelude.{◌-◌}
 use Rattle.term_levels.specs.Shape.{rows}
 use Rattle.term_levels.proofs.Conjuncts.{reverse_less, rows-push}
 use Rattle.term_levels.proofs.gathering.push_reversed.Goals as goal

@@ -14,4 +14,4 @@ returns c =
     let within : k < length c.args.table.now = omega arith in
     let is : slice_get c.args.table.now k ≡ Some o = item_at c.args.table.now k c.index-table-number.result within in
     let is_note : slice_get c.args.notes.now k ≡ Some n = item_at c.args.notes.now k n below ∙ ap Some (sym c.index-notes-number.is) in
-    ok_mapped c.absorb.result _ _ (λ h. adds_named c.args.table.now c.args.primed k o n c.args.note.now c.absorb.new.note is (c.requires.noted k o n is is_note) h) c.absorb.ensures
+    ok_mapped c.absorb.result _ _ (λ h. adds_named c.args.table.now c.args.notes.now c.args.primed k o n c.args.note.now c.absorb.new.note (record { is = is; told = is_note }) h) c.absorb.ensures

@@ -15,4 +15,4 @@ returns c =
     let within : k < length c.args.table.now = omega arith in
     let is : slice_get c.args.table.now k ≡ Some o = item_at c.args.table.now k c.index-table-number.result within in
     let is_note : slice_get c.args.notes.now k ≡ Some n = item_at c.args.notes.now k c.index-notes-number.result below in
-    ok_mapped c.push_arguments.result _ _ (λ h. (o, n.primed, is, (c.requires.noted k o n is is_note).primed, h, mid, c.in_ok-read_named.ensures, adds_arguments n.primed o.outer c.args.arguments.now mid (record mid { fault = c.in_arguments-note.result }) (ap (λ f. record mid { fault = f }) c.in_arguments-note.ensures))) c.push_arguments.ensures
+    ok_mapped c.push_arguments.result _ _ (λ h. (o, n, record { is = is; told = is_note }, h, mid, c.in_ok-read_named.ensures, adds_arguments n.primed o.outer c.args.arguments.now mid (record mid { fault = c.in_arguments-note.result }) (ap (λ f. record mid { fault = f }) c.in_arguments-note.ensures))) c.push_arguments.ensures

@@ -1,7 +1,7 @@
 use Rattle.std.proofs.Common.{ap, sym, ◌∙◌, subst}
 use Rattle.log_cuts.specs.Orders.{IsCut, IsMade, Order}
 use Rattle.log_cuts.specs.Views.{logs_of, order_of}
-use Rattle.log_cuts.proofs.Answered.{ready_by_clock, ready_in_sequence}
+use Rattle.log_cuts.proofs.Answered.{ready_by_clock, ready_by_vectors, ready_in_sequence}
 use Rattle.log_cuts.proofs.Starting.{total_short}
 use Rattle.log_cuts.proofs.order.Order.ready.Goals as goal
 
@@ -19,3 +19,8 @@ pub returns-in-ByClock : goal.returns-in-ByClock
 returns-in-ByClock c =
     ready_by_clock c.args.self.now (logs_of c.in-ByClock.clocks.items) (ap order_of (sym c.in-ByClock.is) ∙ c.self.view_is) c.requires.made c.args.cut.now c.requires.cut c.args.file
     c.is_least.result c.is_least.ensures
+
+pub returns-in-ByVectors : goal.returns-in-ByVectors
+returns-in-ByVectors c =
+    ready_by_vectors c.args.self.now (logs_of c.in-ByVectors.vectors.items) (ap order_of (sym c.in-ByVectors.is) ∙ c.self.view_is) c.requires.made c.args.cut.now c.requires.cut c.args.file
+    c.is_least-in-ByVectors.result c.is_least-in-ByVectors.ensures

@@ -1,4 +1,4 @@
-use Rattle.std.proofs.Common.{sym, subst, List, [], ◌∷◌, ◌++◌}
+use Rattle.std.proofs.Common.{refl, sym, subst, List, [], ◌∷◌, ◌++◌}
 use Rattle.tla_terms.specs.declared.operator.Operator.{Operator}
 use Rattle.tla_terms.specs.declared.ids.DefId.{DefId}
 use Rattle.tla_scopes.specs.declared.scope.Local.{Local}
@@ -23,4 +23,4 @@ invariant_of-self-2 c =
 
 pub returns-clause-ordered : goal.returns-clause-ordered
 returns-clause-ordered c =
-    order_kept c.args.self.now c.self.inside.names.now c.self.inside.scope c.self.inside.table _ _ c.self.view_is c.in_ok-push.ensures.pushed (inside_below c.self.inside.names.now c.self.inside.scope c.self.inside.table c.args.self.now c.requires.0 c.requires.1 c.args.body c.self.invariant c.self.view_is c.requires.2)
+    order_kept c.args.self.now c.self.inside.names.now c.self.inside.scope c.self.inside.table _ _ c.self.view_is c.in_ok-push.ensures.pushed refl (inside_below c.self.inside.names.now c.self.inside.scope c.self.inside.table c.args.self.now c.requires.0 c.requires.1 c.args.body c.self.invariant c.self.view_is c.requires.2)

@@ -1,11 +1,10 @@
-use Rattle.std.proofs.Common.{length}
 use Rattle.term_parts.specs.Waiting.{waiting}
 use Rattle.term_parts.specs.Weights.{total}
 use Rattle.term_levels.proofs.Fair.{IsFairWay}
-use Rattle.term_levels.proofs.fairness.is_fair.Given as goal
+use Rattle.term_levels.proofs.fairness.fair_by.Given as goal
 
 abbrev pub invariant-loop-pending : goal.invariant-loop-pending
-invariant-loop-pending l = IsFairWay l.table (length l.notes) l.term (waiting l.stack.items)
+invariant-loop-pending l = IsFairWay l.notes l.term (waiting l.stack.items)
 
 abbrev pub decreases-loop-pending : goal.decreases-loop-pending
 decreases-loop-pending l = total (waiting l.stack.items)

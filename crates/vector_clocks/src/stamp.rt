@@ -1,0 +1,8 @@
+use trace_base::Text;
+
+/// The number that a clock gives a node.
+#[derive(Debug, Drop)]
+pub struct Stamp {
+    pub node: Text,
+    pub number: u64,
+}
