@@ -1,0 +1,5 @@
+pub mod FileHalts
+pub mod FirstFaults
+pub mod LogHalts
+pub mod Views
+pub mod OneRefusal

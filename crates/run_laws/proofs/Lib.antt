@@ -1,0 +1,4 @@
+pub mod Following
+pub mod Deciding
+pub mod Kept
+pub mod Held

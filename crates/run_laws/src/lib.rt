@@ -1,0 +1,13 @@
+//! Laws of calls of `run`, from its clauses alone: what `validate` explained and a file kept, `check` finds valid; and where all is read and nothing hinders it, a
+//! call decides.
+#![tactic(auto)]
+
+mod after;
+mod call;
+mod laws;
+#[cfg(test)]
+mod tests;
+
+pub use after::check_after;
+pub use call::run_ends;
+pub use laws::{decided_law, held_law, kept_law};
