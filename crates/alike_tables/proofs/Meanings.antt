@@ -362,7 +362,7 @@ module _ (Same : Val → Val → Type 0) (ops all : List Operator) (R : ℕ → 
 
     defines : (sc tc : List Local) (ds : tree.Definitions) (ks js : List ℕ) (inner outer : List Local) → AlikeLocals Row sc tc → Such ks → Defines names ops sc ds ks inner → Defines others all tc ds js outer → HasDefined ks js inner outer
     defines sc tc tree.NoDefinitions ks js inner outer s b g h = no_more sc tc ks js inner outer s g.0 h.0 g.1 h.1
-    defines sc tc (tree.MoreDefinitions ds m at ps a) ks js inner outer s b g h =
+    defines sc tc (tree.MoreDefinitions ds m at ps form a) ks js inner outer s b g h =
         let d : HasDefined g.0 h.0 g.1 h.1 = defines sc tc ds g.0 h.0 g.1 h.1 s (earlier_such ks g.0 g.2.0 g.7 b) g.4 h.4 in
         let lt : Q g.2.0 = last_such ks g.0 g.2.0 g.7 b in
         let r : AlikeBy Same IsOneVariable R g.3 h.3 = alike 0 (bind g.1 ps) (bind h.1 ps) a g.3 h.3 (all_bound Row g.1 h.1 ps d.places) (body_whole g.2.0 (local_operator (slots g.1) (length ps) g.3) lt g.6 refl) g.5 h.5 in

@@ -1,7 +1,7 @@
 ghost use Rattle.std.specs.Prelude.{◌≡◌, IfOk};
 
 use log_cuts::Cut;
-use state_layers::Member;
+use state_layers::{Member, SharedValues};
 use std::alloc::{AllocError, Global};
 use std::hash::{Hash, Hasher};
 use std::marker::Model;
@@ -61,5 +61,11 @@ impl Member for Entry {
             cut: self.cut.copy(alloc)?,
             state: self.state.copy(alloc)?,
         })
+    }
+
+    fn shared(self, values: &mut SharedValues) -> Result<Entry, AllocError> {
+        let Entry { cut, state } = self;
+        let state = values.shared(state)?;
+        Ok(Entry { cut, state })
     }
 }

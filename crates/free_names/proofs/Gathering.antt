@@ -63,7 +63,7 @@ more_bound n bs hs = list_any-append (λ k. bytes_eq k n) hs (bound_by bs) ∙ a
 
 defined_in : (n : List ℕ) (ds : tree.Definitions) → is_one_of n (defined_by ds) ≡ defines ds n
 defined_in n tree.NoDefinitions = refl
-defined_in n (tree.MoreDefinitions ds m at ps e) = one_more n m (defined_by ds) ∙ ap (λ x. x || bytes_eq m n) (defined_in n ds)
+defined_in n (tree.MoreDefinitions ds m at ps form e) = one_more n m (defined_by ds) ∙ ap (λ x. x || bytes_eq m n) (defined_in n ds)
 
 more_defined : (n : List ℕ) (ds : tree.Definitions) (hs : NameList) → is_one_of n (hs ++ defined_by ds) ≡ (is_one_of n hs || defines ds n)
 more_defined n ds hs = list_any-append (λ k. bytes_eq k n) hs (defined_by ds) ∙ ap (λ x. is_one_of n hs || x) (defined_in n ds)
@@ -177,7 +177,7 @@ mutual
 
   found_definitions : (n : List ℕ) (hs ns : NameList) (ds : tree.Definitions) → Finds n hs ns (gather_definitions hs ns ds) (mentions_definitions n ds)
   found_definitions n hs ns tree.NoDefinitions = nothing n hs ns
-  found_definitions n hs ns (tree.MoreDefinitions ds m at ps e) = under n hs (hs ++ defined_by ds ++ m ∷ [] ++ ps) ns (gather_definitions hs ns ds) (gather (hs ++ defined_by ds ++ m ∷ [] ++ ps) (gather_definitions hs ns ds) e) (defines ds n || bytes_eq m n || is_one_of n ps) (mentions_definitions n ds) (mentions n e) (in_definition n m ds ps hs) (found_definitions n hs ns ds) (found n (hs ++ defined_by ds ++ m ∷ [] ++ ps) (gather_definitions hs ns ds) e)
+  found_definitions n hs ns (tree.MoreDefinitions ds m at ps form e) = under n hs (hs ++ defined_by ds ++ m ∷ [] ++ ps) ns (gather_definitions hs ns ds) (gather (hs ++ defined_by ds ++ m ∷ [] ++ ps) (gather_definitions hs ns ds) e) (defines ds n || bytes_eq m n || is_one_of n ps) (mentions_definitions n ds) (mentions n e) (in_definition n m ds ps hs) (found_definitions n hs ns ds) (found n (hs ++ defined_by ds ++ m ∷ [] ++ ps) (gather_definitions hs ns ds) e)
 
 is_in : (ns : NameList) (n : List ℕ) → Contains ns n → is_one_of n ns ≡ true
 is_in ns n (k, h, e) = list_any_at (λ m. bytes_eq m n) ns k n h ((bytes_decides (get_or ns k n) n).1 e)

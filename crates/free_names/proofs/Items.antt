@@ -32,7 +32,7 @@ names_defined (x ∷ xs) = x.name ∷ names_defined xs
 
 defined_from : (l : tree.Definitions) (xs : List Definition) → defined_by (definitions_from l xs) ≡ defined_by l ++ names_defined xs
 defined_from l [] = sym (append-nil (defined_by l))
-defined_from l (x ∷ xs) = defined_from (tree.MoreDefinitions l x.name x.at x.params x.body) xs ∙ append_assoc (defined_by l) (x.name ∷ []) (names_defined xs)
+defined_from l (x ∷ xs) = defined_from (tree.MoreDefinitions l x.name x.at x.params x.form x.body) xs ∙ append_assoc (defined_by l) (x.name ∷ []) (names_defined xs)
 
 pub defined_items : (xs : List Definition) → defined_by (definitions_of xs) ≡ names_defined xs
 defined_items xs = defined_from tree.NoDefinitions xs
@@ -121,7 +121,7 @@ definitions_items hs ns (x ∷ xs) = definitions_items (hs ++ x.name ∷ []) (ga
 definitions_behind : (hs ns : NameList) (l : tree.Definitions) (xs : List Definition) → gather_definitions hs ns (definitions_from l xs) ≡ definitions_items (hs ++ defined_by l) (gather_definitions hs ns l) xs
 definitions_behind hs ns l [] = refl
 definitions_behind hs ns l (x ∷ xs) =
-    definitions_behind hs ns (tree.MoreDefinitions l x.name x.at x.params x.body) xs ∙ ap (λ h. definitions_items h (gather (hs ++ defined_by l ++ x.name ∷ [] ++ x.params) (gather_definitions hs ns l) x.body) xs) (sym (append_assoc hs (defined_by l) (x.name ∷ [])))
+    definitions_behind hs ns (tree.MoreDefinitions l x.name x.at x.params x.form x.body) xs ∙ ap (λ h. definitions_items h (gather (hs ++ defined_by l ++ x.name ∷ [] ++ x.params) (gather_definitions hs ns l) x.body) xs) (sym (append_assoc hs (defined_by l) (x.name ∷ [])))
 
 pub definitions_are : (hs ns : NameList) (xs : List Definition) → definitions_items hs ns xs ≡ gather_definitions hs ns (definitions_of xs)
 definitions_are hs ns xs = ap (λ h. definitions_items h ns xs) (sym (append-nil hs)) ∙ sym (definitions_behind hs ns tree.NoDefinitions xs)

@@ -15,7 +15,7 @@ bound_by (MoreBounds bs ns e) = bound_by bs ++ ns
 
 abbrev pub defined_by : Definitions → NameList
 defined_by NoDefinitions = []
-defined_by (MoreDefinitions ds m at ps e) = defined_by ds ++ m ∷ []
+defined_by (MoreDefinitions ds m at ps form e) = defined_by ds ++ m ∷ []
 
 -- a name that occurs under those that are hidden, behind those found
 abbrev pub add : NameList → NameList → List ℕ → NameList
@@ -86,4 +86,4 @@ abbrev mutual
   -- a definition sees itself and those before it
   pub gather_definitions : NameList → NameList → Definitions → NameList
   gather_definitions hs ns NoDefinitions = ns
-  gather_definitions hs ns (MoreDefinitions ds m at ps e) = gather (hs ++ defined_by ds ++ m ∷ [] ++ ps) (gather_definitions hs ns ds) e
+  gather_definitions hs ns (MoreDefinitions ds m at ps form e) = gather (hs ++ defined_by ds ++ m ∷ [] ++ ps) (gather_definitions hs ns ds) e

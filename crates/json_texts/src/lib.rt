@@ -3,5 +3,7 @@
 
 mod numbers;
 mod reading;
+mod rereading;
 
 pub use reading::{Unread, read_value};
+pub use rereading::reread_value;

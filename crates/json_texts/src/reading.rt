@@ -1,5 +1,6 @@
-ghost use Rattle.std.specs.Prelude.{◌≡◌, ◌<◌, IfOk, OnOk, Some, length};
+ghost use Rattle.std.specs.Prelude.{◌≡◌, ◌<◌, ◌≤◌, ◌∷◌, IfOk, OnOk, Some, length};
 ghost use Rattle.json.specs.Json.{items, members, value};
+ghost use Rattle.json.specs.Reads.{token_of};
 ghost use Rattle.serde_json.specs.Data.{no_members};
 ghost use Rattle.serde_json.specs.Read.{converted, of_items, of_json, of_members};
 ghost use Rattle.serde_json.specs.View.{items_view, members_view, view};
@@ -45,6 +46,20 @@ pub fn read_value(alloc: Global, reader: &mut Reader<'_>, depth: usize) -> Resul
     ensures shorter { OnOk result (length reader.new < length reader.old) }
 {
     let token = reader.next().ok_or(Unread::NotJson)?;
+    read_from(alloc, reader, depth, token)
+}
+
+/// The value that begins with this token, behind which the reader stands.
+#[cycle(read)]
+pub(crate) fn read_from(
+    alloc: Global,
+    reader: &mut Reader<'_>,
+    depth: usize,
+    token: Token<'_>,
+) -> Result<Value, Unread>
+    ensures read { IfOk result (λ v. converted of_json (value depth (token_of token.entry ∷ reader.old)) ≡ Some (view v, reader.new)) }
+    ensures shorter { OnOk result (length reader.new ≤ length reader.old) }
+{
     match token {
         Token::String(text) => Ok(Value::String(String::from_str(alloc, text)?)),
         Token::Number(text) => match number_in(text) {
@@ -71,7 +86,11 @@ pub fn read_value(alloc: Global, reader: &mut Reader<'_>, depth: usize) -> Resul
 
 /// The items behind the bracket that opens an array, up to the one that closes it.
 #[cycle(read)]
-fn read_items(alloc: Global, reader: &mut Reader<'_>, depth: usize) -> Result<Vec<Value>, Unread>
+pub(crate) fn read_items(
+    alloc: Global,
+    reader: &mut Reader<'_>,
+    depth: usize,
+) -> Result<Vec<Value>, Unread>
     ensures read { IfOk result
         (λ vs. converted of_items (items (value depth) (length reader.old) reader.old) ≡ Some (items_view vs.items, reader.new)) }
     ensures shorter { OnOk result (length reader.new < length reader.old) }

@@ -1,16 +1,16 @@
 -- What stands at each key of a line among members that have no other key, and that two objects with the same at each key have one shape.
-use Rattle.std.proofs.Common.{◌≡◌, ℕ, List, Bool, false, true, Option, None, Some, Bor, Ordering, Less, Equal, Greater, refl, true≢false, sym, ap, ◌∙◌, option_map}
-use Rattle.std.specs.Prelude.{⊤, codes, if◌then◌else◌, option_copied}
+use Rattle.std.proofs.Common.{◌≡◌, ℕ, List, Bool, false, true, Option, None, Some, Ordering, Less, Equal, Greater, refl, true≢false, sym, ap, ◌∙◌, Result, Ok, Err, OnOk}
+use Rattle.std.specs.Prelude.{⊤, codes, if◌then◌else◌}
 use Rattle.std.proofs.lemmas.Slice.Eq.{bytes_eq-Decides}
 use Rattle.std.specs.Ordering.{nat_cmp, match_ordering}
 use Rattle.std.specs.Cmp.Lexicographic.{slice_cmp}
 use Rattle.std.specs.Str.{bytes_eq}
 use Rattle.serde_json.specs.Data.{Data, Members, no_members, member, put}
 use Rattle.serde_json.specs.Find.{get_member}
-use Rattle.serde_json.specs.View.{view}
-use Rattle.serde_json.specs.declared.value.Value.{Value}
-use Rattle.serde_json.proofs.Views.{get_member-put, get_member-put_other, view_of_ref}
+use Rattle.json.specs.Token.{Token}
+use Rattle.serde_json.proofs.Views.{get_member-put, get_member-put_other}
 use Rattle.line_shapes.specs.Keys.{content, key_text}
+use Rattle.line_shapes.specs.Fills.{Fills, ReadsAt}
 use Rattle.line_shapes.specs.Objects.{AgreeAtKeys, PutsAt, keyed, with_some}
 use Rattle.line_shapes.specs.Shapes.{shape_of}
 use Rattle.line_shapes.specs.declared.key.Key.{Key}
@@ -153,6 +153,27 @@ put_agrees name d ms old new agree puts k = put_at name d ms old k (agree k) (by
 pub one_shape : (ms others : Members) → AgreeAtKeys ms others → shape_of ms ≡ shape_of others
 one_shape ms others agree = rw (agree key.Init, agree key.Event, agree key.Args, agree key.Clock, agree key.Update, agree key.See) refl
 
--- what is borrowed is seen as what it was borrowed from
-pub seen : (r : Option (Bor Value)) (o : Option Value) → option_copied r ≡ o → option_map (λ json. view json.now) r ≡ option_map view o
-seen r o e = view_of_ref r ∙ ap (option_map view) e
+-- ---- a value that is read and put at a key
+
+on_ok : {A E P Q : Type 0} (r : Result A E) → OnOk r P → (P → Q) → OnOk r Q
+on_ok (Ok x) h f = f h
+on_ok (Err e) h f = h
+
+module _ {A E : Type 0} (r : Result A E) (before behind : List Token) (o init event args clock update see : Option Data) where
+  pub reads-init : OnOk r (Fills before o behind) → OnOk r (ReadsAt (key_text key.Init) before behind (keyed init event args clock update see) (keyed o event args clock update see))
+  reads-init h = on_ok r h (λ f. (f.0, f.2, rw f.1 (put-init f.0 init event args clock update see)))
+
+  pub reads-event : OnOk r (Fills before o behind) → OnOk r (ReadsAt (key_text key.Event) before behind (keyed init event args clock update see) (keyed init o args clock update see))
+  reads-event h = on_ok r h (λ f. (f.0, f.2, rw f.1 (put-event f.0 init event args clock update see)))
+
+  pub reads-args : OnOk r (Fills before o behind) → OnOk r (ReadsAt (key_text key.Args) before behind (keyed init event args clock update see) (keyed init event o clock update see))
+  reads-args h = on_ok r h (λ f. (f.0, f.2, rw f.1 (put-args f.0 init event args clock update see)))
+
+  pub reads-clock : OnOk r (Fills before o behind) → OnOk r (ReadsAt (key_text key.Clock) before behind (keyed init event args clock update see) (keyed init event args o update see))
+  reads-clock h = on_ok r h (λ f. (f.0, f.2, rw f.1 (put-clock f.0 init event args clock update see)))
+
+  pub reads-update : OnOk r (Fills before o behind) → OnOk r (ReadsAt (key_text key.Update) before behind (keyed init event args clock update see) (keyed init event args clock o see))
+  reads-update h = on_ok r h (λ f. (f.0, f.2, rw f.1 (put-update f.0 init event args clock update see)))
+
+  pub reads-see : OnOk r (Fills before o behind) → OnOk r (ReadsAt (key_text key.See) before behind (keyed init event args clock update see) (keyed init event args clock update o))
+  reads-see h = on_ok r h (λ f. (f.0, f.2, rw f.1 (put-see f.0 init event args clock update see)))

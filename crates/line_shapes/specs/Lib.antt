@@ -5,3 +5,4 @@ pub mod Parts
 pub mod Shapes
 pub mod Seen
 pub mod Objects
+pub mod Fills

@@ -8,6 +8,7 @@ use Rattle.line_shapes.specs.Keys.{content, key_text}
 use Rattle.line_shapes.specs.declared.key.Key.{Key}
 use Rattle.line_shapes.specs.declared.key.Key.TheVariants as key
 use Rattle.line_shapes.specs.declared.object.LineObject.{LineObject}
+use Rattle.line_shapes.specs.declared.object.Slot.{Slot}
 use Rattle.line_shapes.specs.declared.contents.Contents.{Contents}
 
 -- the members behind this one, if it is there
@@ -21,9 +22,12 @@ keyed init event args clock update see =
     with_some (key_text key.Init) init (with_some (key_text key.Event) event (with_some (key_text key.Args) args
     (with_some (key_text key.Clock) clock (with_some (key_text key.Update) update (with_some (key_text key.See) see no_members)))))
 
+-- what stands in a slot, if it is there
+abbrev pub content_in : Slot → Option Data
+content_in s = if s.is_there then Some (view s.json) else None
+
 abbrev pub members_in : LineObject → Members
-members_in o =
-    keyed (option_map view o.init) (option_map view o.event) (option_map view o.args) (option_map view o.clock) (option_map view o.update) (option_map view o.see)
+members_in o = keyed (content_in o.init) (content_in o.event) (content_in o.args) (content_in o.clock) (content_in o.update) (content_in o.see)
 
 abbrev pub contents_in : Contents → Members
 contents_in c =

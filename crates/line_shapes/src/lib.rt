@@ -14,7 +14,7 @@ mod shape;
 
 pub use clock::{RawClock, count_of};
 pub use key::{Key, Word};
-pub use object::{LineObject, line_object};
+pub use object::{LineObject, LineScratch, Slot, line_object};
 pub use parts::{see_of, update_of};
 pub use path::path_of;
 pub use raw::{RawPath, RawSee, RawUpdate};

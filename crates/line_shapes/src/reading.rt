@@ -36,12 +36,12 @@ fn kept_in(object: &LineObject) -> Contents<'_>
     ensures { contents_in result ≡ members_in object.now }
 {
     Contents {
-        init: object.init.as_ref(),
-        event: object.event.as_ref(),
-        args: object.args.as_ref(),
-        clock: object.clock.as_ref(),
-        update: object.update.as_ref(),
-        see: object.see.as_ref(),
+        init: object.init.content(),
+        event: object.event.content(),
+        args: object.args.content(),
+        clock: object.clock.content(),
+        update: object.update.content(),
+        see: object.see.content(),
     }
 }
 

@@ -8,7 +8,7 @@ use Rattle.tla_ast.specs.declared.laid.Laid.TheVariants.{Plain, ListOpen, ListIt
 use Rattle.tla_ast.specs.declared.module.Declared.{Declared}
 use Rattle.tla_ast.specs.declared.module.Module.{Module}
 use Rattle.tla_ast.specs.declared.module.Unit.{Unit as ModuleUnit}
-use Rattle.tla_ast.specs.declared.module.Unit.TheVariants.{Variables, Constants, Define, Assume, Passed}
+use Rattle.tla_ast.specs.declared.module.Unit.TheVariants.{Variables, Constants, Recursive, Define, Assume, Passed}
 use Rattle.tla_tokens.specs.declared.token.Kind.{Kind}
 use Rattle.tla_tokens.specs.declared.token.Kind.TheVariants as kinds
 use Rattle.tla_tokens.specs.declared.token.Symbol.TheVariants as symbols
@@ -104,7 +104,8 @@ keeps_expression local xs ys h k = keeps_text local h.0 xs ys h.1.text k
 keeps_unit : LocalText → LocalDefinition → (u : ModuleUnit) → Keeps (UnitText u)
 keeps_unit local definition (Variables ds) xs ys h k = keeps_declared ds h.0 ys h.2 (keeps_variable xs h.0 h.1 k)
 keeps_unit local definition (Constants ds) xs ys h k = keeps_declared ds h.0 ys h.2 (keeps_constant xs h.0 h.1 k)
-keeps_unit local definition (Define d) xs ys h k = let p = definition d.name d.at d.params d.body xs ys h in behind p.0 ys (subst LaidHold p.1 k)
+keeps_unit local definition (Recursive ds) xs ys h k = absurd h
+keeps_unit local definition (Define d) xs ys h k = let p = definition d.name d.at d.params d.form d.body xs ys h in behind p.0 ys (subst LaidHold p.1 k)
 keeps_unit local definition (Assume e) xs ys h k = keeps_text local e h.2.0 ys h.2.2 (keeps_title h.0 h.2.0 h.2.1 (keeps_assume xs h.0 h.1 k))
 keeps_unit local definition Passed xs ys (inl h) k = keeps_some kinds.Dashes xs ys h k
 keeps_unit local definition Passed xs ys (inr h) k = keeps_expression local h.2.0 ys h.2.2 (keeps_title h.0 h.2.0 h.2.1 (keeps_theorem xs h.0 h.1 k))
@@ -117,6 +118,7 @@ AreNamed us = All (λ n. n ≢ []) (names_defined (definitions_in us))
 named_before : (u : ModuleUnit) (us : List ModuleUnit) (xs ys : List Laid) → UnitText u xs ys → LaidHold xs → AreNamed us → AreNamed (u ∷ us)
 named_before (Variables ds) us xs ys h k n = n
 named_before (Constants ds) us xs ys h k n = n
+named_before (Recursive ds) us xs ys h k n = n
 named_before (Define d) us xs ys h k n =
     let t : LaidHold (Plain (record { kind = kinds.Name d.name; place = d.at }) ∷ h.0) = subst LaidHold h.1 k in
     All-cons (λ n. n ≢ []) d.name (names_defined (definitions_in us)) t.0.0 n
@@ -137,6 +139,7 @@ names_append : (us vs : List ModuleUnit) → names_defined (definitions_in (us +
 names_append [] vs = refl
 names_append (Variables ds ∷ us) vs = names_append us vs
 names_append (Constants ds ∷ us) vs = names_append us vs
+names_append (Recursive ds ∷ us) vs = names_append us vs
 names_append (Define d ∷ us) vs = ap (λ (ns : List (List ℕ)). d.name ∷ ns) (names_append us vs)
 names_append (Assume e ∷ us) vs = names_append us vs
 names_append (Passed ∷ us) vs = names_append us vs

@@ -7,7 +7,7 @@ use crate::kind::{LogKind, Outcome};
 use crate::names::SpecNames;
 use crate::position::Position;
 use crate::reading::line_within;
-use json::Scratch;
+use line_shapes::LineScratch;
 use path_updates::{Line, LineList, Sees};
 use std::alloc::Global;
 use thiserror::Error;
@@ -60,7 +60,7 @@ pub fn read_log<N: SpecNames>(
             form,
         },
     };
-    let mut scratch = Scratch::new(alloc);
+    let mut scratch = LineScratch::new(alloc);
     let mut rest = bytes;
     loop {
         let (piece, after) = cut_line(rest);
@@ -105,7 +105,7 @@ fn line_feed(bytes: &[u8]) -> Option<usize>
 /// Reads one more line.
 fn walk_on<N: SpecNames>(
     alloc: Global,
-    scratch: &mut Scratch,
+    scratch: &mut LineScratch,
     names: &N,
     walk: Walk,
     piece: &[u8],

@@ -11,8 +11,7 @@ use crate::kind::{LogKind, Outcome};
 use crate::names::SpecNames;
 use crate::position::Position;
 use crate::step::step_line;
-use json::Scratch;
-use line_shapes::{Key, LineObject, Shape, line_object, line_shape, object_shape};
+use line_shapes::{Key, LineObject, LineScratch, Shape, line_object, line_shape, object_shape};
 use serde_json::{Map, Value as Json};
 use std::alloc::{AllocError, Global};
 use std::str;
@@ -30,14 +29,14 @@ pub fn read_line<N: SpecNames>(
 ) -> Result<Outcome, NoMemory>
     ensures { IfOk result (LineSays (N.setting names.now) at.now bytes.now) }
 {
-    let mut scratch = Scratch::new(alloc);
+    let mut scratch = LineScratch::new(alloc);
     line_within(alloc, &mut scratch, names, at, bytes)
 }
 
 /// The same with room for reading that is kept from line to line.
 pub(crate) fn line_within<N: SpecNames>(
     alloc: Global,
-    scratch: &mut Scratch,
+    scratch: &mut LineScratch,
     names: &N,
     at: &Position,
     bytes: &[u8],
@@ -62,7 +61,7 @@ fn is_blank(line: &[u8]) -> bool
 
 fn text_line<N: SpecNames>(
     alloc: Global,
-    scratch: &mut Scratch,
+    scratch: &mut LineScratch,
     names: &N,
     at: &Position,
     bytes: &[u8],
@@ -74,7 +73,7 @@ fn text_line<N: SpecNames>(
     };
     let read = line_object(alloc, text, scratch)?;
     match read {
-        Some(object) => kept_line(alloc, names, at, text, &object),
+        Some(object) => kept_line(alloc, names, at, text, object),
         None => tree_line(alloc, names, at, text),
     }
 }

@@ -3,6 +3,7 @@ use Rattle.std.proofs.Common.{◌≡◌, ◌∙◌, sym, ap, refl, arith, List, 
 use Rattle.std.specs.Prelude.{ℕ, suc, ◌+◌, Bool, true, false, not, ◌&&◌, ◌||◌, if◌then◌else◌, Option, Some, None, slice_get}
 use Rattle.std.specs.Str.{bytes_eq}
 use Rattle.trace_base.specs.declared.place.Place.{Place}
+use Rattle.tla_ast.specs.declared.form.DefinitionForm.{DefinitionForm}
 use Rattle.tla_ast.specs.Trees as tree
 use Rattle.tla_ast.specs.Trees.{Tree}
 use Rattle.tla_scopes.specs.Mentions.{is_one_of, binds, defines, mentions, mentions_each, mentions_operands, mentions_step, mentions_steps, mentions_bounds, mentions_fields, mentions_changes, mentions_arms, mentions_definitions}
@@ -139,8 +140,8 @@ module _ (names names' : List Entry) (ops : List Operator) where
   )
 
   -- one more definition
-  one_more : (sc sc' : List Local) (ds : tree.Definitions) (js ks : List ℕ) (mid inner : List Local) (m : List ℕ) (at : Place) (ps : List (List ℕ)) (e : Tree) (k : DefId) (x : Term) (d : Followed sc sc' ds js mid) → Means names' ops (bind d.inner ps) e x → slice_get ops k.0 ≡ Some (local_operator (slots mid) (length ps) x) → ks ≡ js ++ k.0 ∷ [] → inner ≡ mid ++ Defined m k (length ps) ∷ [] → Followed sc sc' (tree.MoreDefinitions ds m at ps e) ks inner
-  one_more sc sc' ds js ks mid inner m at ps e k x d body row order scope =
+  one_more : (sc sc' : List Local) (ds : tree.Definitions) (js ks : List ℕ) (mid inner : List Local) (m : List ℕ) (at : Place) (ps : List (List ℕ)) (form : DefinitionForm) (e : Tree) (k : DefId) (x : Term) (d : Followed sc sc' ds js mid) → Means names' ops (bind d.inner ps) e x → slice_get ops k.0 ≡ Some (local_operator (slots mid) (length ps) x) → ks ≡ js ++ k.0 ∷ [] → inner ≡ mid ++ Defined m k (length ps) ∷ [] → Followed sc sc' (tree.MoreDefinitions ds m at ps form e) ks inner
+  one_more sc sc' ds js ks mid inner m at ps form e k x d body row order scope =
       let it : Named = named (length ps) (meant.Definition k) in
       record {
         inner = d.inner ++ Defined m k (length ps) ∷ [];
@@ -256,11 +257,11 @@ module _ (names names' : List Entry) (ops : List Operator) where
     go_definitions : (t : tree.Definitions) (sc sc' : List Local) (ks : List ℕ) (inner : List Local) (g : Takes) → definitions_complaint g t ≡ None → Alike sc sc' (λ n. mentions_definitions n t) → Defines names ops sc t ks inner → Followed sc sc' t ks inner
     go_definitions tree.NoDefinitions sc sc' ks inner g c h d =
         record { inner = sc'; made = (d.0, refl); taken = ap slots d.1 ∙ h.0; same = λ n a. ap (λ (s : List Local). meaning_in names s n) d.1 ∙ a refl }
-    go_definitions (tree.MoreDefinitions ds m at ps e) sc sc' ks inner g c h d =
+    go_definitions (tree.MoreDefinitions ds m at ps form e) sc sc' ks inner g c h d =
         let rest : or_else (itself m at ps e) (complaint (with_names (with_definitions g ds) ps) e) ≡ None = right_none (definitions_complaint g ds) (or_else (itself m at ps e) (complaint (with_names (with_definitions g ds) ps) e)) c in
         let before : Followed sc sc' ds d.0 d.1 = go_definitions ds sc sc' d.0 d.1 g (left_none (definitions_complaint g ds) (or_else (itself m at ps e) (complaint (with_names (with_definitions g ds) ps) e)) c) (left sc sc' (λ n. mentions_definitions n ds) (λ n. not (defines ds n || bytes_eq m n || is_one_of n ps) && mentions n e) h) d.4 in
         let body : Means names' ops (bind before.inner ps) e d.3 = go_tree e (bind d.1 ps) (bind before.inner ps) d.3 (with_names (with_definitions g ds) ps) (right_none (itself m at ps e) (complaint (with_names (with_definitions g ds) ps) e) rest) (in_body sc sc' ds d.0 d.1 m at ps e (left_none (itself m at ps e) (complaint (with_names (with_definitions g ds) ps) e) rest) before (right sc sc' (λ n. mentions_definitions n ds) (λ n. not (defines ds n || bytes_eq m n || is_one_of n ps) && mentions n e) h)) d.5 in
-        one_more sc sc' ds d.0 ks d.1 inner m at ps e d.2 d.3 before body d.6 d.7 d.8
+        one_more sc sc' ds d.0 ks d.1 inner m at ps form e d.2 d.3 before body d.6 d.7 d.8
 
 pub means_by_names : MeansByNames
 means_by_names names names' sc sc' ops t e h c =

@@ -84,4 +84,4 @@ mutual
 
   pub definitions_complaint_fine : (g g' : Takes) → Keeps g g' → (t : Definitions) → definitions_complaint g t ≡ None → definitions_complaint g' t ≡ None
   definitions_complaint_fine g g' p NoDefinitions h = refl
-  definitions_complaint_fine g g' p (MoreDefinitions ds k at ps e) h = or_none (definitions_complaint g' ds) (or_else (itself k at ps e) (complaint (with_names (with_definitions g' ds) ps) e)) (definitions_complaint_fine g g' p ds (left_none (definitions_complaint g ds) (or_else (itself k at ps e) (complaint (with_names (with_definitions g ds) ps) e)) h)) (or_none (itself k at ps e) (complaint (with_names (with_definitions g' ds) ps) e) (left_none (itself k at ps e) (complaint (with_names (with_definitions g ds) ps) e) (right_none (definitions_complaint g ds) (or_else (itself k at ps e) (complaint (with_names (with_definitions g ds) ps) e)) h)) (complaint_fine (with_names (with_definitions g ds) ps) (with_names (with_definitions g' ds) ps) (keeps_names (with_definitions g ds) (with_definitions g' ds) (keeps_definitions g g' p ds) ps) e (right_none (itself k at ps e) (complaint (with_names (with_definitions g ds) ps) e) (right_none (definitions_complaint g ds) (or_else (itself k at ps e) (complaint (with_names (with_definitions g ds) ps) e)) h))))
+  definitions_complaint_fine g g' p (MoreDefinitions ds k at ps form e) h = or_none (definitions_complaint g' ds) (or_else (itself k at ps e) (complaint (with_names (with_definitions g' ds) ps) e)) (definitions_complaint_fine g g' p ds (left_none (definitions_complaint g ds) (or_else (itself k at ps e) (complaint (with_names (with_definitions g ds) ps) e)) h)) (or_none (itself k at ps e) (complaint (with_names (with_definitions g' ds) ps) e) (left_none (itself k at ps e) (complaint (with_names (with_definitions g ds) ps) e) (right_none (definitions_complaint g ds) (or_else (itself k at ps e) (complaint (with_names (with_definitions g ds) ps) e)) h)) (complaint_fine (with_names (with_definitions g ds) ps) (with_names (with_definitions g' ds) ps) (keeps_names (with_definitions g ds) (with_definitions g' ds) (keeps_definitions g g' p ds) ps) e (right_none (itself k at ps e) (complaint (with_names (with_definitions g ds) ps) e) (right_none (definitions_complaint g ds) (or_else (itself k at ps e) (complaint (with_names (with_definitions g ds) ps) e)) h))))

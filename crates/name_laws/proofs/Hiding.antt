@@ -27,7 +27,7 @@ keeps_bounds g g' p (MoreBounds bs ns e) = keeps_names (with_bounds g bs) (with_
 
 pub keeps_definitions : (g g' : Takes) → Keeps g g' → (ds : Definitions) → Keeps (with_definitions g ds) (with_definitions g' ds)
 keeps_definitions g g' p NoDefinitions = p
-keeps_definitions g g' p (MoreDefinitions ds n at ps e) =
+keeps_definitions g g' p (MoreDefinitions ds n at ps form e) =
     keeps_name (with_definitions g ds) (with_definitions g' ds) (keeps_definitions g g' p ds) n (length ps)
 
 if_same : (b : Bool) (k : ℕ) (o o' : Option ℕ) → (b ≡ false → o ≡ o') → (if b then Some k else o) ≡ (if b then Some k else o')
@@ -49,7 +49,7 @@ bounds_same g g' (MoreBounds bs ks e) n h =
 
 pub definitions_same : (g g' : Takes) (ds : Definitions) (n : List ℕ) → (defines ds n ≡ false → g n ≡ g' n) → with_definitions g ds n ≡ with_definitions g' ds n
 definitions_same g g' NoDefinitions n h = h refl
-definitions_same g g' (MoreDefinitions ds k at ps e) n h =
+definitions_same g g' (MoreDefinitions ds k at ps form e) n h =
     name_same (with_definitions g ds) (with_definitions g' ds) k (length ps) n (λ q. definitions_same g g' ds n (λ r. h (or_false (defines ds n) (bytes_eq k n) r q)))
 
 if_hidden : (b : Bool) (k : ℕ) (o : Option ℕ) → b ≡ false → (if b then Some k else o) ≡ o
@@ -71,7 +71,7 @@ bounds_hidden g (MoreBounds bs ks e) n q =
 
 pub definitions_hidden : (g : Takes) (ds : Definitions) (n : List ℕ) → defines ds n ≡ false → with_definitions g ds n ≡ g n
 definitions_hidden g NoDefinitions n q = refl
-definitions_hidden g (MoreDefinitions ds k at ps e) n q =
+definitions_hidden g (MoreDefinitions ds k at ps form e) n q =
     name_hidden (with_definitions g ds) k (length ps) n (rest_false (defines ds n) (bytes_eq k n) q) ∙ definitions_hidden g ds n (head_false (defines ds n) (bytes_eq k n) q)
 
 itself_some : (a b : Bool) (f : NameFault) → a ≡ false → b ≡ true → (if a then None else (if b then Some f else None)) ≡ None → ⊥

@@ -87,4 +87,4 @@ mutual
 
   pub definitions_complaint_known : (g : Takes) (t : Definitions) → definitions_complaint g t ≡ None → (n : List ℕ) → mentions_definitions n t ≡ true → IsKnown (g n)
   definitions_complaint_known g NoDefinitions h n m = absurd (cc)
-  definitions_complaint_known g (MoreDefinitions ds k at ps e) h n m = (or_elim (mentions_definitions n ds) (not (defines ds n || bytes_eq k n || is_one_of n ps) && mentions n e) (λ m. definitions_complaint_known g ds (left_none (definitions_complaint g ds) (or_else (itself k at ps e) (complaint (with_names (with_definitions g ds) ps) e)) h) n m) (and_elim (defines ds n || bytes_eq k n || is_one_of n ps) (mentions n e) (λ q m. subst IsKnown ((names_hidden (with_definitions g ds) ps n (right_false (defines ds n) (bytes_eq k n) (is_one_of n ps) q) ∙ definitions_hidden g ds n (left_false (defines ds n) (bytes_eq k n) (is_one_of n ps) q))) (complaint_known (with_names (with_definitions g ds) ps) e (right_none (itself k at ps e) (complaint (with_names (with_definitions g ds) ps) e) (right_none (definitions_complaint g ds) (or_else (itself k at ps e) (complaint (with_names (with_definitions g ds) ps) e)) h)) n m)))) m
+  definitions_complaint_known g (MoreDefinitions ds k at ps form e) h n m = (or_elim (mentions_definitions n ds) (not (defines ds n || bytes_eq k n || is_one_of n ps) && mentions n e) (λ m. definitions_complaint_known g ds (left_none (definitions_complaint g ds) (or_else (itself k at ps e) (complaint (with_names (with_definitions g ds) ps) e)) h) n m) (and_elim (defines ds n || bytes_eq k n || is_one_of n ps) (mentions n e) (λ q m. subst IsKnown ((names_hidden (with_definitions g ds) ps n (right_false (defines ds n) (bytes_eq k n) (is_one_of n ps) q) ∙ definitions_hidden g ds n (left_false (defines ds n) (bytes_eq k n) (is_one_of n ps) q))) (complaint_known (with_names (with_definitions g ds) ps) e (right_none (itself k at ps e) (complaint (with_names (with_definitions g ds) ps) e) (right_none (definitions_complaint g ds) (or_else (itself k at ps e) (complaint (with_names (with_definitions g ds) ps) e)) h)) n m)))) m

@@ -89,4 +89,4 @@ module _ (names names' : List Entry) (more : HasMore names names') (ops : List O
 
     pub defines_more : (sc : List Local) (ds : Definitions) (ks : List ℕ) (inner : List Local) → Defines names ops sc ds ks inner → Defines names' ops sc ds ks inner
     defines_more sc NoDefinitions ks inner h = h
-    defines_more sc (MoreDefinitions ds n at ps e) ks inner h = (h.0, h.1, h.2, h.3, defines_more sc ds h.0 h.1 h.4, means_more (bind h.1 ps) e h.3 h.5, h.6, h.7, h.8)
+    defines_more sc (MoreDefinitions ds n at ps form e) ks inner h = (h.0, h.1, h.2, h.3, defines_more sc ds h.0 h.1 h.4, means_more (bind h.1 ps) e h.3 h.5, h.6, h.7, h.8)

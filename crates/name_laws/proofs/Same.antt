@@ -84,4 +84,4 @@ mutual
 
   pub definitions_complaint_same : (g g' : Takes) (t : Definitions) → ((n : List ℕ) → mentions_definitions n t ≡ true → g n ≡ g' n) → definitions_complaint g t ≡ definitions_complaint g' t
   definitions_complaint_same g g' NoDefinitions a = refl
-  definitions_complaint_same g g' (MoreDefinitions ds k at ps e) a = or_same (definitions_complaint g ds) (definitions_complaint g' ds) (or_else (itself k at ps e) (complaint (with_names (with_definitions g ds) ps) e)) (or_else (itself k at ps e) (complaint (with_names (with_definitions g' ds) ps) e)) (definitions_complaint_same g g' ds (λ n m. a n (or_left (mentions_definitions n ds) (not (defines ds n || bytes_eq k n || is_one_of n ps) && mentions n e) m))) (body_same k at ps e (complaint (with_names (with_definitions g ds) ps) e) (complaint (with_names (with_definitions g' ds) ps) e) (λ w. complaint_same (with_names (with_definitions g ds) ps) (with_names (with_definitions g' ds) ps) e (λ n m. names_same (with_definitions g ds) (with_definitions g' ds) ps n (λ q. definitions_same g g' ds n (λ r. a n (or_right (mentions_definitions n ds) (not (defines ds n || bytes_eq k n || is_one_of n ps) && mentions n e) (hidden_and (defines ds n || bytes_eq k n || is_one_of n ps) (mentions n e) (none_of (defines ds n) (bytes_eq k n) (is_one_of n ps) r (w n m q) q) m)))))))
+  definitions_complaint_same g g' (MoreDefinitions ds k at ps form e) a = or_same (definitions_complaint g ds) (definitions_complaint g' ds) (or_else (itself k at ps e) (complaint (with_names (with_definitions g ds) ps) e)) (or_else (itself k at ps e) (complaint (with_names (with_definitions g' ds) ps) e)) (definitions_complaint_same g g' ds (λ n m. a n (or_left (mentions_definitions n ds) (not (defines ds n || bytes_eq k n || is_one_of n ps) && mentions n e) m))) (body_same k at ps e (complaint (with_names (with_definitions g ds) ps) e) (complaint (with_names (with_definitions g' ds) ps) e) (λ w. complaint_same (with_names (with_definitions g ds) ps) (with_names (with_definitions g' ds) ps) e (λ n m. names_same (with_definitions g ds) (with_definitions g' ds) ps n (λ q. definitions_same g g' ds n (λ r. a n (or_right (mentions_definitions n ds) (not (defines ds n || bytes_eq k n || is_one_of n ps) && mentions n e) (hidden_and (defines ds n || bytes_eq k n || is_one_of n ps) (mentions n e) (none_of (defines ds n) (bytes_eq k n) (is_one_of n ps) r (w n m q) q) m)))))))

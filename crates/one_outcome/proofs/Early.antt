@@ -6,7 +6,7 @@ use Rattle.tla_ast.specs.declared.config.Config.{Config}
 use Rattle.tla_ast.specs.declared.module.Declared.{Declared}
 use Rattle.tla_ast.specs.declared.module.Program.{Program}
 use Rattle.tla_ast.specs.declared.module.Unit.{Unit as ModuleUnit}
-use Rattle.tla_ast.specs.declared.module.Unit.TheVariants.{Variables, Constants, Define, Assume, Passed}
+use Rattle.tla_ast.specs.declared.module.Unit.TheVariants.{Variables, Constants, Recursive, Define, Assume, Passed}
 use Rattle.tla_names.specs.declared.fault.NameFault.{NameFault}
 use Rattle.tla_names.specs.Complaints.{complaint, with_names}
 use Rattle.tla_program.specs.InUnits.{constants_in}
@@ -38,6 +38,7 @@ unit_fault_one p c i (Define d) f g x y = either_fault p c i (UsesItself p c i) 
 unit_fault_one p c i (Assume e) f g x y = some_one (complaint (takes_in_program p c) e) f g x y
 unit_fault_one p c i (Variables ds) f g x y = absurd x
 unit_fault_one p c i (Constants ds) f g x y = absurd x
+unit_fault_one p c i (Recursive rs) f g x y = absurd x
 unit_fault_one p c i Passed f g x y = absurd x
 
 name_fault_at_one : (p : Program) (c : Config) (k : ℕ) (f g : NameFault) → IsNameFaultAt p c k f → IsNameFaultAt p c k g → f ≡ g

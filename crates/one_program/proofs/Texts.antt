@@ -3,7 +3,7 @@ use Rattle.std.proofs.Common.{◌≡◌, ◌≢◌, ◌∙◌, List, [], ◌∷�
 use Rattle.tla_ast.specs.declared.laid.Laid.{Laid}
 use Rattle.tla_ast.specs.declared.module.Module.{Module}
 use Rattle.tla_ast.specs.declared.module.Unit.{Unit as ModuleUnit}
-use Rattle.tla_ast.specs.declared.module.Unit.TheVariants.{Variables, Constants, Define, Assume, Passed}
+use Rattle.tla_ast.specs.declared.module.Unit.TheVariants.{Variables, Constants, Recursive, Define, Assume, Passed}
 use Rattle.tla_ast.specs.Begun.{BegunModule, FittingBegunModule}
 use Rattle.tla_ast.specs.Modules.{ModuleText, ModuleTextBy, SomeExpression, SomeText, SpellsModule, UnitTextBy, UnitsTextBy}
 use Rattle.tla_exprs.specs.declared.fault.ParseFault.{ParseFault}
@@ -19,6 +19,7 @@ some_text xs ys h = (h.0, h.1.text)
 unit_text : (u : ModuleUnit) (xs ys : List Laid) → UnitTextBy SomeExpression u xs ys → UnitTextBy SomeText u xs ys
 unit_text (Variables ds) xs ys h = h
 unit_text (Constants ds) xs ys h = h
+unit_text (Recursive ds) xs ys h = h
 unit_text (Define d) xs ys h = h
 unit_text (Assume e) xs ys h = h
 unit_text Passed xs ys (inl h) = inl h

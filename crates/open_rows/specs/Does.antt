@@ -17,7 +17,7 @@ Does (Reads m) fs does = does ≡ machine.Reads fs m
 Does Stops fs does = does ≡ machine.Stops
 Does (Clashes p q) fs does = does ≡ machine.Clashes p q
 Does (Ends e) fs does = does ≡ machine.Ends e
-Does (EndsDefinition d) fs does = does ≡ machine.EndsDefinition d.name d.at d.params d.body
+Does (EndsDefinition d) fs does = does ≡ machine.EndsDefinition d.name d.at d.params d.form d.body
 
 abbrev pub joined_view : Joined → machine.Joined Tree
 joined_view (Joins e) = machine.Joins e

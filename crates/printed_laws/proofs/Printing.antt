@@ -27,7 +27,8 @@ use Rattle.state_layers.specs.declared.answer.Answer.TheVariants.{Explained}
 use Rattle.run_texts.specs.Answers.{answer_text}
 use Rattle.state_file_laws.specs.Laws.{AreNames, ExplainedReadsBack, IsMark, IsShown}
 use Rattle.lined_verdicts.specs.Laws.{ExplainedAreStates, ExplainedIsJudgedValid}
-use Rattle.printed_laws.specs.Laws.{ArePlaced, IsPlaced, PrintedIsValid}
+use Rattle.held_readings.specs.Held.{ArePlaced, IsPlaced}
+use Rattle.printed_laws.specs.Laws.{PrintedIsValid}
 
 all_at : {X : Type 0} (P : X → Type 0) (xs : List X) (n : ℕ) (x : X) → All P xs → slice_get xs n ≡ Some x → P x
 all_at P xs n x all e = subst P (sym (unwrap_or-slice_get xs n x) ∙ ap (λ o. unwrap_or o x) e) (all n x (slice_get_within xs n x e))

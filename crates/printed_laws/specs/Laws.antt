@@ -1,11 +1,9 @@
 -- What is printed of a log that is explained, read again and judged.
-use Rattle.std.specs.Prelude.{◌≡◌, ◌<◌, ◌^◌, ℕ, List, All, IsUtf8, Ok}
+use Rattle.std.specs.Prelude.{◌≡◌, ℕ, List, All, IsUtf8, Ok}
 use Rattle.tla_core.specs.declared.state.Shown.{Shown}
 use Rattle.tla_terms.specs.declared.spec.Spec.{Spec}
-use Rattle.path_updates.specs.declared.line.Line.{Line}
 use Rattle.line_steps.specs.Logs.{Asked}
 use Rattle.tied_logs.specs.declared.logs.Lined.{Lined}
-use Rattle.tied_logs.specs.declared.logs.Lined.TheVariants.{Sequence, Tied}
 use Rattle.state_layers.specs.declared.answer.Answer.TheVariants.{Explained}
 use Rattle.state_files.specs.Files.{StateFileSays}
 use Rattle.state_file_laws.specs.Laws.{IsOneLine}
@@ -13,15 +11,7 @@ use Rattle.state_verdicts.specs.declared.verdict.Verdict.TheVariants.{Valid}
 use Rattle.run_texts.specs.Answers.{Named, answer_text}
 use Rattle.lined_specs.specs.Answers.{IsTrueOf}
 use Rattle.lined_verdicts.specs.Verdicts.{IsJudgedOf}
-
--- the line stands in a file and at a line of 32 bits
-abbrev pub IsPlaced : Line → Type 0
-IsPlaced l = (l.at.file < 2 ^ 32) × (l.at.line < 2 ^ 32)
-
--- so do the lines of all logs
-abbrev pub ArePlaced : Lined → Type 0
-ArePlaced (Sequence log) = All IsPlaced log.lines
-ArePlaced (Tied logs) = All (λ file. All IsPlaced file) logs.files.items
+use Rattle.held_readings.specs.Held.{ArePlaced}
 
 -- what a report names is that of the specification, its names are texts, no line feed stands in what is not checked, and the lines have their places
 pub record IsPrinted (l : Named) (g : Spec) (lined : Lined) : Type 0 where

@@ -1,5 +1,5 @@
 -- What a token does behind an expression.
-use Rattle.std.proofs.Common.{◌≡◌, ℕ, true, false, List, [], ◌∷◌, Option, Some, None, refl, sym, ap, subst, ◌∙◌, inl, inr}
+use Rattle.std.proofs.Common.{◌≡◌, ℕ, true, false, List, [], ◌∷◌, Option, Some, None, refl, sym, ap, subst, ◌∙◌}
 use Rattle.trace_base.specs.declared.place.Place.{Place}
 use Rattle.tla_ast.specs.declared.laid.Bullet.{Bullet}
 use Rattle.tla_ast.specs.declared.laid.Laid.{Laid}
@@ -14,7 +14,7 @@ use Rattle.tla_ast.specs.Fits.{LeftAbove, EndsNoCase, Fits}
 use Rattle.tla_ast.specs.Trees.{Tree, NoTrees, MoreTrees, MoreDefinitions}
 use Rattle.reader_model.specs.declared.frame.Form.{Form}
 use Rattle.reader_model.specs.declared.frame.Frame.{Frame}
-use Rattle.reader_model.specs.Machine.{Stepped, Stops, infix_of_symbol, infix_step, with_step, parameters_of, body_of, same_bullet, Settled, settle, word_closes, name_closes, item_closes, list_closes, kind_closes, laid_closes, closes, is_always, is_case_mark, settled_closes, behind, call_step, infix_or, symbol_follows, kind_follows, follows}
+use Rattle.reader_model.specs.Machine.{Stepped, Stops, infix_of_symbol, infix_step, with_step, parameters_of, form_of, body_of, same_bullet, Settled, settle, word_closes, name_closes, item_closes, list_closes, kind_closes, laid_closes, closes, is_always, is_case_mark, settled_closes, behind, call_step, infix_or, symbol_follows, kind_follows, follows}
 use Rattle.reader_model.proofs.Opened.{Defines, Good, laid_symbol}
 use Rattle.reader_model.proofs.Edges.{operand_left, operand_right, operand_ends, top_all, one_of_two, infix_good}
 use Rattle.reader_model.proofs.Settling.{IsSettled, settles}
@@ -81,9 +81,9 @@ symbol_of symbols.Power = refl
 symbol_of _ = tt
 
 -- what stands behind the name of a definition, from its form
-pub definition_rest : (form : Form) (e : Tree) (xs ys zs ws : List Laid) → FormText form xs ys → sign symbols.Defined ys zs → Text e zs ws → DefinitionRest (parameters_of form) (body_of form e) xs ws
-definition_rest (forms.Operator ns) e xs ys zs ws a d t = inl (ys, a, (zs, d, t))
-definition_rest (forms.Function at bs) e xs ys zs ws a d t = inr (refl, (a.0, a.1, (a.2.0, a.2.1, (ys, a.2.2, (zs, d, t)))))
+pub definition_rest : (form : Form) (e : Tree) (xs ys zs ws : List Laid) → FormText form xs ys → sign symbols.Defined ys zs → Text e zs ws → DefinitionRest (parameters_of form) (form_of form) (body_of form e) xs ws
+definition_rest (forms.Operator ns) e xs ys zs ws a d t = (ys, a, (zs, d, t))
+definition_rest (forms.Function at bs) e xs ys zs ws a d t = (refl, (a.0, a.1, (a.2.0, a.2.1, (ys, a.2.2, (zs, d, t)))))
 
 pub definition_fits : (form : Form) (e : Tree) → FormFits form → Fits e → Fits (body_of form e)
 definition_fits (forms.Operator ns) e f k = k
@@ -103,7 +103,7 @@ module _ (xs r : List Laid) where
   word_good words.Except q (frame.MaybeFunction at n p o) fs e ys zs F a t f h k =
       member_good xs r q (laid_word words.Except q ∷ r) n p o e a.0 zs _ a.2 t k (λ u v w. ((ys, F, (a.0, a.1, (laid_word words.Except q ∷ r, v, (r, (q, refl), refl)))), h, (w, tt)))
   word_good words.In q (frame.DefinitionBody (scopes.Let at ds) n p form) fs e ys zs F a t f h k =
-      want_good xs (laid_word words.In q ∷ r) r (frame.LetBody at (MoreDefinitions ds n p (parameters_of form) (body_of form e))) fs ys F
+      want_good xs (laid_word words.In q ∷ r) r (frame.LetBody at (MoreDefinitions ds n p (parameters_of form) (form_of form) (body_of form e))) fs ys F
       (a.1.0, a.1.1, (laid_word words.In q ∷ r, (a.0, a.1.2, (a.2.0, a.2.1, definition_rest form e a.2.0 a.2.2.0 zs (laid_word words.In q ∷ r) a.2.2.1 a.2.2.2 t)), (q, refl)))
       (f.0, definition_fits form e f.1 k) h
   word_good w q g fs e ys zs F a t f h k = tt
@@ -138,7 +138,7 @@ module _ (xs r : List Laid) where
   laid_good (ListClose q) g fs e ys zs F a t f h k n = list_good q g fs e ys zs F a t f h k
 
   -- the definition of a unit, whose frame is the only one
-  pub unit_good : (here : List Laid) (n : List ℕ) (p : Place) (form : Form) (fs : List Frame) (e : Tree) (ys zs : List Laid) → fs ≡ [] → FramesText fs xs ys → FrameText (frame.DefinitionBody scopes.Unit n p form) ys zs → Text e zs here → FormFits form → Fits e → Defines n p (parameters_of form) (body_of form e) xs here
+  pub unit_good : (here : List Laid) (n : List ℕ) (p : Place) (form : Form) (fs : List Frame) (e : Tree) (ys zs : List Laid) → fs ≡ [] → FramesText fs xs ys → FrameText (frame.DefinitionBody scopes.Unit n p form) ys zs → Text e zs here → FormFits form → Fits e → Defines n p (parameters_of form) (form_of form) (body_of form e) xs here
   unit_good here n p form fs e ys zs i F a t f k =
       let j : xs ≡ ys = subst (λ x. FramesText x xs ys) i F in
       ((a.2.0, subst (λ x. token p (kinds.Name n) x a.2.0) (sym (j ∙ a.1)) a.2.1, definition_rest form e a.2.0 a.2.2.0 zs here a.2.2.1 a.2.2.2 t), definition_fits form e f k)

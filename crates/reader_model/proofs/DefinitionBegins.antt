@@ -2,6 +2,8 @@
 use Rattle.std.proofs.Common.{◌≡◌, ◌⊎◌, ℕ, List, [], ◌∷◌, ◌++◌, append_assoc, inl, inr, refl, sym, ap, subst, ◌∙◌}
 use Rattle.std.proofs.lemmas.List.{append-nil}
 use Rattle.trace_base.specs.declared.place.Place.{Place}
+use Rattle.tla_ast.specs.declared.form.DefinitionForm.{DefinitionForm}
+use Rattle.tla_ast.specs.declared.form.DefinitionForm.TheVariants as definition_forms
 use Rattle.tla_ast.specs.declared.laid.Laid.{Laid}
 use Rattle.tla_tokens.specs.declared.token.Kind.TheVariants as kinds
 use Rattle.tla_tokens.specs.declared.token.Symbol.TheVariants as symbols
@@ -22,7 +24,7 @@ use Rattle.reader_model.specs.declared.frame.Frame.{Frame}
 use Rattle.reader_model.specs.declared.frame.Frame.TheVariants as frame
 use Rattle.reader_model.specs.declared.frame.Mode.{Mode}
 use Rattle.reader_model.specs.declared.frame.Mode.TheVariants as mode
-use Rattle.reader_model.specs.Machine.{Reads, Clashes, parameters_of, body_of, step, StopsAt, ClashesAt, EndsDefinitionAt}
+use Rattle.reader_model.specs.Machine.{Reads, Clashes, parameters_of, form_of, body_of, step, StopsAt, ClashesAt, EndsDefinitionAt}
 use Rattle.reader_model.specs.OpenRows.{FrameText}
 use Rattle.reader_model.proofs.Flat as flat
 use Rattle.reader_model.proofs.FlatStates.{rows, expected, Same}
@@ -45,8 +47,9 @@ record DefinitionEnding (xs : List Laid) : Type 0 where
   name : List ℕ
   at : Place
   parameters : List (List ℕ)
+  form : DefinitionForm
   body : Tree
-  text : DefinitionText name at parameters body xs []
+  text : DefinitionText name at parameters form body xs []
 
 -- the text of the row at the bottom, and then that of an expression
 body_ends : (s : Scope) (n : List ℕ) (p : Place) (form : Form) (e : Tree) (xs ys : List Laid) → OfUnit s → FrameText (frame.DefinitionBody s n p form) xs ys → Text e ys [] → DefinitionEnding xs
@@ -56,6 +59,7 @@ body_ends scopes.Unit n p form e xs ys u f t =
       name = n;
       at = p;
       parameters = parameters_of form;
+      form = form_of form;
       body = body_of form e;
       text = (f.2.0, f.1 ∙ f.2.1, definition_rest form e f.2.0 f.2.2.0 ys [] f.2.2.1 f.2.2.2 t);
     }
@@ -73,11 +77,12 @@ bound_ends (binders.Defined scopes.Unit n p q) bs ns e xs ys u f t =
       name = n;
       at = p;
       parameters = [];
+      form = definition_forms.Function;
       body = tree.Function q (MoreBounds bs ns e) one_tree;
       text = (
         c.2.0,
         c.1 ∙ c.2.1,
-        inr (
+        (
           refl,
           (
             a.0,
@@ -101,9 +106,10 @@ row_begun (frame.DefinitionBody s n p form) before inner i f b =
       name = d.name;
       at = d.at;
       parameters = d.parameters;
+      form = d.form;
       body = d.body;
       rest = b.rest;
-      whole = subst (λ v. DefinitionText d.name d.at d.parameters d.body v []) (sym (append_assoc before inner b.rest)) d.text;
+      whole = subst (λ v. DefinitionText d.name d.at d.parameters d.form d.body v []) (sym (append_assoc before inner b.rest)) d.text;
     }
 row_begun (frame.BoundSet c ns) before inner i f b =
     let t : Front (Text b.tree) (inner ++ b.rest) [] = tree_local b.tree (inner ++ b.rest) [] b.whole in
@@ -115,9 +121,10 @@ row_begun (frame.BoundSet c ns) before inner i f b =
       name = d.name;
       at = d.at;
       parameters = d.parameters;
+      form = d.form;
       body = d.body;
       rest = r;
-      whole = subst (λ v. DefinitionText d.name d.at d.parameters d.body v []) (sym (append_assoc before inner r)) d.text;
+      whole = subst (λ v. DefinitionText d.name d.at d.parameters d.form d.body v []) (sym (append_assoc before inner r)) d.text;
     }
 row_begun _ before inner i f b = absurd i
 
@@ -186,7 +193,7 @@ head_begun : (read : List Laid) (fs : List Frame) (m : Mode) → ((r : List Laid
 head_begun read fs m o h =
     let f : HeadFinish [] m = head_finish m h.head in
     let d : DefinitionEnding (read ++ f.0) = f.1 (read ++ f.0) (subst (λ v. Opened (read ++ f.0) v m f.0) h.empty (o f.0)) in
-    record { name = d.name; at = d.at; parameters = d.parameters; body = d.body; rest = f.0; whole = d.text }
+    record { name = d.name; at = d.at; parameters = d.parameters; form = d.form; body = d.body; rest = f.0; whole = d.text }
 
 inner_begun : (inner : List Laid) (gs : List Frame) (n : Mode) → Path inner [] mode.Want gs n → Begun inner
 inner_begun inner gs n p =
@@ -210,7 +217,7 @@ pub definition_stopped : DefinitionStoppedBegun
 definition_stopped read rest x q = definition_ran read (read_before read rest x [] (mode.DefinitionName scopes.Unit) (StopsAt (x ∷ rest)) q refl)
 
 pub definition_ends : DefinitionEndsBegun
-definition_ends read rest x n p ns e q = definition_ran read (read_before read rest x [] (mode.DefinitionName scopes.Unit) (EndsDefinitionAt n p ns e (x ∷ rest)) q refl)
+definition_ends read rest x n p ns form e q = definition_ran read (read_before read rest x [] (mode.DefinitionName scopes.Unit) (EndsDefinitionAt n p ns form e (x ∷ rest)) q refl)
 
 -- ---- clashes
 

@@ -2,6 +2,7 @@
 use Rattle.std.proofs.Common.{◌≡◌, ℕ, List, [], ◌∷◌, ◌++◌, append_assoc, refl, sym, ap, subst, ◌∙◌}
 use Rattle.std.proofs.lemmas.List.{append-nil}
 use Rattle.trace_base.specs.declared.place.Place.{Place}
+use Rattle.tla_ast.specs.declared.form.DefinitionForm.{DefinitionForm}
 use Rattle.tla_ast.specs.declared.laid.Laid.{Laid}
 use Rattle.tla_ast.specs.declared.laid.Laid.TheVariants.{Plain}
 use Rattle.tla_tokens.specs.declared.token.Kind.TheVariants as kinds
@@ -27,7 +28,7 @@ done_there read rest r x o s h q = along read (x ∷ r) [] (mode.DefinitionName 
 -- what is begun through x, from the token on
 passes_there : (read : List Laid) (x : Laid) → (b : BegunDefinition (read ++ x ∷ [])) → Passes (run_definition (read ++ x ∷ b.rest))
 passes_there read x b =
-    definition_passes b.name b.at b.parameters b.body (read ++ x ∷ b.rest) (subst (λ v. DefinitionText b.name b.at b.parameters b.body v []) (append_assoc read (x ∷ []) b.rest) b.whole)
+    definition_passes b.name b.at b.parameters b.form b.body (read ++ x ∷ b.rest) (subst (λ v. DefinitionText b.name b.at b.parameters b.form b.body v []) (append_assoc read (x ∷ []) b.rest) b.whole)
 
 pub definition_stopped_there : DefinitionStoppedThere
 definition_stopped_there read rest x q b =
@@ -35,33 +36,33 @@ definition_stopped_there read rest x q b =
     let e : run_definition (read ++ x ∷ b.rest) ≡ StopsAt (x ∷ b.rest) = done_there read rest b.rest x (StopsAt (x ∷ rest)) Stops h (reach_stops read [] (mode.DefinitionName scopes.Unit) x rest (x ∷ rest) h) in
     subst Passes e (passes_there read x b)
 
-defines_of : (s : Stepped) (here r : List Laid) (next : List Frame → Mode → Outcome) (n : List ℕ) (p : Place) (ns : List (List ℕ)) (e : Tree) → IsLast s → after s here next ≡ EndsDefinitionAt n p ns e r → s ≡ EndsDefinition n p ns e
-defines_of (Reads fs m) here r next n p ns e l q = absurd l
-defines_of Stops here r next n p ns e l q = cc
-defines_of (Clashes a b) here r next n p ns e l q = cc
-defines_of (Ends d) here r next n p ns e l q = cc
-defines_of (EndsDefinition a b c d) here r next n p ns e l q = cc
+defines_of : (s : Stepped) (here r : List Laid) (next : List Frame → Mode → Outcome) (n : List ℕ) (p : Place) (ns : List (List ℕ)) (form : DefinitionForm) (e : Tree) → IsLast s → after s here next ≡ EndsDefinitionAt n p ns form e r → s ≡ EndsDefinition n p ns form e
+defines_of (Reads fs m) here r next n p ns form e l q = absurd l
+defines_of Stops here r next n p ns form e l q = cc
+defines_of (Clashes a b) here r next n p ns form e l q = cc
+defines_of (Ends d) here r next n p ns form e l q = cc
+defines_of (EndsDefinition a b c f d) here r next n p ns form e l q = cc
 
 pub definition_ends_there : DefinitionEndsThere
-definition_ends_there read rest x n p ns e q b =
-    let o : Outcome = EndsDefinitionAt n p ns e (x ∷ rest) in
+definition_ends_there read rest x n p ns form e q b =
+    let o : Outcome = EndsDefinitionAt n p ns form e (x ∷ rest) in
     let h : Reach read [] (mode.DefinitionName scopes.Unit) x rest o = reach read x rest [] (mode.DefinitionName scopes.Unit) o q refl in
-    let s : step x h.frames h.expects ≡ EndsDefinition n p ns e = defines_of (step x h.frames h.expects) (x ∷ rest) (x ∷ rest) (run rest) n p ns e h.done h.gives in
-    subst Passes (done_there read rest b.rest x o (EndsDefinition n p ns e) h s) (passes_there read x b)
+    let s : step x h.frames h.expects ≡ EndsDefinition n p ns form e = defines_of (step x h.frames h.expects) (x ∷ rest) (x ∷ rest) (run rest) n p ns form e h.done h.gives in
+    subst Passes (done_there read rest b.rest x o (EndsDefinition n p ns form e) h s) (passes_there read x b)
 
 -- a token that ends the text
 abbrev the_end : Laid
 the_end = Plain (record { kind = kinds.End; place = record { file = 0; line = 0; col = 0 } })
 
 -- what a definition with an End behind it is read as
-ended : (n : List ℕ) (p : Place) (ns : List (List ℕ)) (e : Tree) (xs : List Laid) → DefinitionText n p ns e xs [] → Fits e → run_definition (xs ++ the_end ∷ []) ≡ EndsDefinitionAt n p ns e (the_end ∷ [])
-ended n p ns e xs t f =
-    let l : Front (DefinitionText n p ns e) xs [] = definition_local n p ns e xs [] t in
+ended : (n : List ℕ) (p : Place) (ns : List (List ℕ)) (form : DefinitionForm) (e : Tree) (xs : List Laid) → DefinitionText n p ns form e xs [] → Fits e → run_definition (xs ++ the_end ∷ []) ≡ EndsDefinitionAt n p ns form e (the_end ∷ [])
+ended n p ns form e xs t f =
+    let l : Front (DefinitionText n p ns form e) xs [] = definition_local n p ns form e xs [] t in
     let k : xs ≡ l.front = l.here ∙ append-nil l.front in
-    definition_read (xs ++ the_end ∷ []) [] the_end n p ns e (subst (λ v. DefinitionText n p ns e (v ++ the_end ∷ []) (the_end ∷ [])) (sym k) (l.anywhere (the_end ∷ []))) f tt
+    definition_read (xs ++ the_end ∷ []) [] the_end n p ns form e (subst (λ v. DefinitionText n p ns form e (v ++ the_end ∷ []) (the_end ∷ [])) (sym k) (l.anywhere (the_end ∷ []))) f tt
 
-no_clash : (a b : Place) (r s : List Laid) (n : List ℕ) (p : Place) (ns : List (List ℕ)) (e : Tree) → ClashesAt a b r ≡ EndsDefinitionAt n p ns e s → ⊥
-no_clash a b r s n p ns e h = cc
+no_clash : (a b : Place) (r s : List Laid) (n : List ℕ) (p : Place) (ns : List (List ℕ)) (form : DefinitionForm) (e : Tree) → ClashesAt a b r ≡ EndsDefinitionAt n p ns form e s → ⊥
+no_clash a b r s n p ns form e h = cc
 
 pub definition_clashed_there : DefinitionClashedThere
 definition_clashed_there read rest x p q i b =
@@ -69,7 +70,7 @@ definition_clashed_there read rest x p q i b =
     let h : Reach read [] (mode.DefinitionName scopes.Unit) x rest o = reach read x rest [] (mode.DefinitionName scopes.Unit) o i refl in
     let r : List Laid = b.rest ++ the_end ∷ [] in
     let c : run_definition (read ++ x ∷ r) ≡ ClashesAt p q (x ∷ r) = done_there read rest r x o (Clashes p q) h (reach_clashes read [] (mode.DefinitionName scopes.Unit) x rest (x ∷ rest) p q h) in
-    let e : run_definition (((read ++ x ∷ []) ++ b.rest) ++ the_end ∷ []) ≡ EndsDefinitionAt b.name b.at b.parameters b.body (the_end ∷ []) =
-    ended b.name b.at b.parameters b.body ((read ++ x ∷ []) ++ b.rest) b.whole b.fits in
+    let e : run_definition (((read ++ x ∷ []) ++ b.rest) ++ the_end ∷ []) ≡ EndsDefinitionAt b.name b.at b.parameters b.form b.body (the_end ∷ []) =
+    ended b.name b.at b.parameters b.form b.body ((read ++ x ∷ []) ++ b.rest) b.whole b.fits in
     let k : ((read ++ x ∷ []) ++ b.rest) ++ the_end ∷ [] ≡ read ++ x ∷ r = append_assoc (read ++ x ∷ []) b.rest (the_end ∷ []) ∙ append_assoc read (x ∷ []) r in
-    no_clash p q (x ∷ r) (the_end ∷ []) b.name b.at b.parameters b.body (sym c ∙ ap (λ v. run_definition v) (sym k) ∙ e)
+    no_clash p q (x ∷ r) (the_end ∷ []) b.name b.at b.parameters b.form b.body (sym c ∙ ap (λ v. run_definition v) (sym k) ∙ e)

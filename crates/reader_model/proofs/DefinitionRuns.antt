@@ -1,6 +1,8 @@
 -- What the reader does with the whole text of a unit's definition, whatever its ranges: it reads all of it, or two ranges meet.
-use Rattle.std.proofs.Common.{◌≡◌, ℕ, List, [], ◌∷◌, ◌++◌, append_assoc, inl, inr, refl, sym, ap, subst, ◌∙◌}
+use Rattle.std.proofs.Common.{◌≡◌, ℕ, List, [], ◌∷◌, ◌++◌, append_assoc, refl, sym, ap, subst, ◌∙◌}
 use Rattle.trace_base.specs.declared.place.Place.{Place}
+use Rattle.tla_ast.specs.declared.form.DefinitionForm.{DefinitionForm}
+use Rattle.tla_ast.specs.declared.form.DefinitionForm.TheVariants as definition_forms
 use Rattle.tla_ast.specs.declared.laid.Laid.{Laid}
 use Rattle.tla_tokens.specs.declared.token.Kind.TheVariants as kinds
 use Rattle.tla_tokens.specs.declared.token.Symbol.{Symbol}
@@ -37,7 +39,7 @@ continued b (StopsAt r) = StopsAt r
 continued b (ClashesAt p q r) = ClashesAt p q r
 continued b (EndsAt e []) = StopsAt []
 continued b (EndsAt e (x ∷ r)) = after (closes x (b ∷ []) e) (x ∷ r) (run r)
-continued b (EndsDefinitionAt n p ns e r) = EndsDefinitionAt n p ns e r
+continued b (EndsDefinitionAt n p ns form e r) = EndsDefinitionAt n p ns form e r
 
 over_after : (b : Frame) (s : Stepped) (x : Laid) (xs : List Laid) → ((fs : List Frame) (m : Mode) → run xs (fs ++ b ∷ []) m ≡ continued b (run xs fs m))
     → after (over b (λ e. closes x (b ∷ []) e) s) (x ∷ xs) (run xs) ≡ continued b (after s (x ∷ xs) (run xs))
@@ -45,7 +47,7 @@ over_after b (Reads fs m) x xs f = f fs m
 over_after b Stops x xs f = refl
 over_after b (Clashes p q) x xs f = refl
 over_after b (Ends e) x xs f = refl
-over_after b (EndsDefinition n p ns e) x xs f = refl
+over_after b (EndsDefinition n p ns form e) x xs f = refl
 
 pub run_over : (b : Frame) → Waits b → (xs : List Laid) (fs : List Frame) (m : Mode) → run xs (fs ++ b ∷ []) m ≡ continued b (run xs fs m)
 run_over b w [] fs m = refl
@@ -58,7 +60,7 @@ abbrev pub Alike : Outcome → flat.Result → Type 0
 Alike (StopsAt r) o = o ≡ flat.StopsAt r
 Alike (ClashesAt p q r) o = Unit {0}
 Alike (EndsAt e r) o = o ≡ flat.EndsAt r
-Alike (EndsDefinitionAt n p ns e r) o = ⊥
+Alike (EndsDefinitionAt n p ns form e r) o = ⊥
 
 alike_after : (A : Type 0) (s : Stepped) (y : flat.Done) (x : Laid) (xs : List Laid) → Same A s y → ((fs : List Frame) (m : Mode) → FramesKept fs → ModeKept m fs → Alike (run xs fs m) (flat.run xs (rows fs) (expected m)))
     → Alike (after s (x ∷ xs) (run xs)) (flat.after y (x ∷ xs) (flat.run xs))
@@ -66,7 +68,7 @@ alike_after A (Reads fs m) y x xs h f = subst (λ v. Alike (run xs fs m) (flat.a
 alike_after A Stops y x xs h f = ap (λ v. flat.after v (x ∷ xs) (flat.run xs)) h
 alike_after A (Clashes p q) y x xs h f = tt
 alike_after A (Ends e) y x xs h f = ap (λ v. flat.after v (x ∷ xs) (flat.run xs)) h
-alike_after A (EndsDefinition n p ns e) y x xs h f = absurd h
+alike_after A (EndsDefinition n p ns form e) y x xs h f = absurd h
 
 pub alike : (xs : List Laid) (fs : List Frame) (m : Mode) → FramesKept fs → ModeKept m fs → Alike (run xs fs m) (flat.run xs (rows fs) (expected m))
 alike [] fs m k h = refl
@@ -80,7 +82,7 @@ Passes (StopsAt []) = Unit {0}
 Passes (StopsAt (x ∷ r)) = ⊥
 Passes (ClashesAt p q r) = Unit {0}
 Passes (EndsAt e r) = ⊥
-Passes (EndsDefinitionAt n p ns e r) = ⊥
+Passes (EndsDefinitionAt n p ns form e r) = ⊥
 
 stops_end : (x : Laid) (r : List Laid) → flat.StopsAt [] ≡ flat.StopsAt (x ∷ r) → ⊥
 stops_end x r q = cc
@@ -96,13 +98,13 @@ whole_passes b (StopsAt []) q = tt
 whole_passes b (StopsAt (x ∷ r)) q = stops_end x r q
 whole_passes b (ClashesAt p c r) q = tt
 whole_passes b (EndsAt e r) q = absurd (stops_ends [] r q)
-whole_passes b (EndsDefinitionAt n p ns e r) q = absurd q
+whole_passes b (EndsDefinitionAt n p ns form e r) q = absurd q
 
 part_passes : (b : Frame) (o : Outcome) (x : Laid) (r : List Laid) → Alike o (flat.EndsAt (x ∷ r)) → ((e : Tree) → Passes (after (closes x (b ∷ []) e) (x ∷ r) (run r))) → Passes (continued b o)
 part_passes b (StopsAt s) x r q f = absurd (stops_ends s (x ∷ r) (sym q))
 part_passes b (ClashesAt p c s) x r q f = tt
 part_passes b (EndsAt e s) x r q f = subst (λ v. Passes (continued b (EndsAt e v))) (ends_rest (x ∷ r) s q) (f e)
-part_passes b (EndsDefinitionAt n p ns e s) x r q f = absurd q
+part_passes b (EndsDefinitionAt n p ns form e s) x r q f = absurd q
 
 -- up to the end of all tokens
 body_passes : (b : Frame) → Waits b → (e : Tree) (xs : List Laid) → Text e xs [] → Passes (run xs (b ∷ []) mode.Want)
@@ -183,11 +185,11 @@ operator_begins n p (m ∷ ns) xs ys zs h d =
     ∙ parameter_names n p [] (m ∷ ns) h.0 h.2.0 ys h.2.1 h.2.2
     ∙ ap (λ v. run v [] (mode.DefinedAs scopes.Unit n p (forms.Operator (m ∷ ns)))) d.1
 
-rest_passes : (n : List ℕ) (p : Place) (ns : List (List ℕ)) (e : Tree) (xs : List Laid) → DefinitionRest ns e xs [] → Passes (run xs [] (mode.DefinitionNamed scopes.Unit n p))
-rest_passes n p ns e xs (inl h) =
+rest_passes : (n : List ℕ) (p : Place) (ns : List (List ℕ)) (form : DefinitionForm) (e : Tree) (xs : List Laid) → DefinitionRest ns form e xs [] → Passes (run xs [] (mode.DefinitionNamed scopes.Unit n p))
+rest_passes n p ns definition_forms.Operator e xs h =
     subst Passes (sym (operator_begins n p ns xs h.0 h.2.0 h.1 h.2.1))
     (body_passes (frame.DefinitionBody scopes.Unit n p (forms.Operator ns)) (body_waits n p p (forms.Operator ns)) e h.2.0 h.2.2)
-rest_passes n p ns e xs (inr h) = function_passes n p e xs h.1
+rest_passes n p ns definition_forms.Function e xs h = function_passes n p e xs h.1
 
-pub definition_passes : (n : List ℕ) (p : Place) (ns : List (List ℕ)) (e : Tree) (xs : List Laid) → DefinitionText n p ns e xs [] → Passes (run_definition xs)
-definition_passes n p ns e xs h = subst (λ v. Passes (run_definition v)) (sym h.1) (rest_passes n p ns e h.0 h.2)
+pub definition_passes : (n : List ℕ) (p : Place) (ns : List (List ℕ)) (form : DefinitionForm) (e : Tree) (xs : List Laid) → DefinitionText n p ns form e xs [] → Passes (run_definition xs)
+definition_passes n p ns form e xs h = subst (λ v. Passes (run_definition v)) (sym h.1) (rest_passes n p ns form e h.0 h.2)

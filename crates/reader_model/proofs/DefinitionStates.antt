@@ -97,7 +97,7 @@ HeadGood (Reads fs m) = Head fs m ⊎ Begins fs m
 HeadGood Stops = Unit {0}
 HeadGood (Clashes p q) = ⊥
 HeadGood (Ends e) = ⊥
-HeadGood (EndsDefinition n p ns e) = ⊥
+HeadGood (EndsDefinition n p ns form e) = ⊥
 
 in_head : (m : Mode) → InHead m → Head [] m ⊎ Begins [] m
 in_head m h = inl (record { empty = refl; head = h })
@@ -142,7 +142,7 @@ BottomGood (Reads fs m) = Head fs m
 BottomGood Stops = Unit {0}
 BottomGood (Clashes p q) = ⊥
 BottomGood (Ends e) = ⊥
-BottomGood (EndsDefinition n p ns e) = Unit {0}
+BottomGood (EndsDefinition n p ns form e) = Unit {0}
 
 binder_bottom : (s : Symbol) (c : Binder) (bs : Bounds) → BindsUnit c → BottomGood (binder_close s c bs [])
 binder_bottom symbols.CloseBracket (binders.Defined c n p q) bs h = record { empty = refl; head = h }
@@ -234,7 +234,7 @@ inside_next read x fs m gs n i (Reads hs o) p q =
 inside_next read x fs m gs n i Stops p q = cc
 inside_next read x fs m gs n i (Clashes a b) p q = cc
 inside_next read x fs m gs n i (Ends e) p q = inl (subst BottomGood q (bottom_good x i.row e i.bottom))
-inside_next read x fs m gs n i (EndsDefinition a b c e) p q = cc
+inside_next read x fs m gs n i (EndsDefinition a b c f e) p q = cc
 
 stands_next : (read : List Laid) (x : Laid) (fs : List Frame) (m : Mode) (gs : List Frame) (n : Mode) → step x fs m ≡ Reads gs n → ((r : List Laid) → Opened ((read ++ x ∷ []) ++ r) gs n r) → Head fs m ⊎ Inside read fs m
     → Head gs n ⊎ Inside (read ++ x ∷ []) gs n
@@ -269,7 +269,7 @@ over_clash read x fs m p q i (Reads hs o) a c = cc
 over_clash read x fs m p q i Stops a c = cc
 over_clash read x fs m p q i (Clashes u v) a c = record { state = i; clashes = a ∙ c }
 over_clash read x fs m p q i (Ends e) a c = absurd (subst BottomGood c (bottom_good x i.row e i.bottom))
-over_clash read x fs m p q i (EndsDefinition u v w e) a c = cc
+over_clash read x fs m p q i (EndsDefinition u v w f e) a c = cc
 
 clash_stands : (read : List Laid) (x : Laid) (fs : List Frame) (m : Mode) (p q : Place) → step x fs m ≡ Clashes p q → Head fs m ⊎ Inside read fs m → ClashesOver read x fs m p q
 clash_stands read x fs m p q c (inl h) = absurd (subst HeadGood (ap (λ v. step x v m) (sym h.empty) ∙ c) (head_good x m h.head))

@@ -44,7 +44,7 @@ over b next (Reads fs m) = Reads (fs ++ b ∷ []) m
 over b next Stops = Stops
 over b next (Clashes p q) = Clashes p q
 over b next (Ends e) = next e
-over b next (EndsDefinition n p ns e) = EndsDefinition n p ns e
+over b next (EndsDefinition n p ns form e) = EndsDefinition n p ns form e
 
 module _ (b : Frame) (w : Waits b) where
   -- rows over it

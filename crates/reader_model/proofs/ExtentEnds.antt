@@ -1,8 +1,10 @@
 -- Behind a whole text none of the tokens that end one goes on.
-use Rattle.std.proofs.Common.{◌≡◌, ℕ, Bool, true, false, List, [], ◌∷◌, ◌++◌, append_assoc, inl, inr, refl, sym, ap, subst, ◌∙◌}
+use Rattle.std.proofs.Common.{◌≡◌, ℕ, Bool, true, false, List, [], ◌∷◌, ◌++◌, append_assoc, refl, sym, ap, subst, ◌∙◌}
 use Rattle.std.proofs.lemmas.List.{append-nil}
 use Rattle.std.specs.Prelude.{if◌then◌else◌}
 use Rattle.trace_base.specs.declared.place.Place.{Place}
+use Rattle.tla_ast.specs.declared.form.DefinitionForm.{DefinitionForm}
+use Rattle.tla_ast.specs.declared.form.DefinitionForm.TheVariants as forms
 use Rattle.tla_ast.specs.declared.laid.Laid.{Laid}
 use Rattle.tla_ast.specs.declared.laid.Laid.TheVariants.{Plain, ListOpen, ListItem, ListClose}
 use Rattle.tla_tokens.specs.declared.token.Kind.{Kind}
@@ -28,7 +30,7 @@ pub local_text : LocalText
 local_text e xs ys h = let f : Front (Text e) xs ys = tree_local e xs ys h in (f.front, f.here, f.anywhere)
 
 pub local_definition : LocalDefinition
-local_definition n at ns e xs ys h = let f : Front (DefinitionText n at ns e) xs ys = definition_local n at ns e xs ys h in (f.front, f.here, f.anywhere)
+local_definition n at ns form e xs ys h = let f : Front (DefinitionText n at ns form e) xs ys = definition_local n at ns form e xs ys h in (f.front, f.here, f.anywhere)
 
 -- ---- expressions
 
@@ -39,6 +41,7 @@ pub record Closes (x : Laid) : Type 0 where
 kind_closes : (k : Kind) (at : Place) → EndsKind k → Closes (plain k at)
 kind_closes (kinds.Name m) at q = record { closing = λ n fs. refl; no_case = refl }
 kind_closes (kinds.Word w) at q = record { closing = λ n fs. refl; no_case = refl }
+kind_closes (kinds.Foreign f) at q = record { closing = λ n fs. refl; no_case = refl }
 kind_closes kinds.Dashes at q = record { closing = λ n fs. refl; no_case = refl }
 kind_closes kinds.Equals at q = record { closing = λ n fs. refl; no_case = refl }
 kind_closes kinds.End at q = record { closing = λ n fs. refl; no_case = refl }
@@ -142,22 +145,22 @@ function_body (tree.Function at bs e) xs ys h =
     record { tree = e; text = subst (λ v. Text e v ys) (sym q) h.2.2.2.2 }
 function_body _ xs ys h = absurd h
 
-body_of : (ns : List (List ℕ)) (e : Tree) (xs ys : List Laid) → DefinitionRest ns e xs ys → Body xs ys
-body_of ns e xs ys (inl h) =
+body_of : (ns : List (List ℕ)) (form : DefinitionForm) (e : Tree) (xs ys : List Laid) → DefinitionRest ns form e xs ys → Body xs ys
+body_of ns forms.Operator e xs ys h =
     let q : body_from xs ≡ h.2.0 = operator_from ns xs h.0 h.2.0 h.1 h.2.1 in
     record { tree = e; text = subst (λ v. Text e v ys) (sym q) h.2.2 }
-body_of ns e xs ys (inr h) = function_body e xs ys h.1
+body_of ns forms.Function e xs ys h = function_body e xs ys h.1
 
 same_tail : (x y : Laid) (xs ys zs : List Laid) → zs ≡ x ∷ xs → zs ≡ y ∷ ys → ys ≡ xs
 same_tail x y xs ys zs p q = cc
 
 pub none_follows_definition : NoneFollowsDefinition
-none_follows_definition n at ns e text x h i b =
-    let f : Front (DefinitionText n at ns e) text [] = definition_local n at ns e text [] h in
+none_follows_definition n at ns form e text x h i b =
+    let f : Front (DefinitionText n at ns form e) text [] = definition_local n at ns form e text [] h in
     let k : f.front ≡ text = sym (f.here ∙ append-nil f.front) in
     let all : List Laid = text ++ x ∷ b.rest in
-    let s : DefinitionText n at ns e all (x ∷ b.rest) = subst (λ v. DefinitionText n at ns e (v ++ x ∷ b.rest) (x ∷ b.rest)) k (f.anywhere (x ∷ b.rest)) in
-    let t : DefinitionText b.name b.at b.parameters b.body all [] = subst (λ v. DefinitionText b.name b.at b.parameters b.body v []) (append_assoc text (x ∷ []) b.rest) b.whole in
-    let c : Body s.0 (x ∷ b.rest) = body_of ns e s.0 (x ∷ b.rest) s.2 in
-    let d : Body t.0 [] = body_of b.parameters b.body t.0 [] t.2 in
+    let s : DefinitionText n at ns form e all (x ∷ b.rest) = subst (λ v. DefinitionText n at ns form e (v ++ x ∷ b.rest) (x ∷ b.rest)) k (f.anywhere (x ∷ b.rest)) in
+    let t : DefinitionText b.name b.at b.parameters b.form b.body all [] = subst (λ v. DefinitionText b.name b.at b.parameters b.form b.body v []) (append_assoc text (x ∷ []) b.rest) b.whole in
+    let c : Body s.0 (x ∷ b.rest) = body_of ns form e s.0 (x ∷ b.rest) s.2 in
+    let d : Body t.0 [] = body_of b.parameters b.form b.body t.0 [] t.2 in
     not_both c.tree d.tree (body_from s.0) b.rest x i c.text (subst (λ v. Text d.tree (body_from v) []) (same_tail _ _ s.0 t.0 all s.1 t.1) d.text)

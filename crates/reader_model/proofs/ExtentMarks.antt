@@ -132,11 +132,11 @@ no_mark_inside before after x i b =
 in_let : (read : List Laid) → BegunDefinition read → Begun (a_word words.Let ∷ read)
 in_let read b =
     let end : List Laid = a_word words.In ∷ one ∷ [] in
-    let f : Front (DefinitionText b.name b.at b.parameters b.body) (read ++ b.rest) [] = definition_local b.name b.at b.parameters b.body (read ++ b.rest) [] b.whole in
+    let f : Front (DefinitionText b.name b.at b.parameters b.form b.body) (read ++ b.rest) [] = definition_local b.name b.at b.parameters b.form b.body (read ++ b.rest) [] b.whole in
     let k : f.front ++ end ≡ read ++ (b.rest ++ end) = ap (λ v. v ++ end) (sym (append-nil f.front) ∙ sym f.here) ∙ append_assoc read b.rest end in
-    let t : DefinitionText b.name b.at b.parameters b.body (read ++ (b.rest ++ end)) end = subst (λ v. DefinitionText b.name b.at b.parameters b.body v end) k (f.anywhere end) in
+    let t : DefinitionText b.name b.at b.parameters b.form b.body (read ++ (b.rest ++ end)) end = subst (λ v. DefinitionText b.name b.at b.parameters b.form b.body v end) k (f.anywhere end) in
     record {
-      tree = tree.Let start (MoreDefinitions NoDefinitions b.name b.at b.parameters b.body) one_tree;
+      tree = tree.Let start (MoreDefinitions NoDefinitions b.name b.at b.parameters b.form b.body) one_tree;
       rest = b.rest ++ end;
       whole = (read ++ (b.rest ++ end), refl, (end, (read ++ (b.rest ++ end), refl, (t.0, t.1, t.2)), (one ∷ [], (start, refl), refl)));
     }

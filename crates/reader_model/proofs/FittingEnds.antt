@@ -4,6 +4,7 @@ use Rattle.std.proofs.Common.{◌≡◌, ℕ, Bool, true, false, List, [], ◌�
 use Rattle.std.proofs.lemmas.List.{append-nil}
 use Rattle.std.specs.Prelude.{ℤ, if◌then◌else◌}
 use Rattle.trace_base.specs.declared.place.Place.{Place}
+use Rattle.tla_ast.specs.declared.form.DefinitionForm.{DefinitionForm}
 use Rattle.tla_ast.specs.declared.laid.Bullet.{Bullet}
 use Rattle.tla_ast.specs.declared.laid.Bullet.TheVariants as bullets
 use Rattle.tla_ast.specs.declared.laid.Laid.{Laid}
@@ -49,7 +50,7 @@ use Rattle.reader_model.proofs.FittingRows.{closer, closed, IsClosed, closed_spe
 -- a whole text that fits, of a unit's definition or of an expression
 abbrev pub Fitting : Bool → List Laid → Type 0
 Fitting false xs = (e : Tree) × Spells e xs []
-Fitting true xs = (n : List ℕ) × (p : Place) × (ns : List (List ℕ)) × (e : Tree) × Defines n p ns e xs []
+Fitting true xs = (n : List ℕ) × (p : Place) × (ns : List (List ℕ)) × (form : DefinitionForm) × (e : Tree) × Defines n p ns form e xs []
 
 -- what is expected before the first token
 abbrev pub first_mode : Bool → Mode
@@ -225,17 +226,17 @@ ran_fits read q = let f = ran false read q in record { tree = f.1.0; rest = f.0;
 
 -- the same of a unit's definition
 pub definition_ran_fits : (read : List Laid) → run read [] (mode.DefinitionName scopes.Unit) ≡ StopsAt [] → FittingBegunDefinition read
-definition_ran_fits read q = let f = ran true read q in record { name = f.1.0; at = f.1.1; parameters = f.1.2; body = f.1.3; rest = f.0; whole = f.1.4.0; fits = f.1.4.1 }
+definition_ran_fits read q = let f = ran true read q in record { name = f.1.0; at = f.1.1; parameters = f.1.2; form = f.1.3; body = f.1.4; rest = f.0; whole = f.1.5.0; fits = f.1.5.1 }
 
 -- ---- a text that fits is read
 
 -- up to an End behind it
-definition_ended : (n : List ℕ) (p : Place) (ns : List (List ℕ)) (e : Tree) (xs : List Laid) → Defines n p ns e xs [] → run (xs ++ the_end ∷ []) [] (mode.DefinitionName scopes.Unit) ≡ EndsDefinitionAt n p ns e (the_end ∷ [])
+definition_ended : (n : List ℕ) (p : Place) (ns : List (List ℕ)) (form : DefinitionForm) (e : Tree) (xs : List Laid) → Defines n p ns form e xs [] → run (xs ++ the_end ∷ []) [] (mode.DefinitionName scopes.Unit) ≡ EndsDefinitionAt n p ns form e (the_end ∷ [])
 unfolding the_end
-definition_ended n p ns e xs d =
-    let f : Front (token p (kinds.Name n) ⨟ DefinitionRest ns e) xs [] = definition_local n p ns e xs [] d.0 in
+definition_ended n p ns form e xs d =
+    let f : Front (token p (kinds.Name n) ⨟ DefinitionRest ns form e) xs [] = definition_local n p ns form e xs [] d.0 in
     let k : xs ≡ f.front = f.here ∙ append-nil f.front in
-    definition_read (xs ++ the_end ∷ []) [] the_end n p ns e (subst (λ v. (token p (kinds.Name n) ⨟ DefinitionRest ns e) (v ++ the_end ∷ []) (the_end ∷ [])) (sym k) (f.anywhere (the_end ∷ []))) d.1 tt
+    definition_read (xs ++ the_end ∷ []) [] the_end n p ns form e (subst (λ v. (token p (kinds.Name n) ⨟ DefinitionRest ns form e) (v ++ the_end ∷ []) (the_end ∷ [])) (sym k) (f.anywhere (the_end ∷ []))) d.1 tt
 
 all_of : (xs : List Laid) (fs : List Frame) (m : Mode) (o : _) → Reach xs fs m the_end [] o → All xs fs m
 all_of xs fs m o h = record { frames = h.frames; expects = h.expects; path = h.path }
@@ -244,7 +245,7 @@ all_fitting : (unit : Bool) (xs : List Laid) → Fitting unit xs → All xs [] (
 all_fitting false xs s = all_of xs [] mode.Want _ (reach xs the_end [] [] mode.Want (EndsAt s.0 (the_end ∷ [])) (ended s.0 xs s.1) refl)
 all_fitting true xs s =
     all_of xs [] (mode.DefinitionName scopes.Unit) _
-    (reach xs the_end [] [] (mode.DefinitionName scopes.Unit) (EndsDefinitionAt s.0 s.1 s.2 s.3 (the_end ∷ [])) (definition_ended s.0 s.1 s.2 s.3 xs s.4) refl)
+    (reach xs the_end [] [] (mode.DefinitionName scopes.Unit) (EndsDefinitionAt s.0 s.1 s.2 s.3 s.4 (the_end ∷ [])) (definition_ended s.0 s.1 s.2 s.3 s.4 xs s.5) refl)
 
 pub path_runs : (done more : List Laid) (fs : List Frame) (m : Mode) (gs : List Frame) (n : Mode) → Path (done ++ more) fs m gs n → run done fs m ≡ StopsAt []
 path_runs [] more fs m gs n p = refl

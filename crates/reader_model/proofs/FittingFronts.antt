@@ -4,6 +4,7 @@ use Rattle.trace_base.specs.declared.place.Place.{Place}
 use Rattle.tla_tokens.specs.declared.token.Kind.TheVariants as kinds
 use Rattle.tla_tokens.specs.declared.token.Word.TheVariants as words
 use Rattle.tla_tokens.specs.declared.token.Symbol.TheVariants as symbols
+use Rattle.tla_ast.specs.declared.form.DefinitionForm.{DefinitionForm}
 use Rattle.tla_ast.specs.Precedence.{prefix_kind, infix_symbol, quantifier_symbol}
 use Rattle.tla_ast.specs.Grammar.{◌⨟◌, token, DefinitionRest}
 use Rattle.tla_ast.specs.Trees as tree
@@ -21,7 +22,7 @@ use Rattle.reader_model.specs.declared.frame.Frame.{Frame}
 use Rattle.reader_model.specs.declared.frame.Frame.TheVariants as frame
 use Rattle.reader_model.specs.OpenRows.{field_mark}
 use Rattle.reader_model.specs.OpenRows.{ScopeText, FormText, BinderText, BindingText, ActionText, ExceptText, PathText, FrameText, FramesText}
-use Rattle.reader_model.proofs.UniqueSpans.{Local, nothing_local, token_local, some_local, open_local, item_local, then_local, only_local, either_local, symbol, symbol_at, names_local, parameters_local, tree_local, commas_before_local, items_before_local, chain_local, steps_local, bounds_before_local, bounds_local, fields_before_local, changes_before_local, arms_before_local, some_arms_local, function_local, definitions_local, some_definitions_local}
+use Rattle.reader_model.proofs.UniqueSpans.{Local, nothing_local, token_local, some_local, open_local, item_local, then_local, only_local, symbol, symbol_at, names_local, parameters_local, tree_local, commas_before_local, items_before_local, chain_local, steps_local, bounds_before_local, bounds_local, fields_before_local, changes_before_local, arms_before_local, some_arms_local, function_local, definitions_local, some_definitions_local, either_form_local}
 
 scope_local : (c : Scope) → Local (ScopeText c)
 scope_local (scopes.Let at ds) = then_local _ _ (token_local at (kinds.Word words.Let)) (definitions_local ds)
@@ -94,7 +95,6 @@ frames_local [] = nothing_local
 frames_local (f ∷ fs) = then_local _ _ (frames_local fs) (frame_local f)
 
 -- the same of a unit's definition
-pub definition_local : (n : List ℕ) (p : Place) (ns : List (List ℕ)) (e : Tree) → Local (token p (kinds.Name n) ⨟ DefinitionRest ns e)
-definition_local n p ns e =
-    then_local _ _ (token_local p (kinds.Name n))
-    (either_local _ _ (then_local _ _ (parameters_local ns) (then_local _ _ (symbol symbols.Defined) (tree_local e))) (only_local _ _ (function_local e)))
+pub definition_local : (n : List ℕ) (p : Place) (ns : List (List ℕ)) (form : DefinitionForm) (e : Tree) → Local (token p (kinds.Name n) ⨟ DefinitionRest ns form e)
+definition_local n p ns form e = then_local _ _ (token_local p (kinds.Name n))
+    (either_form_local form _ _ (then_local _ _ (parameters_local ns) (then_local _ _ (symbol symbols.Defined) (tree_local e))) (only_local _ _ (function_local e)))

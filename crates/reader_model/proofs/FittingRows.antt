@@ -1,6 +1,8 @@
 -- Each row that is open behind an expression, ended by tokens so that its operators fit their ranges.
-use Rattle.std.proofs.Common.{◌≡◌, ℕ, true, false, List, [], ◌∷◌, refl, sym, subst, inr}
+use Rattle.std.proofs.Common.{◌≡◌, ℕ, true, false, List, [], ◌∷◌, refl, sym, subst}
 use Rattle.trace_base.specs.declared.place.Place.{Place}
+use Rattle.tla_ast.specs.declared.form.DefinitionForm.{DefinitionForm}
+use Rattle.tla_ast.specs.declared.form.DefinitionForm.TheVariants as definition_forms
 use Rattle.tla_ast.specs.declared.laid.Laid.{Laid}
 use Rattle.tla_ast.specs.declared.laid.Laid.TheVariants.{ListClose}
 use Rattle.tla_tokens.specs.declared.token.Kind.TheVariants as kinds
@@ -19,7 +21,7 @@ use Rattle.reader_model.specs.declared.frame.Binder.{Binder}
 use Rattle.reader_model.specs.declared.frame.Binder.TheVariants as binders
 use Rattle.reader_model.specs.declared.frame.Frame.{Frame}
 use Rattle.reader_model.specs.declared.frame.Frame.TheVariants as frame
-use Rattle.reader_model.specs.Machine.{with_step, subscripted, of_records, parameters_of, body_of}
+use Rattle.reader_model.specs.Machine.{with_step, subscripted, of_records, parameters_of, form_of, body_of}
 use Rattle.reader_model.specs.OpenFits.{Top, BinderFits, FrameFits, in_binder, in_frame, FrameStands}
 use Rattle.reader_model.specs.OpenRows.{BinderText, FrameText}
 use Rattle.reader_model.proofs.Opened.{Defines}
@@ -78,7 +80,7 @@ abbrev pub binder_closed : Binder → Bounds → Tree
 binder_closed (binders.Quantifier q at) bs = tree.Quantified at q bs one_tree
 binder_closed (binders.Function at) bs = tree.Function at bs one_tree
 binder_closed (binders.Map at e) bs = tree.Map at e bs
-binder_closed (binders.Defined (scopes.Let at ds) n p q) bs = tree.Let at (MoreDefinitions ds n p [] (tree.Function q bs one_tree)) one_tree
+binder_closed (binders.Defined (scopes.Let at ds) n p q) bs = tree.Let at (MoreDefinitions ds n p [] definition_forms.Function (tree.Function q bs one_tree)) one_tree
 binder_closed (binders.Defined scopes.Unit n p q) bs = one_tree
 
 -- the tree of the row; a unit's definition is none
@@ -110,7 +112,7 @@ closed (frame.IfElse p d b) e = tree.If p d b e
 closed (frame.CaseTest p arms) e = tree.Case p (MoreArms arms e one_tree)
 closed (frame.CaseValue p arms d) e = tree.Case p (MoreArms arms d e)
 closed (frame.CaseOther p arms) e = tree.CaseOther p arms e
-closed (frame.DefinitionBody (scopes.Let at ds) n p form) e = tree.Let at (MoreDefinitions ds n p (parameters_of form) (body_of form e)) one_tree
+closed (frame.DefinitionBody (scopes.Let at ds) n p form) e = tree.Let at (MoreDefinitions ds n p (parameters_of form) (form_of form) (body_of form e)) one_tree
 closed (frame.DefinitionBody scopes.Unit n p form) e = e
 closed (frame.LetBody p ds) e = tree.Let p ds e
 closed (frame.Subscript k at d) e = subscripted k at d e
@@ -145,7 +147,7 @@ module _ (fs : List Frame) (xs ys r : List Laid) where
   binder_spells (binders.Map at e) bs i h k a t = ((h.1, (a.0, a.1, (a.2.0, a.2.1, (ys, a.2.2, (a_sign symbols.CloseBrace ∷ r, t, (start, refl)))))), (h.0, k), any fs)
   binder_spells (binders.Defined (scopes.Let at ds) n p q) bs i h k a t =
       let r1 : List Laid = a_word words.In ∷ one ∷ r in let r2 : List Laid = one ∷ r1 in let r3 : List Laid = a_sign symbols.Defined ∷ r2 in (
-        (a.1.0, a.1.1, (r1, (a.0, a.1.2, (a.2.0, a.2.1, inr (refl, (ys, a.2.2, (a_sign symbols.CloseBracket ∷ r3, t, (r3, (start, refl), (r2, (start, refl), refl))))))), (one ∷ r, (start, refl), refl))),
+        (a.1.0, a.1.1, (r1, (a.0, a.1.2, (a.2.0, a.2.1, (refl, (ys, a.2.2, (a_sign symbols.CloseBracket ∷ r3, t, (r3, (start, refl), (r2, (start, refl), refl))))))), (one ∷ r, (start, refl), refl))),
         ((h, (k, tt)), tt),
         any fs,
       )
@@ -258,20 +260,21 @@ closed_suits f fs e h = suits (closed f e) fs h
 
 -- a unit's definition has ended
 pub unit_spells : (f : Frame) (fs : List Frame) (e : Tree) (xs ys zs : List Laid) → fs ≡ [] → in_frame f ≡ true → FrameFits f fs → Fits e → xs ≡ ys → FrameText f ys zs → Text e zs (closer f [])
-    → (n : List ℕ) × (p : Place) × (ns : List (List ℕ)) × (d : Tree) × Defines n p ns d xs []
+    → (n : List ℕ) × (p : Place) × (ns : List (List ℕ)) × (form : DefinitionForm) × (d : Tree) × Defines n p ns form d xs []
 unit_spells (frame.DefinitionBody scopes.Unit n p form) fs e xs ys zs q i h k j a t =
-    (n, p, parameters_of form, body_of form e, unit_good xs [] [] n p form [] e ys zs refl j a t h.1 k)
+    (n, p, parameters_of form, form_of form, body_of form e, unit_good xs [] [] n p form [] e ys zs refl j a t h.1 k)
 unit_spells (frame.BoundSet b ns) fs e xs ys zs q i h k j a t =
     bounded b.binder (MoreBounds b.bounds ns e) xs a.1.0 i (h.1, k) (subst (λ v. BinderText b.binder v a.1.0) (sym j) a.1.1) (a.0, a.1.2, (a.2.0, a.2.1, (zs, a.2.2, t)))
   where
-    bounded : (b : Binder) (bs : Bounds) (xs ys : List Laid) → in_binder b ≡ true → BoundsFit bs → BinderText b xs ys → BoundsText bs ys (binder_closer b []) → (n : List ℕ) × (p : Place) × (ns : List (List ℕ)) × (d : Tree) × Defines n p ns d xs []
+    bounded : (b : Binder) (bs : Bounds) (xs ys : List Laid) → in_binder b ≡ true → BoundsFit bs → BinderText b xs ys → BoundsText bs ys (binder_closer b []) → (n : List ℕ) × (p : Place) × (ns : List (List ℕ)) × (form : DefinitionForm) × (d : Tree) × Defines n p ns form d xs []
     bounded (binders.Defined scopes.Unit n p q) bs xs ys i k a t =
         let r1 : List Laid = one ∷ [] in let r2 : List Laid = a_sign symbols.Defined ∷ r1 in (
           n,
           p,
           [],
+          definition_forms.Function,
           tree.Function q bs one_tree,
-          ((a.2.0, subst (λ v. token p (kinds.Name n) v a.2.0) (sym a.1) a.2.1, inr (refl, (ys, a.2.2, (a_sign symbols.CloseBracket ∷ r2, t, (r2, (start, refl), (r1, (start, refl), refl)))))), (k, tt)),
+          ((a.2.0, subst (λ v. token p (kinds.Name n) v a.2.0) (sym a.1) a.2.1, (refl, (ys, a.2.2, (a_sign symbols.CloseBracket ∷ r2, t, (r2, (start, refl), (r1, (start, refl), refl)))))), (k, tt)),
         )
     bounded (binders.Defined (scopes.Let at ds) n p q) bs xs ys i k a t = cc
     bounded (binders.Quantifier q at) bs xs ys i k a t = cc

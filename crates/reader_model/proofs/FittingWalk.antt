@@ -60,7 +60,7 @@ with_clash C (Reads fs m) h c = h
 with_clash C Stops h c = tt
 with_clash C (Clashes p q) h c = c p q refl
 with_clash C (Ends e) h c = tt
-with_clash C (EndsDefinition n p ns e) h c = tt
+with_clash C (EndsDefinition n p ns form e) h c = tt
 
 -- tokens at which a late `\in` can only be an operator
 abbrev pub EndsElement : Kind → Type 0

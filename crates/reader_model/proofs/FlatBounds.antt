@@ -1,7 +1,9 @@
 -- Bounds, CHOOSE, EXCEPT, CASE, and LET, flat.
-use Rattle.std.proofs.Common.{◌≡◌, ℕ, Bool, true, false, List, [], ◌∷◌, ◌++◌, inl, inr, refl, ap, ◌∙◌}
+use Rattle.std.proofs.Common.{◌≡◌, ℕ, Bool, true, false, List, [], ◌∷◌, ◌++◌, refl, ap, ◌∙◌}
 use Rattle.std.specs.Prelude.{if◌then◌else◌}
 use Rattle.trace_base.specs.declared.place.Place.{Place}
+use Rattle.tla_ast.specs.declared.form.DefinitionForm.{DefinitionForm}
+use Rattle.tla_ast.specs.declared.form.DefinitionForm.TheVariants as forms
 use Rattle.tla_ast.specs.declared.laid.Laid.{Laid}
 use Rattle.tla_ast.specs.declared.laid.Laid.TheVariants.{Plain, ListOpen, ListItem, ListClose}
 use Rattle.tla_tokens.specs.declared.token.Kind.{Kind}
@@ -212,25 +214,25 @@ function_goes (tree.Function at bs e) g fs xs us vs h u c k =
 function_goes _ g fs xs us vs h u c k = absurd h
 
 -- a definition behind its name, up to the token behind it
-definition_goes : {x : Laid} (ns : List (List ℕ)) (e : Tree) → Goes e → FunctionGood e → (fs : List flat.Row) (xs us vs : List Laid) → DefinitionRest ns e xs us → us ≡ x ∷ vs → is_case_mark x ≡ false → Closing x
+definition_goes : {x : Laid} (ns : List (List ℕ)) (form : DefinitionForm) (e : Tree) → Goes e → FunctionGood e → (fs : List flat.Row) (xs us vs : List Laid) → DefinitionRest ns form e xs us → us ≡ x ∷ vs → is_case_mark x ≡ false → Closing x
     → flat.run xs fs flat.DefinitionNamed ≡ flat.after (flat.behind x (flat.Definition ∷ fs)) (x ∷ vs) (flat.run vs)
-definition_goes ns e g f fs xs us vs (inl h) u c k = operator_begins ns fs xs h.0 h.2.0 h.1 h.2.1 ∙ part _ _ e (flat.Definition ∷ fs) g tt h.2.2 u c k
-definition_goes ns e g f fs xs us vs (inr h) u c k = function_goes e f fs xs us vs h.1 u c k
+definition_goes ns forms.Operator e g f fs xs us vs h u c k = operator_begins ns fs xs h.0 h.2.0 h.1 h.2.1 ∙ part _ _ e (flat.Definition ∷ fs) g tt h.2.2 u c k
+definition_goes ns forms.Function e g f fs xs us vs h u c k = function_goes e f fs xs us vs h.1 u c k
 
 -- up to behind the name of a definition
 definitions_go : (ds : Definitions) → DefinitionsGood ds → (m : List ℕ) (q : Place) (fs : List flat.Row) (xs ys zs : List Laid) → DefinitionsText ds xs ys → token q (kinds.Name m) ys zs
     → flat.run xs fs flat.DefinitionName ≡ flat.run zs fs flat.DefinitionNamed
 definitions_go NoDefinitions g m q fs xs ys zs h t = ap (λ v. flat.run v fs flat.DefinitionName) (h ∙ t)
-definitions_go (MoreDefinitions ds n p ns e) g m q fs xs ys zs h t =
-    definitions_go ds g.0 n p fs xs h.0 h.2.0 h.1 h.2.1 ∙ definition_goes ns e g.1.goes g.2 fs h.2.0 ys zs h.2.2 t refl (λ n gs. refl)
+definitions_go (MoreDefinitions ds n p ns form e) g m q fs xs ys zs h t =
+    definitions_go ds g.0 n p fs xs h.0 h.2.0 h.1 h.2.1 ∙ definition_goes ns form e g.1.goes g.2 fs h.2.0 ys zs h.2.2 t refl (λ n gs. refl)
 
 pub let_goes : (at : Place) (ds : Definitions) (e : Tree) → DefinitionsGood ds → Goes e → Goes (tree.Let at ds e)
 let_goes at NoDefinitions e g ge fs o xs ys h = absurd h.2.1
-let_goes at (MoreDefinitions ds n p ns d) e g ge fs o xs ys h =
+let_goes at (MoreDefinitions ds n p ns form d) e g ge fs o xs ys h =
     let k = h.2.1 in
     widen (false ∷ []) fs
     (from
     (ap (λ v. flat.run v fs flat.Want) h.1
     ∙ definitions_go ds g.0 n p fs h.0 k.0 k.2.0 k.1 k.2.1
-    ∙ definition_goes ns d g.1.goes g.2 fs k.2.0 h.2.0 h.2.2.0 k.2.2 h.2.2.1.1 refl (λ n gs. refl))
+    ∙ definition_goes ns form d g.1.goes g.2 fs k.2.0 h.2.0 h.2.2.0 k.2.2 h.2.2.1.1 refl (λ n gs. refl))
     (ge (flat.Rest ∷ fs) tt h.2.2.0 ys h.2.2.2))

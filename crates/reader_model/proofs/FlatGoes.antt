@@ -113,7 +113,7 @@ FunctionGood _ = Unit {0}
 
 abbrev pub DefinitionsGood : Definitions → Type 0
 DefinitionsGood NoDefinitions = Unit {0}
-DefinitionsGood (MoreDefinitions ds n at ns e) = DefinitionsGood ds × Good e × FunctionGood e
+DefinitionsGood (MoreDefinitions ds n at ns form e) = DefinitionsGood ds × Good e × FunctionGood e
 
 -- ---- the token behind a tree
 

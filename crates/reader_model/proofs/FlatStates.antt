@@ -168,14 +168,14 @@ Same A (Reads fs m) y = (y ≡ flat.Reads (rows fs) (expected m)) × FramesKept 
 Same A Stops y = y ≡ flat.Stops
 Same A (Clashes p q) y = A
 Same A (Ends e) y = y ≡ flat.Ends
-Same A (EndsDefinition n p ns e) y = ⊥
+Same A (EndsDefinition n p ns form e) y = ⊥
 
 pub same_map : (A B : Type 0) → (A → B) → (s : Stepped) (y : flat.Done) → Same A s y → Same B s y
 same_map A B f (Reads fs m) y h = h
 same_map A B f Stops y h = h
 same_map A B f (Clashes p q) y h = f h
 same_map A B f (Ends e) y h = h
-same_map A B f (EndsDefinition n p ns e) y h = absurd h
+same_map A B f (EndsDefinition n p ns form e) y h = absurd h
 
 pub sits : (e : Tree) (fs : List Frame) → is_name e ≡ false → begins_member e ≡ false → Sits e fs
 sits e [] a b = tt

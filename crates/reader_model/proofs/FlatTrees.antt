@@ -90,7 +90,7 @@ mutual
 
   definitions_good : (ds : Definitions) → DefinitionsGood ds
   definitions_good NoDefinitions = tt
-  definitions_good (MoreDefinitions ds n at ns e) = (definitions_good ds, good e, function_good e)
+  definitions_good (MoreDefinitions ds n at ns form e) = (definitions_good ds, good e, function_good e)
 
   function_good : (e : Tree) → FunctionGood e
   function_good (tree.Function at bs e) = (bounds_good bs, good e)

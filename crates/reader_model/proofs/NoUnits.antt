@@ -1,6 +1,7 @@
 -- An expression's run ends with no unit's definition, and the run of a unit's definition with no expression.
 use Rattle.std.proofs.Common.{◌≡◌, ℕ, Bool, true, false, List, [], ◌∷◌, Option, Some, None, refl, sym, subst}
 use Rattle.trace_base.specs.declared.place.Place.{Place}
+use Rattle.tla_ast.specs.declared.form.DefinitionForm.{DefinitionForm}
 use Rattle.tla_ast.specs.declared.laid.Bullet.{Bullet}
 use Rattle.tla_ast.specs.declared.laid.Laid.{Laid}
 use Rattle.tla_ast.specs.declared.laid.Laid.TheVariants.{Plain, ListOpen, ListItem, ListClose}
@@ -40,7 +41,7 @@ Good unit (Reads fs m) = Outermost unit fs (in_mode m)
 Good unit Stops = Unit {0}
 Good unit (Clashes p q) = Unit {0}
 Good unit (Ends e) = unit ≡ false
-Good unit (EndsDefinition n p ns e) = unit ≡ true
+Good unit (EndsDefinition n p ns form e) = unit ≡ true
 
 pub different : true ≡ false → ⊥
 different e = cc
@@ -404,22 +405,22 @@ abbrev EndsSo : Bool → Outcome → Type 0
 EndsSo unit (StopsAt rest) = Unit {0}
 EndsSo unit (ClashesAt p q rest) = Unit {0}
 EndsSo unit (EndsAt e rest) = unit ≡ false
-EndsSo unit (EndsDefinitionAt n p ns e rest) = unit ≡ true
+EndsSo unit (EndsDefinitionAt n p ns form e rest) = unit ≡ true
 
 after_kept : (unit : Bool) (s : Stepped) (here : List Laid) (next : List Frame → Mode → Outcome) → Good unit s → ((fs : List Frame) (m : Mode) → Outermost unit fs (in_mode m) → EndsSo unit (next fs m)) → EndsSo unit (after s here next)
 after_kept unit (Reads fs m) here next a g = g fs m a
 after_kept unit Stops here next a g = tt
 after_kept unit (Clashes p q) here next a g = tt
 after_kept unit (Ends e) here next a g = a
-after_kept unit (EndsDefinition n p ns e) here next a g = a
+after_kept unit (EndsDefinition n p ns form e) here next a g = a
 
 run_kept : (unit : Bool) (xs : List Laid) (fs : List Frame) (m : Mode) → Outermost unit fs (in_mode m) → EndsSo unit (run xs fs m)
 run_kept unit [] fs m h = tt
 run_kept unit (x ∷ xs) fs m h = after_kept unit (step x fs m) (x ∷ xs) (run xs) (step_kept unit x fs m h) (λ gs n k. run_kept unit xs gs n k)
 
 -- an expression's run ends with no unit's definition
-pub no_definition : (xs rest : List Laid) (n : List ℕ) (p : Place) (ns : List (List ℕ)) (e : Tree) → run xs [] mode.Want ≡ EndsDefinitionAt n p ns e rest → ⊥
-no_definition xs rest n p ns e i = different (sym (subst (λ o. EndsSo false o) i (run_kept false xs [] mode.Want refl)))
+pub no_definition : (xs rest : List Laid) (n : List ℕ) (p : Place) (ns : List (List ℕ)) (form : DefinitionForm) (e : Tree) → run xs [] mode.Want ≡ EndsDefinitionAt n p ns form e rest → ⊥
+no_definition xs rest n p ns form e i = different (sym (subst (λ o. EndsSo false o) i (run_kept false xs [] mode.Want refl)))
 
 -- the run of a unit's definition ends with no expression
 pub no_expression : (xs rest : List Laid) (e : Tree) → run xs [] (mode.DefinitionName scopes.Unit) ≡ EndsAt e rest → ⊥

@@ -1,7 +1,8 @@
 -- Tokens that end what is open behind an expression. The ranges of operators play no part.
-use Rattle.std.proofs.Common.{◌≡◌, ℕ, false, List, [], ◌∷◌, refl, sym, subst, inr}
+use Rattle.std.proofs.Common.{◌≡◌, ℕ, false, List, [], ◌∷◌, refl, sym, subst}
 use Rattle.std.specs.Prelude.{pos}
 use Rattle.trace_base.specs.declared.place.Place.{Place}
+use Rattle.tla_ast.specs.declared.form.DefinitionForm.TheVariants as definition_forms
 use Rattle.tla_ast.specs.declared.laid.Laid.{Laid}
 use Rattle.tla_ast.specs.declared.laid.Laid.TheVariants.{Plain, ListClose}
 use Rattle.tla_tokens.specs.declared.token.Kind.{Kind}
@@ -21,7 +22,7 @@ use Rattle.reader_model.specs.declared.frame.Binder.{Binder}
 use Rattle.reader_model.specs.declared.frame.Binder.TheVariants as binders
 use Rattle.reader_model.specs.declared.frame.Frame.{Frame}
 use Rattle.reader_model.specs.declared.frame.Frame.TheVariants as frame
-use Rattle.reader_model.specs.Machine.{with_step, parameters_of, body_of}
+use Rattle.reader_model.specs.Machine.{with_step, parameters_of, form_of, body_of}
 use Rattle.reader_model.specs.OpenFits.{IsOperand, AreKeys, BinderFits, FramesFit, Open}
 use Rattle.reader_model.specs.OpenRows.{BinderText, FrameText, FramesText}
 use Rattle.reader_model.proofs.Closing.{definition_rest}
@@ -178,7 +179,7 @@ binder_closed (binders.Map at e) bs xs ys r s k a t =
     record { tree = tree.Map at e bs; text = (s, (a.0, a.1, (a.2.0, a.2.1, (ys, a.2.2, (a_sign symbols.CloseBrace ∷ r, t, (start, refl)))))) }
 binder_closed (binders.Defined (scopes.Let at ds) n p q) bs xs ys r s k a t =
     record {
-      tree = tree.Let at (MoreDefinitions ds n p [] (tree.Function q bs one_tree)) one_tree;
+      tree = tree.Let at (MoreDefinitions ds n p [] definition_forms.Function (tree.Function q bs one_tree)) one_tree;
       text = (
         a.1.0,
         a.1.1,
@@ -190,7 +191,7 @@ binder_closed (binders.Defined (scopes.Let at ds) n p q) bs xs ys r s k a t =
             (
               a.2.0,
               a.2.1,
-              inr (
+              (
                 refl,
                 (
                   ys,
@@ -359,7 +360,7 @@ close (frame.CaseOther p arms ∷ fs) k s e u xs ys F t =
     close fs k.1 s.1 (tree.CaseOther p arms e) (suits (tree.CaseOther p arms e) fs k.0) xs F.0 F.1
     (a.0, a.1, (a.2.0, a.2.1, (a.2.2.0, a.2.2.1, (ys, a.2.2.2, t))))
 close (frame.DefinitionBody (scopes.Let at ds) n p form ∷ fs) k s e u xs ys F t =
-    let a = F.2 in let c = tree.Let at (MoreDefinitions ds n p (parameters_of form) (body_of form e)) one_tree in let r : List Laid = a_word words.In ∷ one ∷ ends fs in
+    let a = F.2 in let c = tree.Let at (MoreDefinitions ds n p (parameters_of form) (form_of form) (body_of form e)) one_tree in let r : List Laid = a_word words.In ∷ one ∷ ends fs in
     close fs k.1 s.1 c (suits c fs k.0.0) xs F.0 F.1
     (a.1.0, a.1.1, (r, (a.0, a.1.2, (a.2.0, a.2.1, definition_rest form e a.2.0 a.2.2.0 ys r a.2.2.1 a.2.2.2 t)), (one ∷ ends fs, (start, refl), refl)))
 close (frame.DefinitionBody scopes.Unit n p form ∷ fs) k s e u xs ys F t = absurd k.0.1

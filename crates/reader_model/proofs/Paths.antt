@@ -18,14 +18,14 @@ abbrev pub rest_of : Outcome → List Laid
 rest_of (StopsAt r) = r
 rest_of (ClashesAt p q r) = r
 rest_of (EndsAt e r) = r
-rest_of (EndsDefinitionAt n p ns e r) = r
+rest_of (EndsDefinitionAt n p ns form e r) = r
 
 after_shorter : (s : Stepped) (here r : List Laid) → length here ≡ suc (length r) → ((fs : List Frame) (m : Mode) → length (rest_of (run r fs m)) ≤ length r) → length (rest_of (after s here (run r))) ≤ length here
 after_shorter (Reads fs m) here r h f = let k = f fs m in omega (arith, h, k)
 after_shorter Stops here r h f = omega arith
 after_shorter (Clashes p q) here r h f = omega arith
 after_shorter (Ends e) here r h f = omega arith
-after_shorter (EndsDefinition n p ns e) here r h f = omega arith
+after_shorter (EndsDefinition n p ns form e) here r h f = omega arith
 
 shorter : (xs : List Laid) (fs : List Frame) (m : Mode) → length (rest_of (run xs fs m)) ≤ length xs
 shorter [] fs m = omega arith
@@ -58,7 +58,7 @@ last_reach x rest fs m o (Reads gs n) q g l =
 last_reach x rest fs m o Stops q g l = record { frames = fs; expects = m; path = (refl, refl); done = subst IsLast (sym q) tt; gives = ap (λ v. after v (x ∷ rest) (run rest)) q ∙ g }
 last_reach x rest fs m o (Clashes a b) q g l = record { frames = fs; expects = m; path = (refl, refl); done = subst IsLast (sym q) tt; gives = ap (λ v. after v (x ∷ rest) (run rest)) q ∙ g }
 last_reach x rest fs m o (Ends e) q g l = record { frames = fs; expects = m; path = (refl, refl); done = subst IsLast (sym q) tt; gives = ap (λ v. after v (x ∷ rest) (run rest)) q ∙ g }
-last_reach x rest fs m o (EndsDefinition n p ns e) q g l = record { frames = fs; expects = m; path = (refl, refl); done = subst IsLast (sym q) tt; gives = ap (λ v. after v (x ∷ rest) (run rest)) q ∙ g }
+last_reach x rest fs m o (EndsDefinition n p ns form e) q g l = record { frames = fs; expects = m; path = (refl, refl); done = subst IsLast (sym q) tt; gives = ap (λ v. after v (x ∷ rest) (run rest)) q ∙ g }
 
 next_reach : (y : Laid) (read : List Laid) (x : Laid) (rest : List Laid) (fs : List Frame) (m : Mode) (o : Outcome) → ((gs : List Frame) (n : Mode) → run (read ++ x ∷ rest) gs n ≡ o → Reach read gs n x rest o) → (s : Stepped) → step y fs m ≡ s
     → after s (y ∷ read ++ x ∷ rest) (run (read ++ x ∷ rest)) ≡ o → rest_of o ≡ x ∷ rest → Reach (y ∷ read) fs m x rest o
@@ -67,7 +67,7 @@ next_reach y read x rest fs m o f (Reads gs n) q g l =
 next_reach y read x rest fs m o f Stops q g l = absurd (too_long read rest x y (ap rest_of g ∙ l))
 next_reach y read x rest fs m o f (Clashes a b) q g l = absurd (too_long read rest x y (ap rest_of g ∙ l))
 next_reach y read x rest fs m o f (Ends e) q g l = absurd (too_long read rest x y (ap rest_of g ∙ l))
-next_reach y read x rest fs m o f (EndsDefinition n p ns e) q g l = absurd (too_long read rest x y (ap rest_of g ∙ l))
+next_reach y read x rest fs m o f (EndsDefinition n p ns form e) q g l = absurd (too_long read rest x y (ap rest_of g ∙ l))
 
 pub reach : (read : List Laid) (x : Laid) (rest : List Laid) (fs : List Frame) (m : Mode) (o : Outcome) → run (read ++ x ∷ rest) fs m ≡ o → rest_of o ≡ x ∷ rest → Reach read fs m x rest o
 reach [] x rest fs m o q l = last_reach x rest fs m o (step x fs m) refl q l
@@ -80,21 +80,21 @@ stops_of (Reads fs m) here r next l q = absurd l
 stops_of Stops here r next l q = refl
 stops_of (Clashes a b) here r next l q = cc
 stops_of (Ends e) here r next l q = cc
-stops_of (EndsDefinition n p ns e) here r next l q = cc
+stops_of (EndsDefinition n p ns form e) here r next l q = cc
 
 clashes_of : (s : Stepped) (here r : List Laid) (next : List Frame → Mode → Outcome) (p q : Place) → IsLast s → after s here next ≡ ClashesAt p q r → s ≡ Clashes p q
 clashes_of (Reads fs m) here r next p q l i = absurd l
 clashes_of Stops here r next p q l i = cc
 clashes_of (Clashes a b) here r next p q l i = cc
 clashes_of (Ends e) here r next p q l i = cc
-clashes_of (EndsDefinition n c ns e) here r next p q l i = cc
+clashes_of (EndsDefinition n c ns form e) here r next p q l i = cc
 
 ends_of : (s : Stepped) (here r : List Laid) (next : List Frame → Mode → Outcome) (d : Tree) → IsLast s → after s here next ≡ EndsAt d r → s ≡ Ends d
 ends_of (Reads fs m) here r next d l q = absurd l
 ends_of Stops here r next d l q = cc
 ends_of (Clashes a b) here r next d l q = cc
 ends_of (Ends e) here r next d l q = cc
-ends_of (EndsDefinition n p ns e) here r next d l q = cc
+ends_of (EndsDefinition n p ns form e) here r next d l q = cc
 
 pub reach_stops : (read : List Laid) (fs : List Frame) (m : Mode) (x : Laid) (rest r : List Laid) → (h : Reach read fs m x rest (StopsAt r)) → step x h.frames h.expects ≡ Stops
 reach_stops read fs m x rest r h = stops_of (step x h.frames h.expects) (x ∷ rest) r (run rest) h.done h.gives
@@ -126,7 +126,7 @@ all_after (Reads gs n) x xs fs m e q f = let a : All xs gs n = f gs n q in recor
 all_after Stops x xs fs m e q f = absurd (no_stop x xs q)
 all_after (Clashes a b) x xs fs m e q f = cc
 all_after (Ends t) x xs fs m e q f = cc
-all_after (EndsDefinition n p ns t) x xs fs m e q f = cc
+all_after (EndsDefinition n p ns form t) x xs fs m e q f = cc
 
 pub all_read : (xs : List Laid) (fs : List Frame) (m : Mode) → run xs fs m ≡ StopsAt [] → All xs fs m
 all_read [] fs m q = record { frames = fs; expects = m; path = (refl, refl) }

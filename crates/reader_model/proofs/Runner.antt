@@ -31,7 +31,7 @@ after reader (Reads fs m) here next = next fs m
 after reader Stops here next = reader.stops Stops here
 after reader (Clashes p q) here next = reader.stops (Clashes p q) here
 after reader (Ends e) here next = reader.stops (Ends e) here
-after reader (EndsDefinition n p ns e) here next = reader.stops (EndsDefinition n p ns e) here
+after reader (EndsDefinition n p ns form e) here next = reader.stops (EndsDefinition n p ns form e) here
 
 abbrev pub run : (reader : Runner) → List Laid → List Frame → Mode → reader.Told
 run reader [] fs m = reader.ends fs m
@@ -43,7 +43,7 @@ stopped (Reads fs m) here = StopsAt here
 stopped Stops here = StopsAt here
 stopped (Clashes p q) here = ClashesAt p q here
 stopped (Ends e) here = EndsAt e here
-stopped (EndsDefinition n p ns e) here = EndsDefinitionAt n p ns e here
+stopped (EndsDefinition n p ns form e) here = EndsDefinitionAt n p ns form e here
 
 abbrev pub model : Runner
 model = record {
@@ -62,7 +62,7 @@ model_after (Reads fs m) xs here f = f fs m
 model_after Stops xs here f = refl
 model_after (Clashes p q) xs here f = refl
 model_after (Ends e) xs here f = refl
-model_after (EndsDefinition n p ns e) xs here f = refl
+model_after (EndsDefinition n p ns form e) xs here f = refl
 
 pub model_runs : (xs : List Laid) (fs : List Frame) (m : Mode) → machine.run xs fs m ≡ run model xs fs m
 model_runs [] fs m = refl

@@ -101,7 +101,7 @@ module _ (reader : Runner) where
 
   abbrev pub DefinitionsGood : Definitions → Type 0
   DefinitionsGood NoDefinitions = Unit {0}
-  DefinitionsGood (MoreDefinitions ds n at ns e) = DefinitionsGood ds × Good e × FunctionGood e
+  DefinitionsGood (MoreDefinitions ds n at ns form e) = DefinitionsGood ds × Good e × FunctionGood e
 
   pub part : {x : Laid} {zs : List Laid} (xs ys : List Laid) (e : Tree) (fs : List Frame) → Runs e → Top fs (λ r. LeftAbove r e) → Text e xs ys → ys ≡ x ∷ zs → is_case_mark x ≡ false → Closing x
       → run reader xs fs mode.Want ≡ after reader (behind x fs e) (x ∷ zs) (run reader zs)

@@ -113,7 +113,7 @@ module _ (reader : Runner) where
 
     pub definitions_good : (ds : Definitions) → DefinitionsFit ds → DefinitionsGood reader ds
     definitions_good NoDefinitions f = tt
-    definitions_good (MoreDefinitions ds n at ns e) f = (definitions_good ds f.0, good e f.1, function_good e f.1)
+    definitions_good (MoreDefinitions ds n at ns form e) f = (definitions_good ds f.0, good e f.1, function_good e f.1)
 
     pub function_good : (e : Tree) → Fits e → FunctionGood reader e
     function_good (tree.Function at bs e) f = (bounds_good bs f.0, good e f.1)

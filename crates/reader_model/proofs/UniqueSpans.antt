@@ -1,6 +1,8 @@
 -- What spells a tree has its tokens in front of those behind it, whatever these are.
 use Rattle.std.proofs.Common.{◌≡◌, ℕ, List, [], ◌∷◌, ◌++◌, append_assoc, inl, inr, refl, sym, ap, subst, ◌∙◌}
 use Rattle.trace_base.specs.declared.place.Place.{Place}
+use Rattle.tla_ast.specs.declared.form.DefinitionForm.{DefinitionForm}
+use Rattle.tla_ast.specs.declared.form.DefinitionForm.TheVariants as forms
 use Rattle.tla_ast.specs.declared.laid.Bullet.{Bullet}
 use Rattle.tla_ast.specs.declared.laid.Laid.{Laid}
 use Rattle.tla_ast.specs.declared.laid.Laid.TheVariants.{Plain, ListOpen, ListItem, ListClose}
@@ -11,7 +13,7 @@ use Rattle.tla_tokens.specs.declared.token.Symbol.{Symbol}
 use Rattle.tla_tokens.specs.declared.token.Symbol.TheVariants as symbols
 use Rattle.tla_ast.specs.declared.operators.InfixOperator.{InfixOperator}
 use Rattle.tla_ast.specs.Precedence.{prefix_kind, infix_symbol, quantifier_symbol, truth_kind, builtin_kind}
-use Rattle.tla_ast.specs.Grammar.{Span, ◌⨟◌, nothing, never, either, only, token, some_token, sign_at, sign, list_open, list_item, list_close, NamesText, ParametersText, Text, CommasBefore, Commas, MaybeCommas, Items, ItemsBefore, Chain, StepText, StepsText, BoundsBefore, BoundsText, FieldsBefore, FieldsText, ChangesBefore, ChangesText, ArmsBefore, SomeArmsBefore, ArmsText, FunctionRest, DefinitionsText, SomeDefinitions}
+use Rattle.tla_ast.specs.Grammar.{Span, by_form, ◌⨟◌, nothing, never, either, only, token, some_token, sign_at, sign, list_open, list_item, list_close, NamesText, ParametersText, Text, CommasBefore, Commas, MaybeCommas, Items, ItemsBefore, Chain, StepText, StepsText, BoundsBefore, BoundsText, FieldsBefore, FieldsText, ChangesBefore, ChangesText, ArmsBefore, SomeArmsBefore, ArmsText, FunctionRest, DefinitionsText, SomeDefinitions}
 use Rattle.tla_ast.specs.Trees as tree
 use Rattle.tla_ast.specs.Trees.{Tree, Trees, NoTrees, MoreTrees, Operands, First, Next, Step, Steps, NoSteps, MoreSteps, Bounds, NoBounds, MoreBounds, Fields, NoFields, MoreFields, Changes, NoChanges, MoreChanges, Arms, NoArms, MoreArms, Definitions, NoDefinitions, MoreDefinitions}
 
@@ -84,6 +86,10 @@ names_local (n ∷ m ∷ ns) = then_local _ _ (some_local (kinds.Name n)) (then_
 pub parameters_local : (ns : List (List ℕ)) → Local (ParametersText ns)
 parameters_local [] = nothing_local
 parameters_local (n ∷ ns) = then_local _ _ (symbol symbols.OpenParenthesis) (then_local _ _ (names_local (n ∷ ns)) (symbol symbols.CloseParenthesis))
+
+pub either_form_local : (form : DefinitionForm) (R S : Span) → Local R → Local S → Local (by_form form R S)
+either_form_local forms.Operator R S f g = f
+either_form_local forms.Function R S f g = g
 
 mutual
   pub tree_local : (e : Tree) → Local (Text e)
@@ -215,12 +221,10 @@ mutual
 
   pub definitions_local : (ds : Definitions) → Local (DefinitionsText ds)
   definitions_local NoDefinitions = nothing_local
-  definitions_local (MoreDefinitions ds n at ns e) =
-      then_local _ _ (definitions_local ds) (then_local _ _ (token_local at (kinds.Name n))
-      (either_local _ _ (then_local _ _ (parameters_local ns) (then_local _ _ (symbol symbols.Defined) (tree_local e))) (only_local _ _ (function_local e))))
+  definitions_local (MoreDefinitions ds n at ns form e) = then_local _ _ (definitions_local ds) (then_local _ _ (token_local at (kinds.Name n))
+      (either_form_local form _ _ (then_local _ _ (parameters_local ns) (then_local _ _ (symbol symbols.Defined) (tree_local e))) (only_local _ _ (function_local e))))
 
   pub some_definitions_local : (ds : Definitions) → Local (SomeDefinitions ds)
   some_definitions_local NoDefinitions = never_local
-  some_definitions_local (MoreDefinitions ds n at ns e) =
-      then_local _ _ (definitions_local ds) (then_local _ _ (token_local at (kinds.Name n))
-      (either_local _ _ (then_local _ _ (parameters_local ns) (then_local _ _ (symbol symbols.Defined) (tree_local e))) (only_local _ _ (function_local e))))
+  some_definitions_local (MoreDefinitions ds n at ns form e) = then_local _ _ (definitions_local ds) (then_local _ _ (token_local at (kinds.Name n))
+      (either_form_local form _ _ (then_local _ _ (parameters_local ns) (then_local _ _ (symbol symbols.Defined) (tree_local e))) (only_local _ _ (function_local e))))

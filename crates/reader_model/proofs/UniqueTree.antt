@@ -2,6 +2,7 @@
 use Rattle.std.proofs.Common.{◌≡◌, ℕ, List, [], ◌∷◌, ◌++◌, refl, sym, ap, ◌∙◌}
 use Rattle.std.proofs.lemmas.List.{append_cancel_right}
 use Rattle.trace_base.specs.declared.place.Place.{Place}
+use Rattle.tla_ast.specs.declared.form.DefinitionForm.{DefinitionForm}
 use Rattle.tla_ast.specs.declared.laid.Laid.{Laid}
 use Rattle.tla_ast.specs.declared.laid.Laid.TheVariants.{Plain, ListOpen, ListItem, ListClose}
 use Rattle.tla_tokens.specs.declared.token.Kind.{Kind}
@@ -24,6 +25,7 @@ use Rattle.reader_model.proofs.UniqueSpans.{Front, tree_local}
 kind_read : (xs rest : List Laid) (k : Kind) (at : Place) (e : Tree) → Fits e → Text e xs (plain k at ∷ rest) → EndsKind k → run xs [] mode.Want ≡ EndsAt e (plain k at ∷ rest)
 kind_read xs rest (kinds.Name n) at e f h q = model_runs xs [] mode.Want ∙ part model xs (plain (kinds.Name n) at ∷ rest) e [] (good model e f).runs tt h refl refl (λ fs a. refl)
 kind_read xs rest (kinds.Word w) at e f h q = model_runs xs [] mode.Want ∙ part model xs (plain (kinds.Word w) at ∷ rest) e [] (good model e f).runs tt h refl refl (λ fs a. refl)
+kind_read xs rest (kinds.Foreign o) at e f h q = model_runs xs [] mode.Want ∙ part model xs (plain (kinds.Foreign o) at ∷ rest) e [] (good model e f).runs tt h refl refl (λ fs a. refl)
 kind_read xs rest kinds.Dashes at e f h q = model_runs xs [] mode.Want ∙ part model xs (plain kinds.Dashes at ∷ rest) e [] (good model e f).runs tt h refl refl (λ fs a. refl)
 kind_read xs rest kinds.Equals at e f h q = model_runs xs [] mode.Want ∙ part model xs (plain kinds.Equals at ∷ rest) e [] (good model e f).runs tt h refl refl (λ fs a. refl)
 kind_read xs rest kinds.End at e f h q = model_runs xs [] mode.Want ∙ part model xs (plain kinds.End at ∷ rest) e [] (good model e f).runs tt h refl refl (λ fs a. refl)
@@ -37,26 +39,27 @@ spelled_read xs rest (ListClose at) e s h = absurd h
 
 -- ---- a unit's definition up to such a token
 
-kind_ends : (k : Kind) (at : Place) (n : List ℕ) (p : Place) → EndsKind k → Ends (plain k at) scopes.Unit n p [] (λ ns e. EndsDefinition n p ns e)
+kind_ends : (k : Kind) (at : Place) (n : List ℕ) (p : Place) → EndsKind k → Ends (plain k at) scopes.Unit n p [] (λ ns form e. EndsDefinition n p ns form e)
 kind_ends (kinds.Name m) at n p q = record { closing = λ fs e. refl; no_case = refl; ends = λ form e. refl }
 kind_ends (kinds.Word w) at n p q = record { closing = λ fs e. refl; no_case = refl; ends = λ form e. refl }
+kind_ends (kinds.Foreign f) at n p q = record { closing = λ fs e. refl; no_case = refl; ends = λ form e. refl }
 kind_ends kinds.Dashes at n p q = record { closing = λ fs e. refl; no_case = refl; ends = λ form e. refl }
 kind_ends kinds.Equals at n p q = record { closing = λ fs e. refl; no_case = refl; ends = λ form e. refl }
 kind_ends kinds.End at n p q = record { closing = λ fs e. refl; no_case = refl; ends = λ form e. refl }
 kind_ends _ at n p q = absurd q
 
-kind_defined : (xs rest : List Laid) (k : Kind) (at : Place) (n : List ℕ) (p : Place) (ns : List (List ℕ)) (e : Tree) → (token p (kinds.Name n) ⨟ DefinitionRest ns e) xs (plain k at ∷ rest) → Fits e → EndsKind k
-    → run xs [] (mode.DefinitionName scopes.Unit) ≡ EndsDefinitionAt n p ns e (plain k at ∷ rest)
-kind_defined xs rest k at n p ns e h f q =
+kind_defined : (xs rest : List Laid) (k : Kind) (at : Place) (n : List ℕ) (p : Place) (ns : List (List ℕ)) (form : DefinitionForm) (e : Tree) → (token p (kinds.Name n) ⨟ DefinitionRest ns form e) xs (plain k at ∷ rest) → Fits e → EndsKind k
+    → run xs [] (mode.DefinitionName scopes.Unit) ≡ EndsDefinitionAt n p ns form e (plain k at ∷ rest)
+kind_defined xs rest k at n p ns form e h f q =
     ap (λ v. run v [] (mode.DefinitionName scopes.Unit)) h.1
     ∙ model_runs h.0 [] (mode.DefinitionNamed scopes.Unit n p)
-    ∙ definition_reads model (kind_ends k at n p q) ns e (good model e f).runs (function_good model e f) h.0 (plain k at ∷ rest) rest h.2 refl
+    ∙ definition_reads model (kind_ends k at n p q) ns form e (good model e f).runs (function_good model e f) h.0 (plain k at ∷ rest) rest h.2 refl
 
 pub definition_read : DefinitionRead
-definition_read xs rest (Plain t) n p ns e h f q = kind_defined xs rest t.kind t.place n p ns e h f q
-definition_read xs rest (ListOpen b at) n p ns e h f q = absurd q
-definition_read xs rest (ListItem b at) n p ns e h f q = absurd q
-definition_read xs rest (ListClose at) n p ns e h f q = absurd q
+definition_read xs rest (Plain t) n p ns form e h f q = kind_defined xs rest t.kind t.place n p ns form e h f q
+definition_read xs rest (ListOpen b at) n p ns form e h f q = absurd q
+definition_read xs rest (ListItem b at) n p ns form e h f q = absurd q
+definition_read xs rest (ListClose at) n p ns form e h f q = absurd q
 
 -- ---- one tree
 

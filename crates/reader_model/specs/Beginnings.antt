@@ -1,6 +1,7 @@
 -- What the definition of a unit begins with, and texts with their ranges.
 use Rattle.std.specs.Prelude.{ℕ, List, [], ◌++◌}
 use Rattle.trace_base.specs.declared.place.Place.{Place}
+use Rattle.tla_ast.specs.declared.form.DefinitionForm.{DefinitionForm}
 use Rattle.tla_ast.specs.declared.laid.Laid.{Laid}
 use Rattle.tla_tokens.specs.declared.token.Kind.TheVariants as kinds
 use Rattle.tla_ast.specs.Trees.{Tree}
@@ -14,24 +15,26 @@ pub record FittingBegun (read : List Laid) : Type 0 where
   pub spelled : Spells tree (read ++ rest) []
 
 -- a definition of a unit: its name and what stands behind it
-abbrev pub DefinitionText : List ℕ → Place → List (List ℕ) → Tree → Span
-DefinitionText n at ns e = token at (kinds.Name n) ⨟ DefinitionRest ns e
+abbrev pub DefinitionText : List ℕ → Place → List (List ℕ) → DefinitionForm → Tree → Span
+DefinitionText n at ns form e = token at (kinds.Name n) ⨟ DefinitionRest ns form e
 
 -- these laid tokens are the beginning of the text of a unit's definition; the ranges of operators play no part
 pub record BegunDefinition (read : List Laid) : Type 0 where
   pub name : List ℕ
   pub at : Place
   pub parameters : List (List ℕ)
+  pub form : DefinitionForm
   pub body : Tree
   pub rest : List Laid
-  pub whole : DefinitionText name at parameters body (read ++ rest) []
+  pub whole : DefinitionText name at parameters form body (read ++ rest) []
 
 -- the same of a definition whose operators fit their ranges
 pub record FittingBegunDefinition (read : List Laid) : Type 0 where
   pub name : List ℕ
   pub at : Place
   pub parameters : List (List ℕ)
+  pub form : DefinitionForm
   pub body : Tree
   pub rest : List Laid
-  pub whole : DefinitionText name at parameters body (read ++ rest) []
+  pub whole : DefinitionText name at parameters form body (read ++ rest) []
   pub fits : Fits body

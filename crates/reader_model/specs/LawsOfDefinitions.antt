@@ -1,6 +1,7 @@
 -- Where the reader of a unit's definition stops: the laws of LawsOfRefusals from the name of a definition on.
 use Rattle.std.specs.Prelude.{◌≡◌, ℕ, List, [], ◌∷◌, ◌++◌}
 use Rattle.trace_base.specs.declared.place.Place.{Place}
+use Rattle.tla_ast.specs.declared.form.DefinitionForm.{DefinitionForm}
 use Rattle.tla_ast.specs.declared.laid.Laid.{Laid}
 use Rattle.tla_ast.specs.Trees.{Tree}
 use Rattle.reader_model.specs.Beginnings.{BegunDefinition, FittingBegunDefinition}
@@ -22,7 +23,7 @@ DefinitionClashedBegun = (read rest : List Laid) (x : Laid) (p q : Place) → ru
 
 -- before a token at which a definition has ended, one is begun
 abbrev pub DefinitionEndsBegun : Type 0
-DefinitionEndsBegun = (read rest : List Laid) (x : Laid) (n : List ℕ) (p : Place) (ns : List (List ℕ)) (e : Tree) → run_definition (read ++ x ∷ rest) ≡ EndsDefinitionAt n p ns e (x ∷ rest) → BegunDefinition read
+DefinitionEndsBegun = (read rest : List Laid) (x : Laid) (n : List ℕ) (p : Place) (ns : List (List ℕ)) (form : DefinitionForm) (e : Tree) → run_definition (read ++ x ∷ rest) ≡ EndsDefinitionAt n p ns form e (x ∷ rest) → BegunDefinition read
 
 -- no definition goes on through a token at which it stops
 abbrev pub DefinitionStoppedThere : Type 0
@@ -30,7 +31,7 @@ DefinitionStoppedThere = (read rest : List Laid) (x : Laid) → run_definition (
 
 -- nor through one before which a definition has ended
 abbrev pub DefinitionEndsThere : Type 0
-DefinitionEndsThere = (read rest : List Laid) (x : Laid) (n : List ℕ) (p : Place) (ns : List (List ℕ)) (e : Tree) → run_definition (read ++ x ∷ rest) ≡ EndsDefinitionAt n p ns e (x ∷ rest) → ¬ (BegunDefinition (read ++ x ∷ []))
+DefinitionEndsThere = (read rest : List Laid) (x : Laid) (n : List ℕ) (p : Place) (ns : List (List ℕ)) (form : DefinitionForm) (e : Tree) → run_definition (read ++ x ∷ rest) ≡ EndsDefinitionAt n p ns form e (x ∷ rest) → ¬ (BegunDefinition (read ++ x ∷ []))
 
 -- no definition that fits its ranges goes on through a token at which two ranges meet
 abbrev pub DefinitionClashedThere : Type 0

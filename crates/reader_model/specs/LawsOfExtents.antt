@@ -2,6 +2,7 @@
 -- nor in one.
 use Rattle.std.specs.Prelude.{◌≡◌, ℕ, List, [], ◌∷◌, ◌++◌}
 use Rattle.trace_base.specs.declared.place.Place.{Place}
+use Rattle.tla_ast.specs.declared.form.DefinitionForm.{DefinitionForm}
 use Rattle.tla_ast.specs.declared.laid.Laid.{Laid}
 use Rattle.tla_ast.specs.declared.laid.Laid.TheVariants.{Plain}
 use Rattle.tla_tokens.specs.declared.token.Kind.{Kind}
@@ -19,7 +20,7 @@ LocalText = (e : Tree) (xs ys : List Laid) → Text e xs ys → (text : List Lai
 -- the same of a unit's definition
 abbrev pub LocalDefinition : Type 0
 LocalDefinition =
-    (n : List ℕ) (at : Place) (ns : List (List ℕ)) (e : Tree) (xs ys : List Laid) → DefinitionText n at ns e xs ys → (text : List Laid) × (xs ≡ text ++ ys) × ((zs : List Laid) → DefinitionText n at ns e (text ++ zs) zs)
+    (n : List ℕ) (at : Place) (ns : List (List ℕ)) (form : DefinitionForm) (e : Tree) (xs ys : List Laid) → DefinitionText n at ns form e xs ys → (text : List Laid) × (xs ≡ text ++ ys) × ((zs : List Laid) → DefinitionText n at ns form e (text ++ zs) zs)
 
 -- behind the whole text of an expression, no token that ends one goes on
 abbrev pub NoneFollows : Type 0
@@ -27,7 +28,7 @@ NoneFollows = (e : Tree) (text : List Laid) (x : Laid) → Text e text [] → En
 
 -- the same of a unit's definition
 abbrev pub NoneFollowsDefinition : Type 0
-NoneFollowsDefinition = (n : List ℕ) (at : Place) (ns : List (List ℕ)) (e : Tree) (text : List Laid) (x : Laid) → DefinitionText n at ns e text [] → EndsText x → ¬ (BegunDefinition (text ++ x ∷ []))
+NoneFollowsDefinition = (n : List ℕ) (at : Place) (ns : List (List ℕ)) (form : DefinitionForm) (e : Tree) (text : List Laid) (x : Laid) → DefinitionText n at ns form e text [] → EndsText x → ¬ (BegunDefinition (text ++ x ∷ []))
 
 -- dashes, equals signs and the End
 abbrev pub IsMarkKind : Kind → Type 0

@@ -1,6 +1,7 @@
 -- A text of laid tokens spells one tree, and the reader reads it.
 use Rattle.std.specs.Prelude.{◌≡◌, ℕ, List, [], ◌∷◌}
 use Rattle.trace_base.specs.declared.place.Place.{Place}
+use Rattle.tla_ast.specs.declared.form.DefinitionForm.{DefinitionForm}
 use Rattle.tla_ast.specs.declared.laid.Laid.{Laid}
 use Rattle.tla_ast.specs.declared.laid.Laid.TheVariants.{Plain}
 use Rattle.tla_tokens.specs.declared.token.Kind.{Kind}
@@ -12,10 +13,11 @@ use Rattle.reader_model.specs.declared.frame.Mode.TheVariants as mode
 use Rattle.reader_model.specs.declared.frame.Scope.TheVariants as scopes
 use Rattle.reader_model.specs.Machine.{EndsAt, EndsDefinitionAt, run}
 
--- a name, a word, dashes, equals signs and the End: where no row is open, none of them goes on with an expression
+-- a name, a word, a token outside the profile, dashes, equals signs and the End: where no row is open, none of them goes on with an expression
 abbrev pub EndsKind : Kind → Type 0
 EndsKind (kinds.Name n) = Unit {0}
 EndsKind (kinds.Word w) = Unit {0}
+EndsKind (kinds.Foreign f) = Unit {0}
 EndsKind kinds.Dashes = Unit {0}
 EndsKind kinds.Equals = Unit {0}
 EndsKind kinds.End = Unit {0}
@@ -33,7 +35,7 @@ SpelledRead = (xs rest : List Laid) (x : Laid) (e : Tree) → Spells e xs (x ∷
 -- the same of a unit's definition
 abbrev pub DefinitionRead : Type 0
 DefinitionRead =
-    (xs rest : List Laid) (x : Laid) (n : List ℕ) (p : Place) (ns : List (List ℕ)) (e : Tree) → (token p (kinds.Name n) ⨟ DefinitionRest ns e) xs (x ∷ rest) → Fits e → EndsText x → run xs [] (mode.DefinitionName scopes.Unit) ≡ EndsDefinitionAt n p ns e (x ∷ rest)
+    (xs rest : List Laid) (x : Laid) (n : List ℕ) (p : Place) (ns : List (List ℕ)) (form : DefinitionForm) (e : Tree) → (token p (kinds.Name n) ⨟ DefinitionRest ns form e) xs (x ∷ rest) → Fits e → EndsText x → run xs [] (mode.DefinitionName scopes.Unit) ≡ EndsDefinitionAt n p ns form e (x ∷ rest)
 
 -- the laid tokens from one point to another spell one tree
 abbrev pub OneTreeBetween : Type 0

@@ -2,6 +2,8 @@
 use Rattle.std.specs.Prelude.{ℕ, Bool, true, false, ◌&&◌, ◌||◌, nat_lt, if◌then◌else◌, List, [], ◌∷◌, ◌++◌, Option, Some, None, nat_eq}
 use Rattle.std.specs.Cmp.Lexicographic.{pointwise}
 use Rattle.trace_base.specs.declared.place.Place.{Place}
+use Rattle.tla_ast.specs.declared.form.DefinitionForm.{DefinitionForm}
+use Rattle.tla_ast.specs.declared.form.DefinitionForm.TheVariants as definition_forms
 use Rattle.tla_ast.specs.declared.laid.Bullet.{Bullet}
 use Rattle.tla_ast.specs.declared.laid.Bullet.TheVariants as bullets
 use Rattle.tla_ast.specs.declared.laid.Laid.{Laid}
@@ -45,7 +47,7 @@ pub data Stepped : Type 0 where
   Stops : Stepped
   Clashes : Place → Place → Stepped
   Ends : Tree → Stepped
-  EndsDefinition : List ℕ → Place → List (List ℕ) → Tree → Stepped
+  EndsDefinition : List ℕ → Place → List (List ℕ) → DefinitionForm → Tree → Stepped
 
 abbrev pub want : List Frame → Stepped
 want fs = Reads fs mode.Want
@@ -188,6 +190,10 @@ of_records records.Set at hs = tree.RecordSet at hs
 abbrev pub parameters_of : Form → List (List ℕ)
 parameters_of (forms.Operator ns) = ns
 parameters_of (forms.Function at bs) = []
+
+abbrev pub form_of : Form → DefinitionForm
+form_of (forms.Operator ns) = definition_forms.Operator
+form_of (forms.Function at bs) = definition_forms.Function
 
 abbrev pub body_of : Form → Tree → Tree
 body_of (forms.Operator ns) e = e
@@ -409,13 +415,13 @@ word_closes words.Except (frame.Bracket at) fs e = Reads fs (mode.ExceptMark at 
 word_closes words.Except (frame.MaybeFunction at n p q) fs e =
     on_joined (join (tree.Name p n) q e) q (λ x. Reads fs (mode.ExceptMark at x NoChanges))
 word_closes words.In (frame.DefinitionBody (scopes.Let at ds) n p form) fs e =
-    want (frame.LetBody at (MoreDefinitions ds n p (parameters_of form) (body_of form e)) ∷ fs)
+    want (frame.LetBody at (MoreDefinitions ds n p (parameters_of form) (form_of form) (body_of form e)) ∷ fs)
 word_closes w f fs e = Stops
 
 -- a name at the innermost frame that waits begins another definition of a LET
 abbrev pub name_closes : List ℕ → Place → Frame → List Frame → Tree → Stepped
 name_closes m q (frame.DefinitionBody (scopes.Let at ds) n p form) fs e =
-    Reads fs (mode.DefinitionNamed (scopes.Let at (MoreDefinitions ds n p (parameters_of form) (body_of form e))) m q)
+    Reads fs (mode.DefinitionNamed (scopes.Let at (MoreDefinitions ds n p (parameters_of form) (form_of form) (body_of form e))) m q)
 name_closes m q f fs e = Stops
 
 abbrev pub item_closes : Bullet → Frame → List Frame → Tree → Stepped
@@ -441,7 +447,7 @@ laid_closes (ListClose at) f fs e = list_closes f fs e
 -- where nothing waits, the expression ends before the token; a unit's definition ends with its body
 abbrev pub closes : Laid → List Frame → Tree → Stepped
 closes x [] e = Ends e
-closes x (frame.DefinitionBody scopes.Unit n p form ∷ fs) e = EndsDefinition n p (parameters_of form) (body_of form e)
+closes x (frame.DefinitionBody scopes.Unit n p form ∷ fs) e = EndsDefinition n p (parameters_of form) (form_of form) (body_of form e)
 closes x (f ∷ fs) e = laid_closes x f fs e
 
 abbrev pub is_always_symbol : Symbol → Bool
@@ -647,14 +653,14 @@ pub data Outcome : Type 0 where
   StopsAt : List Laid → Outcome
   ClashesAt : Place → Place → List Laid → Outcome
   EndsAt : Tree → List Laid → Outcome
-  EndsDefinitionAt : List ℕ → Place → List (List ℕ) → Tree → List Laid → Outcome
+  EndsDefinitionAt : List ℕ → Place → List (List ℕ) → DefinitionForm → Tree → List Laid → Outcome
 
 abbrev pub after : Stepped → List Laid → (List Frame → Mode → Outcome) → Outcome
 after (Reads fs m) here next = next fs m
 after Stops here next = StopsAt here
 after (Clashes p q) here next = ClashesAt p q here
 after (Ends e) here next = EndsAt e here
-after (EndsDefinition n p ns e) here next = EndsDefinitionAt n p ns e here
+after (EndsDefinition n p ns form e) here next = EndsDefinitionAt n p ns form e here
 
 abbrev pub run : List Laid → List Frame → Mode → Outcome
 run [] fs m = StopsAt []

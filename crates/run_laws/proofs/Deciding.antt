@@ -13,6 +13,7 @@ use Rattle.lined_specs.specs.Answers.{IsTrueOf}
 use Rattle.state_layers.specs.Answers.{IsAnswer, fault}
 use Rattle.state_layers.specs.declared.answer.Answer.{Answer}
 use Rattle.state_layers.specs.declared.answer.Answer.TheVariants.{AssumeFalse, AssumeFault, Explained, Fault, InitFault, LayerLimit, NoInitial, NotExplained, TotalLimit}
+use Rattle.alike_lined.specs.Beside.{AreBesideLined}
 use Rattle.alike_lined.specs.Laws.{LinedAnswersAlike}
 use Rattle.run_words.specs.declared.job.Job.{Job}
 use Rattle.run_words.specs.declared.job.Words.TheVariants.{Check, SelfRun, Validate}
@@ -22,11 +23,11 @@ use Rattle.trace_cli.specs.Calls.{Answers, Calls, asked_by, is_answered, is_refu
 use Rattle.trace_cli.specs.Run.{HasFailed, HoldsReport, Runs, checks, in_no_form, tests_itself, validates}
 use Rattle.trace_cli.specs.declared.call.Status.{Status}
 use Rattle.trace_cli.specs.declared.call.Status.TheVariants as status
-use Rattle.one_reading.specs.Laws.{ReadingIsOne}
+use Rattle.one_reading.specs.Laws.{AreSame, ReadingIsOne}
 use Rattle.not_refused.specs.Laws.{ReadNotRefused}
 use Rattle.run_laws.specs.Ends.{Ends}
 use Rattle.run_laws.specs.Decided.{EndsDecided, IsDecided, IsUnhindered, IsUnhinderedOf, RunsDecide, is_decided, wants_memory}
-use Rattle.run_laws.proofs.Following.{beside, job_is, no_check, no_test}
+use Rattle.run_laws.proofs.Following.{job_is, no_check, no_test}
 
 -- What is known of words and of reading.
 pub record Decides : Type 0 where
@@ -50,6 +51,9 @@ decides_of : (s : Spec) (asked : Asked) (lined : Lined) (answer : Answer) → Is
 decides_of s asked (Sequence log) answer h a = decides (system s log asked) answer h a
 decides_of s asked (Tied logs) answer h a = decides (tied_system s logs asked) answer h a
 
+beside : (p q : Program) (c d : Config) (s t : Spec) (lined other : Lined) → AreSame p q c d s t lined other → AreBesideLined s t lined other
+beside p q c d s t lined other same = record { specs = same.specs; smaller = same.ordered.smaller; smaller_other = same.other_ordered.smaller; lines = same.lines }
+
 module _ (known : Decides) (words : List (List ℕ)) (files : List File) (job : Job) (form : AreWords words (Validate job)) (p : Program) (c : Config) (s : Spec) (lined : Lined)
     (all : AllRead (Some files) job p c s lined) (free : IsUnhinderedOf s (asked_by job.options) lined) (old new : Option (List ℕ)) where
   answered : (q : Program) (d : Config) (t : Spec) (other : Lined) (end : Status) (report : List ℕ) → AllRead (Some files) job q d t other → Answers job q d t other end report
@@ -62,7 +66,7 @@ module _ (known : Decides) (words : List (List ℕ)) (files : List File) (job : 
 
   called : (before now : ℕ) (end : Status) (report : List ℕ) → Calls (Some files) before now job end report → Appended old report new → EndsDecided files job old new end
   called before now _ _ (is_refused report refusal) wrote = absurd (known.refused files before now job p c s lined report all refusal)
-  called before now _ _ (is_answered q d t other end report there h) wrote = answered q d t other end report there h wrote
+  called before now _ _ (is_answered q d t other end report there held h) wrote = answered q d t other end report there h wrote
 
   ran : (before now : ℕ) (end : Status) (report : List ℕ) → Runs words (Some files) before now end report → Appended old report new → EndsDecided files job old new end
   ran before now _ _ (in_no_form never) wrote = absurd (never (Validate job) form)

@@ -1,58 +1,43 @@
 -- After `validate` that ended with status 0 each `check` of its report ends with VALID.
-use Rattle.std.proofs.Common.{◌≡◌, ◌∙◌, ℕ, List, [], length, Option, Some, None, Result, Ok, Err, IfOk, string_bytes, ap, inl, inr, refl, subst, sym}
-use Rattle.std.proofs.lemmas.List.Elements.{length_all_zip}
-use Rattle.std.specs.Prelude.{◌⊎◌, String}
-use Rattle.std.specs.declared.alloc.Global.{Global}
+use Rattle.std.proofs.Common.{◌≡◌, ◌∙◌, ℕ, List, [], length, Option, Some, inl, inr, refl, subst, sym}
+use Rattle.std.specs.Prelude.{◌⊎◌}
 use Rattle.trace_base.specs.Device.{Appended, File, Rose}
 use Rattle.tla_ast.specs.declared.config.Config.{Config}
 use Rattle.tla_ast.specs.declared.module.Program.{Program}
 use Rattle.tla_core.specs.declared.state.Shown.{Shown}
-use Rattle.tla_terms.specs.declared.operator.Operator.{Operator}
 use Rattle.tla_terms.specs.declared.spec.Spec.{Spec}
-use Rattle.log_cuts.specs.Cuts.{total}
-use Rattle.log_cuts.specs.Orders.{Order, sizes}
 use Rattle.tied_logs.specs.declared.logs.Lined.{Lined}
 use Rattle.tied_logs.specs.declared.logs.Lined.TheVariants.{Sequence, Tied}
 use Rattle.line_steps.specs.Logs.{Asked}
 use Rattle.lined_specs.specs.Answers.{IsTrueOf}
-use Rattle.lined_specs.specs.Beside.{lines_of}
 use Rattle.state_layers.specs.declared.answer.Answer.{Answer}
 use Rattle.state_layers.specs.declared.answer.Answer.TheVariants.{AssumeFalse, AssumeFault, Explained, Fault, InitFault, LayerLimit, NoInitial, NotExplained, TotalLimit}
 use Rattle.state_verdicts.specs.declared.verdict.Verdict.TheVariants as verdict
-use Rattle.alike_steps.specs.AlikeLogs.{AreAlikeLines}
-use Rattle.alike_lined.specs.Beside.{AreAlikeLined, AreBesideLined}
-use Rattle.alike_lined.specs.Laws.{LinedAnswersAlike}
 use Rattle.run_words.specs.declared.job.Job.{Job}
-use Rattle.run_words.specs.declared.job.Words.{Words}
 use Rattle.run_words.specs.declared.job.Words.TheVariants.{Check, SelfRun, Validate}
-use Rattle.run_words.specs.Words.{AreWords, OneCommand, Reads}
+use Rattle.run_words.specs.Words.{AreWords, OneCommand}
 use Rattle.run_texts.specs.Answers.{Named, answer_text}
 use Rattle.run_texts.specs.Verdicts.{verdict_text}
 use Rattle.run_reading.specs.Given.{states_limit}
 use Rattle.run_reading.specs.Reaches.{AllRead}
-use Rattle.run_reading.specs.Refusals.{IsRefusal, all_files, is_missing}
+use Rattle.run_reading.specs.Refusals.{is_missing}
 use Rattle.run_reading.specs.Texts.{HasText}
-use Rattle.run_stages.specs.Stops.{StopsBy}
-use Rattle.run_stages.specs.declared.stop.Stop.{Stop}
-use Rattle.run_stages.specs.declared.stop.Stop.TheVariants as stop
+use Rattle.held_readings.specs.Held.{IsHeldSo}
 use Rattle.trace_cli.specs.Calls.{Answers, Calls, CallsGiven, IsReportOf, asked_by, is_answered, is_refused, named_in, status_of}
 use Rattle.trace_cli.specs.Run.{AsksFor, HasFailed, HoldsReport, Runs, checks, in_no_form, tests_itself, validates}
 use Rattle.trace_cli.specs.declared.call.Status.{Status}
 use Rattle.trace_cli.specs.declared.call.Status.TheVariants as status
 use Rattle.valid_reports.specs.Laws.{searching}
 use Rattle.answered_valid.specs.Laws.{CheckIsValid}
-use Rattle.one_reading.specs.Laws.{AreSame, ReadingIsOne}
 use Rattle.not_refused.specs.Laws.{ReadNotRefused}
 use Rattle.unseen_files.specs.Laws.{ReadUnseen}
 use Rattle.run_laws.specs.Ends.{Ends}
-use Rattle.run_laws.specs.AfterExplained.{AreWith, ChecksAfter, ChecksAfterBeside, ChecksValid, EndsValid, IsFree, JobChecksAfter, TellsExplained, has_failed, is_valid, wants_memory}
+use Rattle.run_laws.specs.AfterExplained.{AreWith, ChecksAfter, ChecksValid, EndsValid, IsFree, TellsExplained, has_failed, is_valid, wants_memory}
 
 -- What is known of words and of reading.
 pub record Known : Type 0 where
   pub command : OneCommand
   pub unseen : ReadUnseen
-  pub reading : ReadingIsOne
-  pub answers : LinedAnswersAlike
   pub refused : ReadNotRefused
 
 -- ---- words
@@ -100,12 +85,13 @@ record IsExplained (files : List File) (job : Job) (report : List ℕ) : Type 0 
   states : List Shown
   widest : ℕ
   all_read : AllRead (Some files) job program config spec lined
+  held : IsHeldSo spec lined
   is_true : IsTrueOf spec (asked_by job.options) lined (Explained states widest)
   text_is : report ≡ answer_text (named_in job program config spec lined) (Explained states widest)
 
 answered_so : (files : List File) (job : Job) (p : Program) (c : Config) (s : Spec) (lined : Lined) (end : Status) (report : List ℕ) → AllRead (Some files) job p c s lined
-    → Answers job p c s lined end report → end ≡ status.Done → IsExplained files job report
-answered_so files job p c s lined end report all h e =
+    → IsHeldSo s lined → Answers job p c s lined end report → end ≡ status.Done → IsExplained files job report
+answered_so files job p c s lined end report all held h e =
     let x = explains h.answer (sym e ∙ h.status_is) in
     let is_true : IsTrueOf s (asked_by job.options) lined (Explained x.0 x.1) = subst (λ (a : Answer). IsTrueOf s (asked_by job.options) lined a) x.2 h.is_true in
     let told : IsReportOf s lined (asked_by job.options) (named_in job p c s lined) job.why job.near (Explained x.0 x.1) report =
@@ -118,13 +104,14 @@ answered_so files job p c s lined end report all h e =
       states = x.0;
       widest = x.1;
       all_read = all;
+      held = held;
       is_true = is_true;
       text_is = report_is s lined (asked_by job.options) (named_in job p c s lined) job.why job.near x.0 x.1 report told;
     }
 
 called_so : (files : List File) (before now : ℕ) (job : Job) (end : Status) (report : List ℕ) → Calls (Some files) before now job end report → end ≡ status.Done → IsExplained files job report
 called_so files before now job _ _ (is_refused report refusal) e = let no : ⊥ = cc in absurd no
-called_so files before now job _ _ (is_answered p c s lined end report all answers) e = answered_so files job p c s lined end report all answers e
+called_so files before now job _ _ (is_answered p c s lined end report all held answers) e = answered_so files job p c s lined end report all held answers e
 
 module _ (known : Known) where
   ran_so : (words : List (List ℕ)) (files : List File) (before now : ℕ) (job : Job) (end : Status) (report : List ℕ) → AreWords words (Validate job)
@@ -151,29 +138,6 @@ module _ (known : Known) where
       (subst (λ (f : List ℕ). CallsGiven (Some others) before now other f end report) same.1 calls)
   given_so again others before now job witness _ _ form (tests_itself n end report its tests) =
       absurd (no_check_test job witness n (known.command again (Check job witness) (SelfRun n) form its))
-
--- ---- the same of another reading
-
-lines_same : (ops all : List Operator) (a b : Lined) → AreAlikeLined ops all a b → lines_of a ≡ lines_of b
-lines_same ops all (Sequence log) (Sequence other) h = length_all_zip (AreAlikeLines ops all) log.lines other.lines h.lines
-lines_same ops all (Tied logs) (Tied others) h = ap (λ (o : Order). total (sizes o)) h.order
-lines_same ops all (Sequence log) (Tied others) h = absurd h
-lines_same ops all (Tied logs) (Sequence other) h = absurd h
-
-pub beside : (p q : Program) (c d : Config) (s t : Spec) (lined other : Lined) → AreSame p q c d s t lined other → AreBesideLined s t lined other
-beside p q c d s t lined other same = record { specs = same.specs; smaller = same.ordered.smaller; smaller_other = same.other_ordered.smaller; lines = same.lines }
-
-named_same : (job : Job) (p q : Program) (c d : Config) (s t : Spec) (lined other : Lined) → AreSame p q c d s t lined other → named_in job p c s lined ≡ named_in job q d t other
-named_same job p q c d s t lined other same =
-    let lines : lines_of lined ≡ lines_of other = lines_same s.operators t.operators lined other same.lines in
-    λ i. record {
-      files = all_files (same.programs i) (same.configurations i);
-      logs = job.logs;
-      variables = same.specs.variables i;
-      unchecked = same.specs.unchecked i;
-      lines = lines i;
-      limit = job.options.limit;
-    }
 
 -- ---- how `check` ends
 
@@ -204,100 +168,45 @@ module _ (states before now out_before out_now : ℕ) (old new : Option (List �
   ended status.Evaluation h = told status.Evaluation (h.report (λ e. cc) (λ e. cc))
   ended status.Limit h = told status.Limit (h.report (λ e. cc) (λ e. cc))
 
--- ---- the law, of a job that was read
-
-module _ (known : Known) (files : List File) (job : Job) (p : Program) (c : Config) (s : Spec) (lined : Lined) (all : AllRead (Some files) job p c s lined)
-    (valid : CheckIsValid job p c s lined) (words : List (List ℕ)) (form : AreWords words (Validate job)) where
-  -- a free name is none that the job asks for
-  unasked : (name : List ℕ) → IsFree words files name → AsksFor (Some files) name (Validate job) → ⊥
-  unasked name (inl none) asks = known.refused files 0 0 job p c s lined _ all (is_missing name asks.0 asks.1 none)
-  unasked name (inr never) asks = never (record { command = Validate job; form = form; wants = asks })
-
-  module _ (report : List ℕ) (w : List Shown) (widest : ℕ) (is_true : IsTrueOf s (asked_by job.options) lined (Explained w widest))
-      (text_is : report ≡ answer_text (named_in job p c s lined) (Explained w widest)) where
-    read_beside : (others : List File) (witness : List ℕ) → AreWith files others witness report → IsFree words files witness → AllRead (Some others) job p c s lined
-    read_beside others witness with free =
-        known.unseen job files others (λ name asks. with.rest name (λ e. unasked witness free (subst (λ (n : List ℕ). AsksFor (Some files) n (Validate job)) e asks))) p c s lined all
-
-    checks_valid : ChecksValid words files job report (length w)
-    checks_valid others witness with free short again limit why near its before now out_before out_now old new end ends =
-        let has : HasText (Some others) witness states_limit (answer_text (named_in job p c s lined) (Explained w widest)) =
-        subst (λ (r : List ℕ). HasText (Some others) witness states_limit r) text_is (record { whole = with.text_is; short = short }) in
-        let answers : (e : Status) (r : List ℕ) → Runs again (Some others) before now e r → (e ≡ status.Done) × (r ≡ verdict_text [] (length w) verdict.Valid) =
-        λ e r runs. valid w widest is_true limit why near others witness (read_beside others witness with free) has before now e r
-        (given_so known again others before now (searching limit why near job) witness e r its runs) in
-        ended (length w) before now out_before out_now old new again others answers end ends
-
-  -- the first call
-  explained : (report : List ℕ) → IsExplained files job report → (w : List Shown) × TellsExplained report w × ChecksValid words files job report (length w)
-  explained report x =
-      let same = known.reading files job x.program p x.config c x.spec s x.lined lined x.all_read all in
-      let is_true = (known.answers x.spec s x.lined lined (asked_by job.options) (beside x.program p x.config c x.spec s x.lined lined same)).answer (Explained x.states x.widest) x.is_true in
-      let named = named_same job x.program p x.config c x.spec s x.lined lined same in
-      let text_is : report ≡ answer_text (named_in job p c s lined) (Explained x.states x.widest) = x.text_is ∙ ap (λ (l : Named). answer_text l (Explained x.states x.widest)) named in
-      (x.states, record { named = named_in job p c s lined; widest = x.widest; text_is = text_is }, checks_valid report x.states x.widest is_true text_is)
+-- ---- the law
 
 some_is : (a b : List ℕ) → Some a ≡ Some b → a ≡ b
 some_is a b e = cc
 
--- what `validate` by these words explained
-module _ (known : Known) (files : List File) (job : Job) (words : List (List ℕ)) (form : AreWords words (Validate job)) where
+module _ (known : Known) (words : List (List ℕ)) (files : List File) (job : Job) (form : AreWords words (Validate job)) where
+  module _ (report : List ℕ) (x : IsExplained files job report) (valid : CheckIsValid job x.program x.config x.spec x.lined) where
+    -- a free name is none that the job asks for
+    unasked : (name : List ℕ) → IsFree words files name → AsksFor (Some files) name (Validate job) → ⊥
+    unasked name (inl none) asks = known.refused files 0 0 job x.program x.config x.spec x.lined _ x.all_read (is_missing name asks.0 asks.1 none)
+    unasked name (inr never) asks = never (record { command = Validate job; form = form; wants = asks })
+
+    read_beside : (others : List File) (witness : List ℕ) → AreWith files others witness report → IsFree words files witness → AllRead (Some others) job x.program x.config x.spec x.lined
+    read_beside others witness with free =
+        known.unseen job files others (λ name asks. with.rest name (λ e. unasked witness free (subst (λ (n : List ℕ). AsksFor (Some files) n (Validate job)) e asks)))
+        x.program x.config x.spec x.lined x.all_read
+
+    checks_valid : ChecksValid words files job report (length x.states)
+    checks_valid others witness with free short again limit why near its before now out_before out_now old new end ends =
+        let text : List ℕ = answer_text (named_in job x.program x.config x.spec x.lined) (Explained x.states x.widest) in
+        let has : HasText (Some others) witness states_limit text =
+        subst (λ (r : List ℕ). HasText (Some others) witness states_limit r) x.text_is (record { whole = with.text_is; short = short }) in
+        let answers : (e : Status) (r : List ℕ) → Runs again (Some others) before now e r → (e ≡ status.Done) × (r ≡ verdict_text [] (length x.states) verdict.Valid) =
+        λ e r runs. valid x.states x.widest x.is_true limit why near others witness (read_beside others witness with free) has before now e r
+        (given_so known again others before now (searching limit why near job) witness e r its runs) in
+        ended (length x.states) before now out_before out_now old new again others answers end ends
+
+    explained : (w : List Shown) × TellsExplained report w × ChecksValid words files job report (length w)
+    explained = (x.states, record { named = named_in job x.program x.config x.spec x.lined; widest = x.widest; text_is = x.text_is }, checks_valid)
+
   first_call : (before now out_before out_now : ℕ) (report : List ℕ) → Ends words (Some files) before now out_before out_now (Some []) (Some report) status.Done → IsExplained files job report
   first_call before now out_before out_now report ends =
-      let held = ends.report (λ e. cc) (λ e. cc) in
-      let same : held.0 ≡ report = sym (some_is report held.0 held.2) in
-      subst (λ (r : List ℕ). IsExplained files job r) same (ran_so known words files before now job status.Done held.0 form held.1 refl)
+      let wrote = ends.report (λ e. cc) (λ e. cc) in
+      let same : wrote.0 ≡ report = sym (some_is report wrote.0 wrote.2) in
+      subst (λ (r : List ℕ). IsExplained files job r) same (ran_so known words files before now job status.Done wrote.0 form wrote.1 refl)
 
-  after_of : ((report : List ℕ) → IsExplained files job report → (w : List Shown) × TellsExplained report w × ChecksValid words files job report (length w)) → ChecksAfterBeside words files
-  after_of law other before now out_before out_now report its ends =
-      let same : job ≡ other = job_is job other (known.command words (Validate job) (Validate other) form its) in
-      subst (λ (j : Job). (w : List Shown) × TellsExplained report w × ChecksValid words files j report (length w)) same
-      (law report (first_call before now out_before out_now report ends))
-
--- of a job that is read
-pub job_checks_after : (known : Known) (holds : Option (List File)) (job : Job) (p : Program) (c : Config) (s : Spec) (lined : Lined) → AllRead holds job p c s lined
-    → CheckIsValid job p c s lined → JobChecksAfter job holds
-job_checks_after known None job p c s lined all valid words form = tt
-job_checks_after known (Some files) job p c s lined all valid words form =
-    after_of known files job words form (explained known files job p c s lined all valid words form)
-
--- of a job that is refused
-pub refused_checks_after : (known : Known) (holds : Option (List File)) (before now : ℕ) (job : Job) (report : List ℕ) → IsRefusal holds before now job report → JobChecksAfter job holds
-refused_checks_after known None before now job report refusal words form = tt
-refused_checks_after known (Some files) before now job report refusal words form =
-    after_of known files job words form (λ r x. absurd (known.refused files before now job x.program x.config x.spec x.lined report x.all_read refusal))
-
--- ---- from what each call ensures
-
-pub is_refused_with : (holds : Option (List File)) (before now : ℕ) (job : Job) (x : Stop) (report : String Global) → x ≡ stop.Refused report → StopsBy holds before now job x
-    → IsRefusal holds before now job (string_bytes report)
-is_refused_with holds before now job x report e h = subst (λ (y : Stop). StopsBy holds before now job y) e h
-
-pub has_risen : (holds : Option (List File)) (before now : ℕ) (job : Job) (x : Stop) (name : List ℕ) → x ≡ stop.Device name → StopsBy holds before now job x → Rose before now
-has_risen holds before now job x name e h = (subst (λ (y : Stop). StopsBy holds before now job y) e h).0
-
-pub job_after : (words : List (List ℕ)) (holds : Option (List File)) (job : Job) (r : Result (Unit {0}) Stop) → AreWords words (Validate job) → IfOk r (λ done. JobChecksAfter job holds)
-    → IfOk r (λ done. ChecksAfter words holds)
-job_after words holds job (Ok done) form h = h words form
-job_after words holds job (Err x) form h = tt
-
--- of words that give no job of `validate`
-pub no_job_checks_after : (words : List (List ℕ)) (holds : Option (List File)) → ((job : Job) → AreWords words (Validate job) → ⊥) → ChecksAfter words holds
-no_job_checks_after words None never = tt
-no_job_checks_after words (Some files) never = λ job before now out_before out_now report form ends. absurd (never job form)
-
-pub check_after_none : (words : List (List ℕ)) (holds : Option (List File)) (command : Words) (job : Job) (witness : List ℕ) → OneCommand → command ≡ Check job witness → AreWords words command
-    → ChecksAfter words holds
-check_after_none words holds command job witness one e form =
-    let its : AreWords words (Check job witness) = subst (λ (w : Words). AreWords words w) e form in
-    no_job_checks_after words holds (λ other form. no_check other job witness (one words (Validate other) (Check job witness) form its))
-
-pub test_after_none : (words : List (List ℕ)) (holds : Option (List File)) (command : Words) (n : ℕ) → OneCommand → command ≡ SelfRun n → AreWords words command → ChecksAfter words holds
-test_after_none words holds command n one e form =
-    let its : AreWords words (SelfRun n) = subst (λ (w : Words). AreWords words w) e form in
-    no_job_checks_after words holds (λ other form. no_test other n (one words (Validate other) (SelfRun n) form its))
-
-pub none_after : (words : List (List ℕ)) (holds : Option (List File)) (read : Option Words) → Reads words (Ok read) → read ≡ None → ChecksAfter words holds
-none_after words holds read reads e =
-    let none : Reads words (Ok None) = subst (λ (r : Option Words). Reads words (Ok r)) e reads in
-    no_job_checks_after words holds (λ job form. none (Validate job) form)
+-- where `check` of what is read and held is valid
+pub checks_after : Known → ((files : List File) (job : Job) (p : Program) (c : Config) (s : Spec) (lined : Lined) → AllRead (Some files) job p c s lined → IsHeldSo s lined
+    → CheckIsValid job p c s lined) → ChecksAfter
+checks_after known valid words files job before now out_before out_now report form ends =
+    let x = first_call known words files job form before now out_before out_now report ends in
+    explained known words files job form report x (valid files job x.program x.config x.spec x.lined x.all_read x.held)

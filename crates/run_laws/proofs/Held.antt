@@ -23,16 +23,18 @@ use Rattle.run_reading.specs.Reaches.{AllRead, Reaches, configured, given, has_f
 use Rattle.run_reading.specs.Texts.{LogsRead}
 use Rattle.unchecked_laws.specs.Laws.{HasNoFeed, UncheckedAreLines}
 use Rattle.wide_reading.specs.Laws.{PassedAreLines}
+use Rattle.held_readings.specs.Held.{IsHeldSo}
 use Rattle.trace_cli.specs.Calls.{asked_by, named_in}
 use Rattle.valid_reports.specs.Laws.{PrintsValid}
-use Rattle.alike_lined.specs.Laws.{LinedVerdictsAlike}
+use Rattle.alike_lined.specs.Laws.{LinedAnswersAlike, LinedVerdictsAlike}
+use Rattle.one_reading.specs.Laws.{ReadingIsOne}
 use Rattle.own_place_laws.specs.Laws.{ReadAreTellable}
 use Rattle.assumed_laws.specs.Laws.{AssumedAreNotUnassumed}
 use Rattle.not_refused.specs.Laws.{GivenNotRefused}
 use Rattle.answered_valid.specs.Laws.{CheckIsValid}
 use Rattle.answered_valid.proofs.Answering as answering
-use Rattle.run_laws.specs.AfterExplained.{HeldChecksAfter, IsHeld}
-use Rattle.run_laws.proofs.Following.{Known, job_checks_after}
+use Rattle.run_laws.specs.AfterExplained.{ChecksAfter}
+use Rattle.run_laws.proofs.Following.{Known, checks_after}
 
 -- What is known of what is printed and judged.
 pub record Valid : Type 0 where
@@ -44,6 +46,8 @@ pub record Valid : Type 0 where
   pub passed : PassedAreLines
   pub own : ReadAreTellable
   pub assumed : AssumedAreNotUnassumed
+  pub reading : ReadingIsOne
+  pub answers : LinedAnswersAlike
   pub verdicts : LinedVerdictsAlike
   pub states : StateFileSaysOne
   pub given : GivenNotRefused
@@ -72,27 +76,26 @@ module _ (known : Valid) (holds : Option (List File)) (job : Job) where
 
 -- ---- what is held is valid
 
-held_prints : Valid → (holds : Option (List File)) (job : Job) (p : Program) (c : Config) (s : Spec) (lined : Lined) → AllRead holds job p c s lined → IsHeld s lined → PrintsValid job p c s lined
+held_prints : Valid → (holds : Option (List File)) (job : Job) (p : Program) (c : Config) (s : Spec) (lined : Lined) → AllRead holds job p c s lined → IsHeldSo s lined → PrintsValid job p c s lined
 held_prints known holds job p c s lined all held w widest a =
     let asked = asked_by job.options in
     let valid = explained_valid s lined asked known.stay known.keep held.ready in
     let law = printed_valid s lined asked (spec_of s lined held.ready).ordered known.reads valid (explained_states s lined asked) known.runs held.ready in
     law (named_in job p c s lined) w widest (record { variables = refl; texts = held.texts; unchecked = logged_lines known holds job p c s all.read [] all.reaches; places = held.places }) a
 
-held_is_valid : Known → Valid → (holds : Option (List File)) (job : Job) (p : Program) (c : Config) (s : Spec) (lined : Lined) → AllRead holds job p c s lined → IsHeld s lined
+held_is_valid : Valid → (holds : Option (List File)) (job : Job) (p : Program) (c : Config) (s : Spec) (lined : Lined) → AllRead holds job p c s lined → IsHeldSo s lined
     → CheckIsValid job p c s lined
-held_is_valid known valid holds job p c s lined all held = answering.check_is_valid job p c s lined (record {
-  prints = held_prints valid holds job p c s lined all held;
+held_is_valid known holds job p c s lined all held = answering.check_is_valid job p c s lined (record {
+  prints = held_prints known holds job p c s lined all held;
   one = λ asked. have_one s lined asked held.ready;
-  own = valid.own;
+  own = known.own;
   values = (spec_of s lined held.ready).known;
-  assumed = valid.assumed;
+  assumed = known.assumed;
   reading = known.reading;
   answers = known.answers;
-  verdicts = valid.verdicts;
-  states = valid.states;
-}) valid.given
+  verdicts = known.verdicts;
+  states = known.states;
+}) known.given
 
-pub held_checks_after : Known → Valid → HeldChecksAfter
-held_checks_after known valid words files job p c s lined form all held =
-    job_checks_after known (Some files) job p c s lined all (held_is_valid known valid (Some files) job p c s lined all held) words form
+pub held_checks_after : Known → Valid → ChecksAfter
+held_checks_after known valid = checks_after known (λ files. held_is_valid valid (Some files))

@@ -1,13 +1,8 @@
 -- Two calls of `run`: `validate`, whose report is kept as a file, and then `check` of that file. It is said of files that tell what they hold, by the clauses of `run`
 -- alone.
-use Rattle.std.specs.Prelude.{◌≡◌, ◌≢◌, ◌⊎◌, ◌≤◌, ℕ, List, [], ◌∷◌, length, All, IsUtf8, Option, None, Some}
+use Rattle.std.specs.Prelude.{◌≡◌, ◌≢◌, ◌⊎◌, ◌≤◌, ℕ, List, [], ◌∷◌, length, Option, None, Some}
 use Rattle.trace_base.specs.Device.{Appended, File, Rose, found}
-use Rattle.tla_ast.specs.declared.config.Config.{Config}
-use Rattle.tla_ast.specs.declared.module.Program.{Program}
 use Rattle.tla_core.specs.declared.state.Shown.{Shown}
-use Rattle.tla_terms.specs.declared.spec.Spec.{Spec}
-use Rattle.tied_logs.specs.declared.logs.Lined.{Lined}
-use Rattle.lined_specs.specs.Beside.{IsReadyOver}
 use Rattle.state_layers.specs.declared.answer.Answer.TheVariants.{Explained}
 use Rattle.state_verdicts.specs.declared.verdict.Verdict.TheVariants.{Valid}
 use Rattle.run_words.specs.declared.job.Job.{Job}
@@ -16,10 +11,6 @@ use Rattle.run_words.specs.Words.{AreWords}
 use Rattle.run_texts.specs.Answers.{Named, answer_text}
 use Rattle.run_texts.specs.Verdicts.{verdict_text}
 use Rattle.run_reading.specs.Given.{states_limit}
-use Rattle.run_reading.specs.Reaches.{AllRead}
-use Rattle.run_stages.specs.declared.stop.Stop.{Stop}
-use Rattle.run_stages.specs.declared.stop.Stop.TheVariants as stop
-use Rattle.printed_laws.specs.Laws.{ArePlaced}
 use Rattle.trace_cli.specs.Run.{IsWanted}
 use Rattle.trace_cli.specs.declared.call.Status.{Status}
 use Rattle.trace_cli.specs.declared.call.Status.TheVariants.{Done, Device, Memory}
@@ -60,37 +51,9 @@ ChecksValid words files job report states =
     → (before now out_before out_now : ℕ) (old new : Option (List ℕ)) (end : Status) → Ends again (Some others) before now out_before out_now old new end
     → EndsValid states before now out_before out_now old new end
 
--- Where `validate` by these words ends with status 0, its report tells EXPLAINED, and each `check` of it then answers VALID.
-abbrev pub ChecksAfterBeside : List (List ℕ) → List File → Type 0
-ChecksAfterBeside words files =
-    (job : Job) (before now out_before out_now : ℕ) (report : List ℕ) → AreWords words (Validate job)
+-- Where `validate` ends with status 0, its report tells EXPLAINED, and each `check` of it then answers VALID.
+abbrev pub ChecksAfter : Type 0
+ChecksAfter =
+    (words : List (List ℕ)) (files : List File) (job : Job) (before now out_before out_now : ℕ) (report : List ℕ) → AreWords words (Validate job)
     → Ends words (Some files) before now out_before out_now (Some []) (Some report) Done
     → (w : List Shown) × TellsExplained report w × ChecksValid words files job report (length w)
-
--- What is held of a reading: its specification can be asked beside the lines, the names of variables are texts, and each line has its place. All that is accepted is
--- held so; what is read, as `run` tells of it, need not be.
-pub record IsHeld (s : Spec) (lined : Lined) : Type 0 where
-  pub ready : IsReadyOver s lined
-  pub texts : All IsUtf8 s.variables
-  pub places : ArePlaced lined
-
--- so it is wherever one reading of these files is held
-abbrev pub HeldChecksAfter : Type 0
-HeldChecksAfter =
-    (words : List (List ℕ)) (files : List File) (job : Job) (p : Program) (c : Config) (s : Spec) (lined : Lined) → AreWords words (Validate job) → AllRead (Some files) job p c s lined
-    → IsHeld s lined → ChecksAfterBeside words files
-
--- where the files tell
-abbrev pub ChecksAfter : List (List ℕ) → Option (List File) → Type 0
-ChecksAfter words None = Unit {0}
-ChecksAfter words (Some files) = ChecksAfterBeside words files
-
--- by whichever words that give the job
-abbrev pub JobChecksAfter : Job → Option (List File) → Type 0
-JobChecksAfter job holds = (words : List (List ℕ)) → AreWords words (Validate job) → ChecksAfter words holds
-
--- a read of a file failed, or memory is wanting
-abbrev pub IsUnsure : ℕ → ℕ → Stop → Type 0
-IsUnsure before now (stop.Refused report) = ⊥
-IsUnsure before now (stop.Device name) = Rose before now
-IsUnsure before now stop.NoMemory = Unit {0}

@@ -1,4 +1,4 @@
-ghost use Rattle.run_laws.specs.AfterExplained.{HeldChecksAfter, OneMoreIsKept};
+ghost use Rattle.run_laws.specs.AfterExplained.{ChecksAfter, OneMoreIsKept};
 ghost use Rattle.run_laws.specs.Decided.{RunsDecide};
 
 use action_truth_laws::fault_law;
@@ -32,9 +32,9 @@ pub fn kept_law()
     ensures { OneMoreIsKept }
 {}
 
-/// Where one reading of these files is held, `validate` that ends with status 0 tells EXPLAINED, and each `check` of its report ends with VALID.
-pub fn held_law()
-    ensures { HeldChecksAfter }
+/// Where `validate` ends with status 0, its report tells EXPLAINED, and each `check` of it ends with VALID, but for want of memory and devices that fail.
+pub fn check_law()
+    ensures { ChecksAfter }
 {
     one_command();
     unseen_law();

@@ -2,12 +2,10 @@
 //! call decides.
 #![tactic(auto)]
 
-mod after;
 mod call;
 mod laws;
 #[cfg(test)]
 mod tests;
 
-pub use after::check_after;
 pub use call::run_ends;
-pub use laws::{decided_law, held_law, kept_law};
+pub use laws::{check_law, decided_law, kept_law};

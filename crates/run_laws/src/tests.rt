@@ -2,7 +2,6 @@ ghost use Rattle.std.specs.Prelude.{◌≡◌, IfOk};
 ghost use Rattle.trace_base.specs.Device.{AreDistinct};
 ghost use Rattle.trace_base.specs.Memory.{files_of};
 
-use crate::after::check_after;
 use crate::call::run_ends;
 use std::alloc::{AllocError, Global};
 use std::rt::HostRuntime;
@@ -52,14 +51,5 @@ fn a_call_ends_as_run_does(rt: HostRuntime) -> Result<(), Fail> {
     let status = run_ends(alloc, &words, &mut files, &mut sink);
     assert!(rt; status == Status::Done);
     assert!(rt; sink.written() == EXPLAINED.as_bytes());
-    Ok(())
-}
-
-#[test]
-fn the_law_is_had_of_files_that_are_read(rt: HostRuntime) -> Result<(), Fail> {
-    let alloc = rt.alloc();
-    let words = words(alloc)?;
-    let mut files = MemoryFiles::new(files(alloc)?, Vec::new(alloc));
-    assert!(rt; check_after(alloc, &words, &mut files).is_ok());
     Ok(())
 }

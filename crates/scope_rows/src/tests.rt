@@ -1,7 +1,7 @@
 use std::alloc::{AllocError, Global};
 use std::rt::HostRuntime;
 use std::test::Fail;
-use tla_ast::{Definition, Definitions, Expr, Node};
+use tla_ast::{Definition, DefinitionForm, Definitions, Expr, Node};
 use tla_core::VarId;
 use tla_scopes::{
     Entry, Local, Meant, Named, ProgramNames, Scope, level_for, meaning, mentions, used,
@@ -103,6 +103,7 @@ fn let_of(alloc: Global, body: &str, last: &str) -> Result<Expr, AllocError> {
         name: text(alloc, "f")?,
         at: AT,
         params,
+        form: DefinitionForm::Operator,
         body: name_of(alloc, body)?,
     })?;
     let last = name_of(alloc, last)?;

@@ -242,7 +242,7 @@ module _ (known : NameMeanings) (ops : List Operator) (names : List Entry) (are 
 
     defines : (sc : List Local) (ds : tree.Definitions) (ks : List ℕ) (inner : List Local) → Around sc → ((k : ℕ) → Contains ks k → IsFine ops k) → Defines names ops sc ds ks inner → All F ks × Around inner
     defines sc tree.NoDefinitions ks inner s fine h = (subst (λ (l : List ℕ). All F l) (sym h.0) (All-nil F), subst (λ (l : List Local). Around l) (sym h.1) s)
-    defines sc (tree.MoreDefinitions ds n at ps e) ks inner s fine h =
+    defines sc (tree.MoreDefinitions ds n at ps form e) ks inner s fine h =
         let whole : (k : ℕ) → Contains (h.0 ++ h.2.0 ∷ []) k → IsFine ops k = λ k c. fine k (subst (λ (l : List ℕ). Contains l k) (sym h.7) c) in
         let a : All F h.0 × Around h.1 = defines sc ds h.0 h.1 s (λ k c. whole k (Contains-append_left h.0 (h.2.0 ∷ []) k c)) h.4 in
         let o : Operator = local_operator (slots h.1) (length ps) h.3 in

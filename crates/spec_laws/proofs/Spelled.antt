@@ -1,16 +1,18 @@
 -- What a text spells has as many parts as the grammar asks for.
-use Rattle.std.proofs.Common.{List, [], ◌∷◌, inl, inr}
+use Rattle.std.proofs.Common.{List, [], ◌∷◌}
 use Rattle.std.specs.Prelude.{◌≢◌, ℕ}
 use Rattle.trace_base.specs.declared.place.Place.{Place}
+use Rattle.tla_ast.specs.declared.form.DefinitionForm.{DefinitionForm}
+use Rattle.tla_ast.specs.declared.form.DefinitionForm.TheVariants as forms
 use Rattle.tla_ast.specs.declared.laid.Bullet.{Bullet}
 use Rattle.tla_ast.specs.declared.laid.Laid.{Laid}
 use Rattle.tla_ast.specs.declared.module.Unit.{Unit as ModuleUnit}
-use Rattle.tla_ast.specs.declared.module.Unit.TheVariants.{Variables, Constants, Define, Assume, Passed}
+use Rattle.tla_ast.specs.declared.module.Unit.TheVariants.{Variables, Constants, Recursive, Define, Assume, Passed}
 use Rattle.tla_ast.specs.declared.operators.InfixOperator.{InfixOperator}
 use Rattle.tla_tokens.specs.declared.token.Symbol.{Symbol}
 use Rattle.tla_tokens.specs.declared.token.Symbol.TheVariants as symbols
 use Rattle.tla_ast.specs.Trees.{Tree, Number, Str, Truth, Builtin, Name, Call, At, Parenthesized, Junction, Prefix, Infix, Postfix, SetOf, Filter, Map, Tuple, Function, FunctionSet, Record, RecordSet, Except, Quantified, Choose, If, Case, CaseOther, Let, BoxAction, AngleAction, Fairness, Trees, NoTrees, MoreTrees, Operands, First, Next, Step, Prime, Index, Field, Steps, NoSteps, MoreSteps, Bounds, NoBounds, MoreBounds, Fields, NoFields, MoreFields, Changes, NoChanges, MoreChanges, Arms, NoArms, MoreArms, Definitions, NoDefinitions, MoreDefinitions}
-use Rattle.tla_ast.specs.Grammar.{IsPath, AreOnce, Text, CommasBefore, Commas, MaybeCommas, Items, ItemsBefore, Chain, StepText, StepsText, BoundsBefore, BoundsText, FieldsBefore, FieldsText, ChangesBefore, ChangesText, ArmsBefore, SomeArmsBefore, ArmsText, FunctionRest, DefinitionsText, SomeDefinitions, DefinitionRest, NamesText}
+use Rattle.tla_ast.specs.Grammar.{by_form, Span, IsPath, AreOnce, Text, CommasBefore, Commas, MaybeCommas, Items, ItemsBefore, Chain, StepText, StepsText, BoundsBefore, BoundsText, FieldsBefore, FieldsText, ChangesBefore, ChangesText, ArmsBefore, SomeArmsBefore, ArmsText, FunctionRest, DefinitionsText, SomeDefinitions, DefinitionRest, NamesText}
 use Rattle.tla_ast.specs.Fits.{Fits, AllFit, ChainFits, StepFits, StepsFit, BoundsFit, FieldsFit, ChangesFit, ArmsBeforeFit, ArmsFit, DefinitionsFit}
 use Rattle.tla_ast.specs.Modules.{UnitText, UnitsText, UnitFits, UnitsFit}
 use Rattle.spec_laws.specs.Formed.{IsFormed, AreFormed, ChainIsFormed, StepIsFormed, StepsAreFormed, BoundsAreFormed, FieldsAreFormed, ChangesAreFormed, ArmsAreFormed, DefinitionsAreFormed, UnitIsFormed, UnitsAreFormed}
@@ -55,8 +57,13 @@ some_changes cs ss e h = (λ q. cc, h)
 arms_there : (arms : Arms) (p e : Tree) → ArmsAreFormed arms → IsFormed p → IsFormed e → (MoreArms arms p e ≢ NoArms) × ArmsAreFormed (MoreArms arms p e)
 arms_there arms p e h j k = (λ q. cc, (h, j, k))
 
-definitions_there : (ds : Definitions) (n : List ℕ) (at : Place) (ns : List (List ℕ)) (e : Tree) → DefinitionsAreFormed ds → IsFormed e → (MoreDefinitions ds n at ns e ≢ NoDefinitions) × DefinitionsAreFormed (MoreDefinitions ds n at ns e)
-definitions_there ds n at ns e h k = (λ q. cc, (h, k))
+definitions_there : (ds : Definitions) (n : List ℕ) (at : Place) (ns : List (List ℕ)) (form : DefinitionForm) (e : Tree) → DefinitionsAreFormed ds → IsFormed e → (MoreDefinitions ds n at ns form e ≢ NoDefinitions) × DefinitionsAreFormed (MoreDefinitions ds n at ns form e)
+definitions_there ds n at ns form e h k = (λ q. cc, (h, k))
+
+-- whichever form a definition has
+either_form : {A : Type 0} (form : DefinitionForm) (R S : Span) (xs ys : List Laid) → by_form form R S xs ys → (R xs ys → A) → (S xs ys → A) → A
+either_form forms.Operator R S xs ys h f g = f h
+either_form forms.Function R S xs ys h f g = g h
 
 mutual
   formed : (t : Tree) (xs ys : List Laid) → Text t xs ys → Fits t → IsFormed t
@@ -166,20 +173,21 @@ mutual
 
   definitions : (ds : Definitions) (xs ys : List Laid) → DefinitionsText ds xs ys → DefinitionsFit ds → DefinitionsAreFormed ds
   definitions NoDefinitions xs ys h f = tt
-  definitions (MoreDefinitions ds n at ns e) xs ys h f = (definitions ds xs h.0 h.1 f.0, elim h.2.2 [ inl a ↦ formed e a.2.0 ys a.2.2 f.1 | inr b ↦ function_rest e h.2.0 ys b.1 f.1 ])
+  definitions (MoreDefinitions ds n at ns form e) xs ys h f = (definitions ds xs h.0 h.1 f.0, either_form form _ _ h.2.0 ys h.2.2 (λ a. formed e a.2.0 ys a.2.2 f.1) (λ b. function_rest e h.2.0 ys b.1 f.1))
 
   some_definitions : (ds : Definitions) (xs ys : List Laid) → SomeDefinitions ds xs ys → DefinitionsFit ds → (ds ≢ NoDefinitions) × DefinitionsAreFormed ds
   some_definitions NoDefinitions xs ys h f = absurd h
-  some_definitions (MoreDefinitions ds n at ns e) xs ys h f = definitions_there ds n at ns e (definitions ds xs h.0 h.1 f.0) (elim h.2.2 [ inl a ↦ formed e a.2.0 ys a.2.2 f.1 | inr b ↦ function_rest e h.2.0 ys b.1 f.1 ])
+  some_definitions (MoreDefinitions ds n at ns form e) xs ys h f = definitions_there ds n at ns form e (definitions ds xs h.0 h.1 f.0) (either_form form _ _ h.2.0 ys h.2.2 (λ a. formed e a.2.0 ys a.2.2 f.1) (λ b. function_rest e h.2.0 ys b.1 f.1))
 
-rest : (ns : List (List ℕ)) (t : Tree) (xs ys : List Laid) → DefinitionRest ns t xs ys → Fits t → IsFormed t
-rest ns t xs ys (inl a) f = formed t a.2.0 ys a.2.2 f
-rest ns t xs ys (inr b) f = function_rest t xs ys b.1 f
+rest : (ns : List (List ℕ)) (form : DefinitionForm) (t : Tree) (xs ys : List Laid) → DefinitionRest ns form t xs ys → Fits t → IsFormed t
+rest ns forms.Operator t xs ys h f = formed t h.2.0 ys h.2.2 f
+rest ns forms.Function t xs ys h f = function_rest t xs ys h.1 f
 
 unit_formed : (u : ModuleUnit) (xs ys : List Laid) → UnitText u xs ys → UnitFits u → UnitIsFormed u
 unit_formed (Variables ds) xs ys h f = tt
 unit_formed (Constants ds) xs ys h f = tt
-unit_formed (Define d) xs ys h f = rest d.params d.body h.0 ys h.2 f
+unit_formed (Recursive ds) xs ys h f = tt
+unit_formed (Define d) xs ys h f = rest d.params d.form d.body h.0 ys h.2 f
 unit_formed (Assume e) xs ys h f = formed e h.2.0 ys h.2.2 f
 unit_formed Passed xs ys h f = tt
 

@@ -273,7 +273,7 @@ module _ (names : List Entry) (ops : List Operator) (S : List Local → Type 0) 
 
     definitions_in : (g : Takes) (sc : List Local) (i : ℕ) (ds : tree.Definitions) (ks : List ℕ) (inner : List Local) → Here g sc i → DefinitionsAreFormed ds → definitions_complaint g ds ≡ None → Defines names ops sc ds ks inner → All Q ks × Here (with_definitions g ds) inner i
     definitions_in g sc i tree.NoDefinitions ks inner w f c h = (subst (λ (l : List ℕ). All Q l) (sym h.0) (All-nil Q), subst (λ (s : List Local). Here g s i) (sym h.1) w)
-    definitions_in g sc i (tree.MoreDefinitions ds n at ps e) ks inner w f c h =
+    definitions_in g sc i (tree.MoreDefinitions ds n at ps form e) ks inner w f c h =
         let a : All Q h.0 × Here (with_definitions g ds) h.1 i = definitions_in g sc i ds h.0 h.1 w f.0 (none_first (definitions_complaint g ds) (or_else (itself n at ps e) (complaint (with_names (with_definitions g ds) ps) e)) c) h.4 in
         let d : or_else (itself n at ps e) (complaint (with_names (with_definitions g ds) ps) e) ≡ None = none_second (definitions_complaint g ds) (or_else (itself n at ps e) (complaint (with_names (with_definitions g ds) ps) e)) c in
         let t : takes_in names (bind h.1 ps) ≡ with_names (with_definitions g ds) ps = takes_bind names h.1 ps ∙ ap (λ (q : Takes). with_names q ps) a.1.takes in

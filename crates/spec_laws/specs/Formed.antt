@@ -1,7 +1,7 @@
 -- Trees in order: each list has as many parts as its row of the grammar asks for, and no record has a field twice. What a text spells is so.
 use Rattle.std.specs.Prelude.{◌≡◌, ◌≢◌, true, List, [], ◌∷◌}
 use Rattle.tla_ast.specs.declared.module.Unit.{Unit as ModuleUnit}
-use Rattle.tla_ast.specs.declared.module.Unit.TheVariants.{Variables, Constants, Define, Assume, Passed}
+use Rattle.tla_ast.specs.declared.module.Unit.TheVariants.{Variables, Constants, Recursive, Define, Assume, Passed}
 use Rattle.tla_ast.specs.declared.operators.InfixOperator.{InfixOperator}
 use Rattle.tla_ast.specs.Precedence.{chains}
 use Rattle.tla_ast.specs.Grammar.{IsPath, AreOnce}
@@ -76,7 +76,7 @@ abbrev mutual
 
   pub DefinitionsAreFormed : Definitions → Type 0
   DefinitionsAreFormed NoDefinitions = Unit {0}
-  DefinitionsAreFormed (MoreDefinitions ds n at ps e) = DefinitionsAreFormed ds × IsFormed e
+  DefinitionsAreFormed (MoreDefinitions ds n at ps form e) = DefinitionsAreFormed ds × IsFormed e
 
 -- the tree of a unit, where it has one that is read
 abbrev pub UnitIsFormed : ModuleUnit → Type 0
@@ -84,6 +84,7 @@ UnitIsFormed (Define d) = IsFormed d.body
 UnitIsFormed (Assume e) = IsFormed e
 UnitIsFormed (Variables ds) = Unit {0}
 UnitIsFormed (Constants ds) = Unit {0}
+UnitIsFormed (Recursive rs) = Unit {0}
 UnitIsFormed Passed = Unit {0}
 
 abbrev pub UnitsAreFormed : List ModuleUnit → Type 0

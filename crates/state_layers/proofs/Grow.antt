@@ -1,11 +1,12 @@
 -- A layer that grows.
-use Rattle.std.proofs.Common.{◌≡◌, ◌≤◌, ◌<◌, ◌+◌, ℕ, List, [], ◌++◌, length, arith, refl, sym, subst, ap, ◌⊎◌, inl, inr, Some}
+use Rattle.std.proofs.Common.{◌≡◌, ◌≤◌, ◌<◌, ◌+◌, ℕ, List, [], ◌∷◌, ◌++◌, length, arith, refl, sym, subst, ap, ◌⊎◌, inl, inr, Some}
 use Rattle.std.specs.List.{Contains, slice_get}
 use Rattle.tla_core.specs.System.{System}
 use Rattle.tla_core.specs.Sets.{AreOf, IsList, HasAtMost, HasMoreThan}
 use Rattle.tla_core.specs.Runs.{Layer, Entry, Upto, IsUpto}
 use Rattle.state_layers.specs.Moves.{IsSource, line_of, silents_of, line_after, silents_after, IsOpen, Moves, MoveFaults, MoveSeen, entry_of, entries, entry, at_layer, IsRange, Comes, Part, Growing, Grown}
-use Rattle.state_layers.specs.Found.{Found, members_of, Merged}
+use Rattle.state_layers.specs.Found.{Found, members_of, all_from, IsDistinct, Merged}
+use Rattle.std.proofs.lemmas.List.{length-map}
 use Rattle.state_layers.specs.Says.{Expands}
 use Rattle.state_layers.specs.declared.node.Node.{Node}
 use Rattle.state_layers.specs.declared.node.Move.{Move}
@@ -159,4 +160,40 @@ module _ {A : Type 0} where
         g.clear w.0 w.1 t f w.2 w.3 (omega (arith, w.4)) (subst (λ (z : A). MoveFaults y move z t f) (sym w.5) bad) (subst (λ (z : A). MoveSeen y move z t) (sym w.5) seen);
     limit = g.limit;
     total = g.total;
+  }
+
+  -- from one node alone
+  members_all : (k : ℕ) (xs : List A) → members_of (all_from k xs) ≡ xs
+  members_all k [] = refl
+  members_all k (x ∷ xs) = ap (λ (ys : List A). x ∷ ys) (members_all k xs)
+
+  long_all : (k : ℕ) (xs : List A) → length (all_from k xs) ≡ length xs
+  long_all k xs = simp length-map
+
+  merged_alone : (list : List A) (k most : ℕ) → IsDistinct list → Merged [] list k most (all_from k list)
+  merged_alone list k most d = record {
+    kept = λ s h. absurd (in_nil s h);
+    new = λ f h. let r = map_in (λ (x : A). (x, k)) list f h in
+        inr (sym (ap (λ (p : Found A). p.1) r.2), subst (λ (z : A). Contains list z) (ap (λ (p : Found A). p.0) r.2) r.1);
+    distinct = λ h. subst (λ (xs : List A). IsDistinct xs) (sym (members_all k list)) d;
+    all = λ le s h. subst (λ (xs : List A). Contains xs s) (sym (members_all k list)) h;
+  }
+
+  pub grown_alone : (y : System A) (move : Move) (nodes : List (Node A)) (from : ℕ) (list : List A) (x : Node A) → 1 ≤ y.within → IsOpen y move
+      → IsRange move nodes from → IsList (Upto y (line_of move) (silents_of y move)) (entries nodes) → length nodes ≡ from + 1 → slice_get nodes from ≡ Some x
+      → Expands y move x.entry list → length list ≤ y.limit → length nodes + length list ≤ y.total → Grown y move nodes (all_from from list)
+  grown_alone y move nodes from list x one o range l end at e lim tot =
+      let size : length (all_from from list) ≡ length list = long_all from list in
+      grown y move nodes from (from + 1) (all_from from list) one o range l (omega (arith, end))
+      (growing_step y move nodes from from [] (all_from from list) list (length list) x at ((range from x at).0 (omega arith)) e
+      (merged_alone list from (length list) e.list.are.distinct) (growing_nil y move nodes from (omega (arith, tot)))
+      (omega (arith, size, lim)) (omega (arith, size, tot)) (omega (arith, size)))
+
+  -- the entries of a list of steps are in the layer, beside what is known of all
+  pub list_are : (y : System A) (move : Move) (nodes : List (Node A)) (list : List A) (x : Node A) (i : ℕ) → IsOpen y move
+      → IsList (Upto y (line_of move) (silents_of y move)) (entries nodes) → slice_get nodes i ≡ Some x → IsSource move x.line x.silents
+      → Expands y move x.entry list → AreOf (Layer y (line_after move) (silents_after move)) list
+  list_are y move nodes list x i o l at src e = record {
+    distinct = e.list.are.distinct;
+    members = λ s h. into y move x.line x.silents x.entry s o src (node_layer y (line_of move) (silents_of y move) nodes l i x at) (e.list.are.members s h);
   }

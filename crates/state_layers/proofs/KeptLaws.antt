@@ -1,5 +1,5 @@
 -- Whole layers, one behind another.
-use Rattle.std.proofs.Common.{◌≡◌, ◌≤◌, ◌<◌, ◌+◌, ◌-◌, ℕ, List, [], ◌∷◌, ◌++◌, length, arith, refl, sym, subst, ap, ◌∙◌, ◌⊎◌, inl, inr, get_or, Some, take}
+use Rattle.std.proofs.Common.{◌≡◌, ◌≤◌, ◌<◌, ◌+◌, ◌-◌, ℕ, List, [], ◌∷◌, ◌++◌, length, map, arith, refl, sym, subst, ap, ◌∙◌, ◌⊎◌, inl, inr, get_or, Some, take}
 use Rattle.std.specs.List.{Contains, slice_get}
 use Rattle.std.proofs.lemmas.Grind.{common_steps}
 use Rattle.std.proofs.lemmas.Bool.{cases_lt}
@@ -9,7 +9,7 @@ use Rattle.tla_core.specs.System.{System}
 use Rattle.tla_core.specs.Sets.{AreOf, IsList, HasAtMost, HasSome}
 use Rattle.tla_core.specs.Runs.{Layer, Entry, Upto, IsUpto}
 use Rattle.state_layers.specs.Moves.{line_of, silents_of, line_after, silents_after, IsOpen, IsClear, entry_of, entries, entry, at_layer, Comes, Grown}
-use Rattle.state_layers.specs.Found.{Found, members_of}
+use Rattle.state_layers.specs.Found.{Found, all_from, members_of}
 use Rattle.state_layers.specs.Kept.{node, nodes_of, Linked, moves, AllLinked, IsDone, Kept}
 use Rattle.state_layers.specs.declared.node.Node.{Node}
 use Rattle.state_layers.specs.declared.node.Move.{Move}
@@ -54,6 +54,10 @@ module _ {A : Type 0} where
 
   pub places_keep : (nodes : List (Node A)) (n j : ℕ) (layer : List (Found A)) → entries (nodes ++ nodes_of n j layer) ≡ entries nodes ++ at_layer n j (members_of layer)
   places_keep nodes n j layer = map-append entry_of nodes (nodes_of n j layer) ∙ ap (λ (ps : List (Entry A)). entries nodes ++ ps) (places_new n j layer)
+
+  pub nodes_alone : (n j k : ℕ) (xs : List A) → map (λ s. node n j s k) xs ≡ nodes_of n j (all_from k xs)
+  nodes_alone n j k [] = refl
+  nodes_alone n j k (x ∷ xs) = ap (λ (ys : List (Node A)). node n j x k ∷ ys) (nodes_alone n j k xs)
 
   pub long_new : (n j : ℕ) (layer : List (Found A)) → length (nodes_of n j layer) ≡ length layer
   long_new n j layer = simp length-map

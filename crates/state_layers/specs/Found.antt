@@ -9,6 +9,10 @@ Found A = A × ℕ
 abbrev pub members_of : {A : Type 0} → List (Found A) → List A
 members_of xs = map (λ f. f.0) xs
 
+-- These, each with that index.
+abbrev pub all_from : {A : Type 0} → ℕ → List A → List (Found A)
+all_from k xs = map (λ x. (x, k)) xs
+
 -- No two are the same.
 abbrev pub IsDistinct : {A : Type 0} → List A → Type 0
 IsDistinct xs = AllPairs (λ a b. a ≢ b) xs

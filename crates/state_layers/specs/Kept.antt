@@ -5,7 +5,7 @@ use Rattle.tla_core.specs.Sets.{IsList, HasAtMost, HasSome}
 use Rattle.tla_core.specs.Runs.{Run, Layer, Upto, IsUpto}
 use Rattle.state_layers.specs.Found.{Found, members_of, IsDistinct}
 use Rattle.tla_core.specs.declared.fault.Fault.{Fault}
-use Rattle.state_layers.specs.Moves.{IsSource, IsOpen, Moves, IsClear, IsRange, line_after, silents_after, entries}
+use Rattle.state_layers.specs.Moves.{IsSource, IsOpen, Moves, IsClear, IsRange, Grown, line_after, silents_after, entries}
 use Rattle.state_layers.specs.declared.node.Node.{Node}
 use Rattle.state_layers.specs.declared.node.Move.{Move}
 use Rattle.state_layers.specs.declared.node.Move.TheVariants.{Wait, Go}
@@ -87,6 +87,12 @@ pub record IsBehind {A : Type 0} (y : System A) (move : Move) (old now : List (N
   pub added : List (Found A)
   pub is : now ≡ old ++ nodes_of (line_after move) (silents_after move) added
   pub list : IsList (Layer y (line_after move) (silents_after move)) (members_of added)
+
+-- The layer that the move leads to, whole, is put behind the nodes.
+pub record AddsLayer {A : Type 0} (y : System A) (move : Move) (old now : List (Node A)) : Type 0 where
+  pub layer : List (Found A)
+  pub is : now ≡ old ++ nodes_of (line_after move) (silents_after move) layer
+  pub grown : Grown y move old layer
 
 -- Put behind any run that ends in the i-th node, the states, which stand last first, make a run that ends in the last node.
 abbrev pub IsBack : {A : Type 0} → System A → List (Node A) → ℕ → ℕ → List Shown → Type 0

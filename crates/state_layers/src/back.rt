@@ -1,4 +1,4 @@
-ghost use Rattle.std.specs.Prelude.{◌≡◌, ◌↔◌, ◌<◌, IsTrue, IfOk, length};
+ghost use Rattle.std.specs.Prelude.{◌≡◌, ◌↔◌, ◌<◌, IsTrue, IfOk, length, take};
 ghost use Rattle.state_layers.specs.Kept.{AllLinked, AllReached, EndsBehind, IsMark, Linked};
 
 use crate::member::Member;
@@ -33,7 +33,17 @@ pub fn read_back<S: Steps>(
             states.reverse();
             return Ok(states);
         }
-        nodes.truncate(from + 1);
+        keep_first(&mut nodes, from + 1);
+    }
+}
+
+/// Keeps so many of the nodes, and gives room back once more than half of it is empty: the states that were moved out need it.
+fn keep_first<E: Member>(nodes: &mut Vec<Node<E>>, count: usize)
+    ensures { nodes.new.items ≡ take count nodes.old.items }
+{
+    nodes.truncate(count);
+    if nodes.len() < nodes.capacity() / 2 {
+        nodes.shrink_to_fit();
     }
 }
 

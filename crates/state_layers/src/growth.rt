@@ -1,12 +1,12 @@
-ghost use Rattle.std.specs.Prelude.{◌≡◌, ◌⊎◌, ◌≤◌, ◌<◌, ◌+◌, ◌-◌, ◌++◌, ℕ, IfOk, IfErr, OnOk, length};
+ghost use Rattle.std.specs.Prelude.{◌≡◌, ◌⊎◌, ◌≤◌, ◌<◌, ◌+◌, ◌-◌, ◌++◌, ℕ, List, IfOk, IfErr, OnOk, length, map};
 ghost use Rattle.tla_core.specs.Sets.{AreOf, IsList};
 ghost use Rattle.tla_core.specs.Runs.{Layer, Upto};
 ghost use Rattle.state_layers.specs.Answers.{HasLayer};
 ghost use Rattle.state_layers.specs.Gives.{Gives, IsSmall};
-ghost use Rattle.state_layers.specs.Found.{members_of};
+ghost use Rattle.state_layers.specs.Found.{all_from};
 ghost use Rattle.state_layers.specs.Moves.{IsSource, line_of, silents_of, line_after, silents_after, IsOpen, Moves, MoveFaults, MoveSeen, entries, at_layer, IsRange, IsSourceAt, Part, Growing, Grown};
 ghost use Rattle.state_layers.specs.Says.{IsStop, Expands};
-ghost use Rattle.state_layers.specs.Kept.{Kept, IsBehind, nodes_of};
+ghost use Rattle.state_layers.specs.Kept.{AddsLayer, Kept, IsBehind, node, nodes_of};
 ghost use Rattle.state_layers.specs.Repeats.{AllKnown};
 
 use crate::answer::{Answer, Stop};
@@ -104,29 +104,28 @@ fn expand<S: Steps>(
     }
 }
 
-/// Whether the layer is within the limits, beside the nodes of the layers before it.
+/// Whether a layer of this size is within the limits, beside the nodes of the layers before it.
 fn check_size<S: Steps>(
     steps: &S,
     nodes: &[Node<S::Entry>],
-    layer: &IndexMap<S::Entry, u32>,
+    size: usize,
     line: u32,
     silents: u32,
 ) -> Result<(), Stop>
     requires layer { HasLayer (S.system steps.now) line silents }
-    requires part { AreOf (Layer (S.system steps.now) line silents) (members_of layer.now.entries) }
-    requires together { AreOf (Upto (S.system steps.now) line silents) (entries nodes.now ++ at_layer line silents (members_of layer.now.entries)) }
-    ensures limit { OnOk result (length layer.now.entries ≤ (S.system steps.now).limit) }
-    ensures total { OnOk result (length nodes.now + length layer.now.entries ≤ (S.system steps.now).total) }
-    ensures stopped { IfErr result (λ stop. IsStop (S.system steps.now) stop) }
+    ensures limit { OnOk result (size ≤ (S.system steps.now).limit) }
+    ensures total { OnOk result (length nodes.now + size ≤ (S.system steps.now).total) }
+    ensures stopped { IfErr result (λ stop. (xs : List S.Entry) → size ≤ length xs → AreOf (Layer (S.system steps.now) line silents) xs
+        → AreOf (Upto (S.system steps.now) line silents) (entries nodes.now ++ at_layer line silents xs) → IsStop (S.system steps.now) stop) }
 {
-    if layer.len() > steps.limit() as usize {
+    if size > steps.limit() as usize {
         return Err(Stop::Answered(Answer::LayerLimit {
             after: line,
             silent: silents,
         }));
     }
     let total = steps.total() as usize;
-    if nodes.len() > total || layer.len() > total - nodes.len() {
+    if nodes.len() > total || size > total - nodes.len() {
         return Err(Stop::Answered(Answer::TotalLimit {
             after: line,
             silent: silents,
@@ -163,8 +162,8 @@ fn grow_by<S: Steps>(
     let limit = steps.limit() as usize;
     let node = &nodes[index];
     let list = expand(alloc, steps, step, node, known)?;
-    merge(layer, list, index as u32, limit)?;
-    check_size(steps, nodes, layer, line, silents)?;
+    merge(layer, list, index as u32, limit, &mut known.values)?;
+    check_size(steps, nodes, layer.len(), line, silents)?;
     Ok(())
 }
 
@@ -224,6 +223,116 @@ fn keep<E: Member>(
     Ok(())
 }
 
+/// The entries to which a move leads from the last of the nodes alone, which are the layer: they are listed each once, so that no table of them is made.
+fn list_alone<S: Steps>(
+    alloc: Global,
+    steps: &S,
+    nodes: &[Node<S::Entry>],
+    from: usize,
+    step: Move,
+    known: &mut KnownSteps<S::Entry>,
+) -> Result<Vec<S::Entry>, Stop>
+    requires ready { S.ready steps.now }
+    requires small { IsSmall (S.system steps.now) }
+    requires opens { IsOpen (S.system steps.now) step }
+    requires kept { IsList (Upto (S.system steps.now) (line_of step) (silents_of (S.system steps.now) step)) (entries nodes.now) }
+    requires range { IsRange step nodes.now from }
+    requires alone { length nodes.now ≡ from + 1 }
+    requires known { AllKnown (S.system steps.now) S.Entry.eq known.old.lists.entries }
+    ensures grown { IfOk result (λ list. Grown (S.system steps.now) step nodes.now (all_from from list.items)) }
+    ensures known { IfOk result (λ list. AllKnown (S.system steps.now) S.Entry.eq known.new.lists.entries) }
+    ensures stopped { IfErr result (λ stop. IsStop (S.system steps.now) stop) }
+{
+    let line = line_after_move(step);
+    let silents = silents_after_move(step);
+    let node = &nodes[from];
+    let list = expand(alloc, steps, step, node, known)?;
+    check_size(steps, nodes, list.len(), line, silents)?;
+    Ok(list)
+}
+
+/// Puts a layer behind the nodes whose entries all come from one of them.
+fn keep_alone<E: Member>(
+    nodes: &mut Vec<Node<E>>,
+    list: Vec<E>,
+    from: u32,
+    line: u32,
+    silents: u32,
+) -> Result<(), AllocError>
+    ensures { OnOk result (nodes.new.items ≡ nodes.old.items ++ map (λ s. node line silents s from) list.items) }
+{
+    for entry in list {
+        nodes.push(Node {
+            line,
+            silents,
+            entry,
+            from,
+        })?;
+    }
+    Ok(())
+}
+
+/// Puts the layer behind the nodes that a move leads to from the last of them alone.
+fn add_alone<S: Steps>(
+    alloc: Global,
+    steps: &S,
+    nodes: &mut Vec<Node<S::Entry>>,
+    from: usize,
+    step: Move,
+    known: &mut KnownSteps<S::Entry>,
+) -> Result<(), Stop>
+    requires ready { S.ready steps.now }
+    requires small { IsSmall (S.system steps.now) }
+    requires opens { IsOpen (S.system steps.now) step }
+    requires kept { IsList (Upto (S.system steps.now) (line_of step) (silents_of (S.system steps.now) step)) (entries nodes.old.items) }
+    requires range { IsRange step nodes.old.items from }
+    requires room { length nodes.old.items ≤ (S.system steps.now).total }
+    requires alone { length nodes.old.items ≡ from + 1 }
+    requires known { AllKnown (S.system steps.now) S.Entry.eq known.old.lists.entries }
+    ensures added { OnOk result (AddsLayer (S.system steps.now) step nodes.old.items nodes.new.items) }
+    ensures known { OnOk result (AllKnown (S.system steps.now) S.Entry.eq known.new.lists.entries) }
+    ensures stopped { IfErr result (λ stop. IsStop (S.system steps.now) stop) }
+{
+    let line = line_after_move(step);
+    let silents = silents_after_move(step);
+    let list = list_alone(alloc, steps, nodes, from, step, known)?;
+    keep_alone(nodes, list, from as u32, line, silents)?;
+    Ok(())
+}
+
+/// Puts the layer behind the nodes that a move leads to from those from an index on.
+fn add_layer<S: Steps>(
+    alloc: Global,
+    steps: &S,
+    nodes: &mut Vec<Node<S::Entry>>,
+    from: usize,
+    step: Move,
+    known: &mut KnownSteps<S::Entry>,
+) -> Result<(), Stop>
+    requires ready { S.ready steps.now }
+    requires small { IsSmall (S.system steps.now) }
+    requires opens { IsOpen (S.system steps.now) step }
+    requires kept { IsList (Upto (S.system steps.now) (line_of step) (silents_of (S.system steps.now) step)) (entries nodes.old.items) }
+    requires range { IsRange step nodes.old.items from }
+    requires room { length nodes.old.items ≤ (S.system steps.now).total }
+    requires known { AllKnown (S.system steps.now) S.Entry.eq known.old.lists.entries }
+    ensures added { OnOk result (AddsLayer (S.system steps.now) step nodes.old.items nodes.new.items) }
+    ensures known { OnOk result (AllKnown (S.system steps.now) S.Entry.eq known.new.lists.entries) }
+    ensures stopped { IfErr result (λ stop. IsStop (S.system steps.now) stop) }
+{
+    if nodes.len().saturating_sub(from) == 1 {
+        return add_alone(alloc, steps, nodes, from, step, known);
+    }
+    let layer = grow(alloc, steps, nodes, from, step, known)?;
+    keep(
+        nodes,
+        layer,
+        line_after_move(step),
+        silents_after_move(step),
+    )?;
+    Ok(())
+}
+
 /// Grows one more layer behind the nodes, and gives the size of the largest layer so far.
 pub fn advance<S: Steps>(
     alloc: Global,
@@ -245,12 +354,10 @@ pub fn advance<S: Steps>(
     ensures known { OnOk result (AllKnown (S.system steps.now) S.Entry.eq known.new.lists.entries) }
     ensures stopped { IfErr result (λ stop. IsStop (S.system steps.now) stop) }
 {
-    let line = line_after_move(step);
-    let silents = silents_after_move(step);
-    let layer = grow(alloc, steps, nodes, from, step, known)?;
-    let size = layer.len();
-    keep(nodes, layer, line, silents)?;
-    Ok(greater(widest, size))
+    let held = nodes.len();
+    add_layer(alloc, steps, nodes, from, step, known)?;
+    let behind = nodes.len();
+    Ok(greater(widest, behind - held))
 }
 
 fn greater(one: usize, other: usize) -> usize

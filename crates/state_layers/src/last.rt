@@ -12,6 +12,7 @@ use crate::back::read_back;
 use crate::layer::merge;
 use crate::member::Member;
 use crate::node::Node;
+use crate::sharing::SharedValues;
 use crate::steps::Steps;
 use indexmap::IndexMap;
 use std::alloc::{AllocError, Global};
@@ -74,7 +75,8 @@ fn gather<E: Member>(alloc: Global, nodes: Vec<Node<E>>) -> Result<Vec<E>, Alloc
     let mut layer = IndexMap::new(alloc);
     let entries = entries_of(alloc, nodes)?;
     let most = entries.len();
-    merge(&mut layer, entries, 0, most)?;
+    let mut values = SharedValues::new(alloc);
+    merge(&mut layer, entries, 0, most, &mut values)?;
     into_entries(alloc, layer)
 }
 

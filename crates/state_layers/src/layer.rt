@@ -1,7 +1,8 @@
-ghost use Rattle.std.specs.Prelude.{◌≡◌, OnOk};
+ghost use Rattle.std.specs.Prelude.{◌≡◌, IfOk, OnOk};
 ghost use Rattle.state_layers.specs.Found.{AddsNew, Merged};
 
 use crate::member::Member;
+use crate::sharing::SharedValues;
 use indexmap::IndexMap;
 use std::alloc::{AllocError, Global};
 
@@ -19,6 +20,7 @@ pub fn merge<E: Member>(
     list: Vec<E>,
     from: u32,
     most: usize,
+    values: &mut SharedValues,
 ) -> Result<(), AllocError>
     ensures { OnOk result (Merged layer.old.entries list.items from most layer.new.entries) }
 {
@@ -26,7 +28,22 @@ pub fn merge<E: Member>(
         if layer.len() > most {
             continue;
         }
-        add(layer, entry, from)?;
+        let member = lighter(layer, entry, values)?;
+        add(layer, member, from)?;
     }
     Ok(())
+}
+
+/// The entry, of which the values are shared where the layer lacks it.
+fn lighter<E: Member>(
+    layer: &IndexMap<E, u32>,
+    entry: E,
+    values: &mut SharedValues,
+) -> Result<E, AllocError>
+    ensures { IfOk result (λ same. same ≡ entry) }
+{
+    if layer.contains_key(&entry) {
+        return Ok(entry);
+    }
+    entry.shared(values)
 }

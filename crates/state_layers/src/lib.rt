@@ -11,6 +11,7 @@ mod member;
 mod node;
 mod repeats;
 mod search;
+mod sharing;
 mod steps;
 
 pub use answer::Answer;
@@ -18,4 +19,5 @@ pub use assumptions::judge;
 pub use last::Searched;
 pub use member::Member;
 pub use search::{search_entries, search_layers};
+pub use sharing::SharedValues;
 pub use steps::{StepFault, Steps};

@@ -1,6 +1,7 @@
 ghost use Rattle.std.specs.Prelude.{◌≡◌, IsTrue, IfOk};
 ghost use Rattle.tla_core.specs.States.{Values};
 
+use crate::sharing::SharedValues;
 use std::alloc::{AllocError, Global};
 use std::hash::Hash;
 use tla_core::State;
@@ -20,6 +21,15 @@ pub trait Member: Eq + Hash + Drop {
     /// An equal member.
     fn copy(&self, alloc: Global) -> Result<Self, AllocError>
         ensures { IfOk result (λ member. member ≡ self.now) };
+
+    /// An equal member, whose values are those that are known, where they are.
+    fn shared(self, _values: &mut SharedValues) -> Result<Self, AllocError>
+    where
+        Self: Sized,
+        ensures { IfOk result (λ member. member ≡ self) }
+    {
+        Ok(self)
+    }
 
     ghost same: { (one other : Self) → IsTrue (Self.eq one other) → one ≡ other };
 }
@@ -41,5 +51,9 @@ impl Member for State {
 
     fn copy(&self, alloc: Global) -> Result<State, AllocError> {
         State::copy(self, alloc)
+    }
+
+    fn shared(self, values: &mut SharedValues) -> Result<State, AllocError> {
+        values.shared(self)
     }
 }

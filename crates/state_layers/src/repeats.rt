@@ -7,15 +7,17 @@ ghost use Rattle.state_layers.specs.Repeats.{AllKnown, IsKept, Keeps, Notes, len
 ghost use Rattle.state_layers.specs.declared.steps.StepFault.TheVariants.{NoMemory};
 
 use crate::member::Member;
+use crate::sharing::SharedValues;
 use crate::steps::{StepFault, Steps};
 use indexmap::{IndexMap, IndexSet};
 use std::alloc::{AllocError, Global};
 
-/// Of entries of one line, all the entries to which a silent step leads, and how many these are together.
+/// Of entries of one line, all the entries to which a silent step leads, and how many these are together; and values that entries share.
 #[derive(Drop)]
 pub struct KnownSteps<E: Member> {
     pub lists: IndexMap<E, Vec<E>>,
     pub count: usize,
+    pub values: SharedValues,
 }
 
 impl<E: Member> KnownSteps<E> {
@@ -26,6 +28,7 @@ impl<E: Member> KnownSteps<E> {
         KnownSteps {
             lists: IndexMap::new(alloc),
             count: 0,
+            values: SharedValues::new(alloc),
         }
     }
 }

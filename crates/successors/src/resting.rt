@@ -12,28 +12,8 @@ use tla_core::{Partial, VarId};
 use tla_values::Value;
 use trace_base::NoMemory;
 
-/// Adds the state before to what is found, where it may stay as it is in the step of the line, whose updates make these places of it.
-pub fn add_rest(
-    alloc: Global,
-    found: &mut Vec<Partial>,
-    stutter: bool,
-    line: &Line,
-    places: &Partial,
-    whole: &Partial,
-    count: u16,
-) -> Result<(), NoMemory>
-    requires { length places.now ≤ count }
-    ensures { OnOk result (AddsIf (MayRest stutter line.now places.now whole.now) whole.now found.old.items found.new.items) }
-{
-    if !rests(stutter, line, places, whole, count) {
-        return Ok(());
-    }
-    let same = whole.copy(alloc)?;
-    found.push(same)?;
-    Ok(())
-}
-
-fn rests(stutter: bool, line: &Line, places: &Partial, whole: &Partial, count: u16) -> bool
+/// Whether the state before may stay as it is in the step of the line, whose updates make these places of it.
+pub fn rests(stutter: bool, line: &Line, places: &Partial, whole: &Partial, count: u16) -> bool
     requires { length places.now ≤ count }
     ensures { IsTrue result ↔ MayRest stutter line.now places.now whole.now }
 {
@@ -44,6 +24,23 @@ fn rests(stutter: bool, line: &Line, places: &Partial, whole: &Partial, count: u
         Some(_) => false,
         None => is_within(places, whole, count) && agrees(line.sees.items(), whole),
     }
+}
+
+/// Adds the state before to what is found, where it may stay as it is.
+pub fn add_rest(
+    alloc: Global,
+    found: &mut Vec<Partial>,
+    stays: bool,
+    whole: &Partial,
+) -> Result<(), NoMemory>
+    ensures { OnOk result (AddsIf (IsTrue stays) whole.now found.old.items found.new.items) }
+{
+    if !stays {
+        return Ok(());
+    }
+    let same = whole.copy(alloc)?;
+    found.push(same)?;
+    Ok(())
 }
 
 /// Whether each value of the first places is one of the second.

@@ -8,7 +8,7 @@ ghost use Rattle.ready_specs.specs.Ready.{IsReadyLine, IsReadySpec};
 ghost use Rattle.successors.specs.Taken.{step_fault};
 
 use crate::first::no_values;
-use crate::resting::add_rest;
+use crate::resting::{add_rest, rests};
 use crate::walking::{Course, event_found, silent_found};
 use form_growth::whole_law;
 use found_states::ground_law;
@@ -54,12 +54,12 @@ pub fn successors(
         whole: &whole,
         sees,
     };
-    let first = places.copy(alloc)?;
-    match event_found(alloc, course, &line.event, first) {
+    let count = spec.variables.len() as u16;
+    let stays = rests(stutter, line, &places, &whole, count);
+    match event_found(alloc, course, &line.event, places) {
         Ok(found) => {
             let mut found = found;
-            let count = spec.variables.len() as u16;
-            add_rest(alloc, &mut found, stutter, line, &places, &whole, count)?;
+            add_rest(alloc, &mut found, stays, &whole)?;
             states_of(alloc, &found, bound)
         }
         Err(fault) => Err(refused(fault)),

@@ -93,7 +93,7 @@ arms_listed xs = arms_grown tree.NoArms xs
 
 definitions_grown : (ts : Definitions) (xs : List Definition) → definitions_list (definitions_from ts xs) ≡ definitions_list ts ++ xs
 definitions_grown ts [] = append_none _
-definitions_grown ts (x ∷ xs) = definitions_grown (tree.MoreDefinitions ts x.name x.at x.params x.body) xs ∙ append_assoc (definitions_list ts) (x ∷ []) xs
+definitions_grown ts (x ∷ xs) = definitions_grown (tree.MoreDefinitions ts x.name x.at x.params x.form x.body) xs ∙ append_assoc (definitions_list ts) (x ∷ []) xs
 
 pub definitions_listed : (xs : List Definition) → definitions_list (definitions_of xs) ≡ xs
 definitions_listed xs = definitions_grown tree.NoDefinitions xs

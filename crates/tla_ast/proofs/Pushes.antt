@@ -41,9 +41,9 @@ pub arms_pushed : (ts : Arms) (xs : List Arm) (x : Arm) → arms_from ts (xs ++ 
 arms_pushed ts [] x = refl
 arms_pushed ts (y ∷ xs) x = arms_pushed (tree.MoreArms ts y.test y.value) xs x
 
-pub definitions_pushed : (ts : Definitions) (xs : List Definition) (x : Definition) → definitions_from ts (xs ++ x ∷ []) ≡ tree.MoreDefinitions (definitions_from ts xs) x.name x.at x.params x.body
+pub definitions_pushed : (ts : Definitions) (xs : List Definition) (x : Definition) → definitions_from ts (xs ++ x ∷ []) ≡ tree.MoreDefinitions (definitions_from ts xs) x.name x.at x.params x.form x.body
 definitions_pushed ts [] x = refl
-definitions_pushed ts (y ∷ xs) x = definitions_pushed (tree.MoreDefinitions ts y.name y.at y.params y.body) xs x
+definitions_pushed ts (y ∷ xs) x = definitions_pushed (tree.MoreDefinitions ts y.name y.at y.params y.form y.body) xs x
 
 not_none : {A : Type 0} (x : A) (xs : List A) → (length (x ∷ xs) == 0) ≡ false
 not_none x xs = grind (arith, nat_tests)

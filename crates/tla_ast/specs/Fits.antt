@@ -119,7 +119,7 @@ abbrev mutual
 
   pub DefinitionsFit : Definitions → Type 0
   DefinitionsFit NoDefinitions = Unit {0}
-  DefinitionsFit (MoreDefinitions ds n at ns e) = DefinitionsFit ds × Fits e
+  DefinitionsFit (MoreDefinitions ds n at ns form e) = DefinitionsFit ds × Fits e
 
 -- the laid tokens from one point to another spell the tree
 pub record Spells (tree : Tree) (from behind : List Laid) : Type 0 where

@@ -4,6 +4,8 @@
 -- The text of a part is a relation between the laid tokens from its beginning on and those behind it; `R ⨟ S` is R and then S.
 use Rattle.std.specs.Prelude.{◌≡◌, ◌⊎◌, ℕ, Bool, true, false, ◌&&◌, ◌||◌, List, [], ◌∷◌}
 use Rattle.trace_base.specs.declared.place.Place.{Place}
+use Rattle.tla_ast.specs.declared.form.DefinitionForm.{DefinitionForm}
+use Rattle.tla_ast.specs.declared.form.DefinitionForm.TheVariants as forms
 use Rattle.tla_ast.specs.declared.laid.Bullet.{Bullet}
 use Rattle.tla_ast.specs.declared.laid.Laid.{Laid}
 use Rattle.tla_ast.specs.declared.laid.Laid.TheVariants.{Plain, ListOpen, ListItem, ListClose}
@@ -40,6 +42,11 @@ either R S xs ys = R xs ys ⊎ S xs ys
 -- a part that stands only where something is so
 abbrev pub only : Type 0 → Span → Span
 only P R xs ys = P × R xs ys
+
+-- of a definition of one form or of the other
+abbrev pub by_form : DefinitionForm → Span → Span → Span
+by_form forms.Operator R S = R
+by_form forms.Function R S = S
 
 -- a token of this kind at this place
 abbrev pub token : Place → Kind → Span
@@ -271,13 +278,13 @@ abbrev mutual
 
   pub DefinitionsText : Definitions → Span
   DefinitionsText NoDefinitions = nothing
-  DefinitionsText (MoreDefinitions ds n at ns e) = DefinitionsText ds ⨟ token at (kinds.Name n) ⨟ either (ParametersText ns ⨟ sign symbols.Defined ⨟ Text e) (only (ns ≡ []) (FunctionRest e))
+  DefinitionsText (MoreDefinitions ds n at ns form e) = DefinitionsText ds ⨟ token at (kinds.Name n) ⨟ by_form form (ParametersText ns ⨟ sign symbols.Defined ⨟ Text e) (only (ns ≡ []) (FunctionRest e))
 
   -- at least one
   pub SomeDefinitions : Definitions → Span
   SomeDefinitions NoDefinitions = never
-  SomeDefinitions (MoreDefinitions ds n at ns e) = DefinitionsText ds ⨟ token at (kinds.Name n) ⨟ either (ParametersText ns ⨟ sign symbols.Defined ⨟ Text e) (only (ns ≡ []) (FunctionRest e))
+  SomeDefinitions (MoreDefinitions ds n at ns form e) = DefinitionsText ds ⨟ token at (kinds.Name n) ⨟ by_form form (ParametersText ns ⨟ sign symbols.Defined ⨟ Text e) (only (ns ≡ []) (FunctionRest e))
 
--- what stands behind the name of a definition: its parameters and its body, or the bounds of a function and its body
-abbrev pub DefinitionRest : List (List ℕ) → Tree → Span
-DefinitionRest ns e = either (ParametersText ns ⨟ sign symbols.Defined ⨟ Text e) (only (ns ≡ []) (FunctionRest e))
+-- what stands behind the name of a definition: of an operator its parameters and its body, of a function its bounds and its body
+abbrev pub DefinitionRest : List (List ℕ) → DefinitionForm → Tree → Span
+DefinitionRest ns form e = by_form form (ParametersText ns ⨟ sign symbols.Defined ⨟ Text e) (only (ns ≡ []) (FunctionRest e))

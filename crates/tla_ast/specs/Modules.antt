@@ -3,19 +3,23 @@
 --
 -- 1. A module is dashes, MODULE, its name, dashes, EXTENDS and names where it extends others, units, equals signs and the End.
 -- 2. Declared names stand behind VARIABLE, VARIABLES, CONSTANT or CONSTANTS, with commas between them.
--- 3. A definition is its name and what stands behind it.
--- 4. ASSUME, ASSUMPTION or AXIOM has an expression behind it, and a name and `==` before that or not.
--- 5. Passed over are dashes, and THEOREM, LEMMA, PROPOSITION or COROLLARY with what stands behind it, which is as behind ASSUME.
-use Rattle.std.specs.Prelude.{◌≡◌, ℕ, false, List, [], ◌∷◌, ◌++◌}
+-- 3. Declared operators stand behind RECURSIVE, with commas between them. Each is a name, and `_` for each of its parameters. No module has
+--    such a unit yet: what follows the reader does not know it.
+-- 4. A definition is its name and what stands behind it.
+-- 5. ASSUME, ASSUMPTION or AXIOM has an expression behind it, and a name and `==` before that or not.
+-- 6. Passed over are dashes, and THEOREM, LEMMA, PROPOSITION or COROLLARY with what stands behind it, which is as behind ASSUME.
+use Rattle.std.specs.Prelude.{◌≡◌, ℕ, zero, suc, false, List, [], ◌∷◌, ◌++◌}
 use Rattle.tla_ast.specs.declared.laid.Laid.{Laid}
 use Rattle.tla_ast.specs.declared.laid.Laid.TheVariants.{Plain, ListOpen, ListItem, ListClose}
 use Rattle.tla_tokens.specs.declared.token.Token.{Token}
 use Rattle.tla_tokens.specs.declared.token.Kind.TheVariants as kinds
 use Rattle.tla_tokens.specs.declared.token.Word.TheVariants as words
 use Rattle.tla_tokens.specs.declared.token.Symbol.TheVariants as symbols
+use Rattle.tla_tokens.specs.declared.token.Foreign.TheVariants as foreign
 use Rattle.tla_ast.specs.declared.module.Declared.{Declared}
+use Rattle.tla_ast.specs.declared.module.DeclaredOperator.{DeclaredOperator}
 use Rattle.tla_ast.specs.declared.module.Unit.{Unit as ModuleUnit}
-use Rattle.tla_ast.specs.declared.module.Unit.TheVariants.{Variables, Constants, Define, Assume, Passed}
+use Rattle.tla_ast.specs.declared.module.Unit.TheVariants.{Variables, Constants, Recursive, Define, Assume, Passed}
 use Rattle.tla_ast.specs.declared.module.Module.{Module}
 use Rattle.tla_ast.specs.Opens.{is_end}
 use Rattle.tla_ast.specs.Trees.{Tree}
@@ -33,6 +37,31 @@ DeclaredNamesText [] = never
 DeclaredNamesText (d ∷ []) = DeclaredText d
 DeclaredNamesText (d ∷ e ∷ ds) = DeclaredText d ⨟ sign symbols.Comma ⨟ DeclaredNamesText (e ∷ ds)
 
+-- `_`
+abbrev pub underscore : Span
+underscore = some_token (kinds.Foreign foreign.Underscore)
+
+-- so many `_` with commas between them
+abbrev pub PlacesText : ℕ → Span
+PlacesText zero = never
+PlacesText (suc zero) = underscore
+PlacesText (suc (suc n)) = underscore ⨟ sign symbols.Comma ⨟ PlacesText (suc n)
+
+-- the same in parentheses, or nothing where there are none
+abbrev pub MaybePlaces : ℕ → Span
+MaybePlaces zero = nothing
+MaybePlaces (suc n) = sign symbols.OpenParenthesis ⨟ PlacesText (suc n) ⨟ sign symbols.CloseParenthesis
+
+-- `N` or `N(_, _)`
+abbrev pub DeclaredOperatorText : DeclaredOperator → Span
+DeclaredOperatorText d = token d.at (kinds.Name d.name) ⨟ MaybePlaces d.parameters
+
+-- one or more, with commas between them
+abbrev pub DeclaredOperatorsText : List DeclaredOperator → Span
+DeclaredOperatorsText [] = never
+DeclaredOperatorsText (d ∷ []) = DeclaredOperatorText d
+DeclaredOperatorsText (d ∷ e ∷ ds) = DeclaredOperatorText d ⨟ sign symbols.Comma ⨟ DeclaredOperatorsText (e ∷ ds)
+
 -- a name before an assumption or a theorem, if there is one
 abbrev pub MaybeTitle : Span
 MaybeTitle = either nothing (λ xs ys. (n : List ℕ) × (name n ⨟ sign symbols.Defined) xs ys)
@@ -49,6 +78,10 @@ assume_word = either (word words.Assume) (either (word words.Assumption) (word w
 abbrev pub theorem_word : Span
 theorem_word = either (either (word words.Theorem) (word words.Lemma)) (either (word words.Proposition) (word words.Corollary))
 
+-- RECURSIVE
+abbrev pub recursive_word : Span
+recursive_word = some_token (kinds.Foreign foreign.Recursive)
+
 -- some expression, whichever it is
 abbrev pub SomeExpression : Span
 SomeExpression xs ys = (e : Tree) × Spells e xs ys
@@ -61,7 +94,8 @@ SomeText xs ys = (e : Tree) × Text e xs ys
 abbrev pub UnitTextBy : Span → ModuleUnit → Span
 UnitTextBy some (Variables ds) = variable_word ⨟ DeclaredNamesText ds
 UnitTextBy some (Constants ds) = constant_word ⨟ DeclaredNamesText ds
-UnitTextBy some (Define d) = token d.at (kinds.Name d.name) ⨟ DefinitionRest d.params d.body
+UnitTextBy some (Recursive ds) = never
+UnitTextBy some (Define d) = token d.at (kinds.Name d.name) ⨟ DefinitionRest d.params d.form d.body
 UnitTextBy some (Assume e) = assume_word ⨟ MaybeTitle ⨟ Text e
 UnitTextBy some Passed = either (some_token kinds.Dashes) (theorem_word ⨟ MaybeTitle ⨟ some)
 

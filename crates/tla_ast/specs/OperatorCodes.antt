@@ -3,6 +3,8 @@ use Rattle.std.specs.Prelude.{◌≡◌, ℕ, zero, suc, ℤ, pos, negsuc, Bool,
 use Rattle.std.proofs.Common.{ap}
 use base.Stored.{Gv, gnil, gnum, gcons}
 use Rattle.trace_base.specs.declared.place.Place.{Place}
+use Rattle.tla_ast.specs.declared.form.DefinitionForm.{DefinitionForm}
+use Rattle.tla_ast.specs.declared.form.DefinitionForm.TheVariants as forms
 use Rattle.tla_ast.specs.declared.laid.Bullet.{Bullet}
 use Rattle.tla_ast.specs.declared.laid.Bullet.TheVariants as bullets
 use Rattle.tla_ast.specs.declared.operators.PrefixOperator.{PrefixOperator}
@@ -231,3 +233,15 @@ gv_bullet _ = bullets.Or
 pub bullet_back : (x : Bullet) → gv_bullet (bullet_gv x) ≡ x
 bullet_back bullets.And = refl
 bullet_back bullets.Or = refl
+
+abbrev pub form_gv : DefinitionForm → Gv
+form_gv forms.Operator = gnum 0
+form_gv forms.Function = gnum 1
+
+abbrev pub gv_form : Gv → DefinitionForm
+gv_form (gnum zero) = forms.Operator
+gv_form _ = forms.Function
+
+pub form_back : (x : DefinitionForm) → gv_form (form_gv x) ≡ x
+form_back forms.Operator = refl
+form_back forms.Function = refl

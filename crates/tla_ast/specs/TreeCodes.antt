@@ -3,7 +3,7 @@ use Rattle.std.specs.Prelude.{◌≡◌, zero, suc, refl}
 use Rattle.std.specs.Coded.{Coded, code_by}
 use base.Stored.{Gv, gnil, gnum, gcons}
 use denote.Struct.Codes.{itself}
-use Rattle.tla_ast.specs.OperatorCodes.{place_gv, gv_place, place_back, int_gv, gv_int, int_back, bool_gv, gv_bool, bool_back, bytes_gv, gv_bytes, bytes_back, names_gv, gv_names, names_back, prefix_gv, gv_prefix, prefix_back, infix_gv, gv_infix, infix_back, quantifier_gv, gv_quantifier, quantifier_back, builtin_gv, gv_builtin, builtin_back, bullet_gv, gv_bullet, bullet_back}
+use Rattle.tla_ast.specs.OperatorCodes.{place_gv, gv_place, place_back, int_gv, gv_int, int_back, bool_gv, gv_bool, bool_back, bytes_gv, gv_bytes, bytes_back, names_gv, gv_names, names_back, prefix_gv, gv_prefix, prefix_back, infix_gv, gv_infix, infix_back, quantifier_gv, gv_quantifier, quantifier_back, builtin_gv, gv_builtin, builtin_back, bullet_gv, gv_bullet, bullet_back, form_gv, gv_form, form_back}
 use Rattle.tla_ast.specs.Trees.{Tree, Number, Str, Truth, Builtin, Name, Call, At, Parenthesized, Junction, Prefix, Infix, Postfix, SetOf, Filter, Map, Tuple, Function, FunctionSet, Record, RecordSet, Except, Quantified, Choose, If, Case, CaseOther, Let, BoxAction, AngleAction, Fairness, Trees, NoTrees, MoreTrees, Operands, First, Next, Step, Prime, Index, Field, Steps, NoSteps, MoreSteps, Bounds, NoBounds, MoreBounds, Fields, NoFields, MoreFields, Changes, NoChanges, MoreChanges, Arms, NoArms, MoreArms, Definitions, NoDefinitions, MoreDefinitions}
 
 abbrev mutual
@@ -74,7 +74,7 @@ abbrev mutual
 
   pub definitions_gv : Definitions → Gv
   definitions_gv NoDefinitions = gcons (gnum 0) gnil
-  definitions_gv (MoreDefinitions a b c d e) = gcons (gnum 1) (gcons (definitions_gv a) (gcons (bytes_gv b) (gcons (place_gv c) (gcons (names_gv d) (tree_gv e)))))
+  definitions_gv (MoreDefinitions a b c d e f) = gcons (gnum 1) (gcons (definitions_gv a) (gcons (bytes_gv b) (gcons (place_gv c) (gcons (names_gv d) (gcons (form_gv e) (tree_gv f))))))
 
 abbrev mutual
   pub gv_tree : Gv → Tree
@@ -153,7 +153,7 @@ abbrev mutual
 
   pub gv_definitions : Gv → Definitions
   gv_definitions (gcons (gnum zero) g) = NoDefinitions
-  gv_definitions (gcons (gnum (suc zero)) (gcons a (gcons b (gcons c (gcons d e))))) = MoreDefinitions (gv_definitions a) (gv_bytes b) (gv_place c) (gv_names d) (gv_tree e)
+  gv_definitions (gcons (gnum (suc zero)) (gcons a (gcons b (gcons c (gcons d (gcons e f)))))) = MoreDefinitions (gv_definitions a) (gv_bytes b) (gv_place c) (gv_names d) (gv_form e) (gv_tree f)
   gv_definitions _ = NoDefinitions
 
 mutual
@@ -224,7 +224,7 @@ mutual
 
   pub definitions_back : (x : Definitions) → gv_definitions (definitions_gv x) ≡ x
   definitions_back NoDefinitions = refl
-  definitions_back (MoreDefinitions a b c d e) = λ i. MoreDefinitions (definitions_back a i) (bytes_back b i) (place_back c i) (names_back d i) (tree_back e i)
+  definitions_back (MoreDefinitions a b c d e f) = λ i. MoreDefinitions (definitions_back a i) (bytes_back b i) (place_back c i) (names_back d i) (form_back e i) (tree_back f i)
 
 abbrev pub tree_code : Coded Tree
 tree_code = code_by Gv itself tree_gv gv_tree tree_back

@@ -76,7 +76,7 @@ arms_falls xs = omega (arith, most_arms tree.NoArms xs)
 
 most_definitions : (ts : Definitions) (xs : List Definition) → max (definitions_size ts) (most deep-Definition xs) ≤ definitions_size (definitions_from ts xs)
 most_definitions ts [] = omega arith
-most_definitions ts (x ∷ xs) = omega (arith, most_definitions (tree.MoreDefinitions ts x.name x.at x.params x.body) xs)
+most_definitions ts (x ∷ xs) = omega (arith, most_definitions (tree.MoreDefinitions ts x.name x.at x.params x.form x.body) xs)
 
 pub definitions_falls : (xs : List Definition) → max (most deep-Definition xs) 0 ≤ definitions_size (definitions_of xs)
 definitions_falls xs = omega (arith, most_definitions tree.NoDefinitions xs)

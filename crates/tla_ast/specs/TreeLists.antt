@@ -48,4 +48,4 @@ arms_list (tree.MoreArms ts p t) = arms_list ts ++ record { test = p; value = t 
 
 abbrev pub definitions_list : Definitions → List Definition
 definitions_list tree.NoDefinitions = []
-definitions_list (tree.MoreDefinitions ts n at ns t) = definitions_list ts ++ record { name = n; at = at; params = ns; body = t } ∷ []
+definitions_list (tree.MoreDefinitions ts n at ns form t) = definitions_list ts ++ record { name = n; at = at; params = ns; form = form; body = t } ∷ []

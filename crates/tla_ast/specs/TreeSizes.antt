@@ -70,4 +70,4 @@ abbrev mutual
 
   pub definitions_size : Definitions → ℕ
   definitions_size NoDefinitions = 0
-  definitions_size (MoreDefinitions a b c d e) = suc (max (definitions_size a) (tree_size e))
+  definitions_size (MoreDefinitions a b c d e f) = suc (max (definitions_size a) (tree_size f))

@@ -81,7 +81,7 @@ arms_of xs = arms_from tree.NoArms xs
 
 abbrev pub definitions_from : Definitions → List Definition → Definitions
 definitions_from ts [] = ts
-definitions_from ts (x ∷ xs) = definitions_from (tree.MoreDefinitions ts x.name x.at x.params x.body) xs
+definitions_from ts (x ∷ xs) = definitions_from (tree.MoreDefinitions ts x.name x.at x.params x.form x.body) xs
 
 abbrev pub definitions_of : List Definition → Definitions
 definitions_of xs = definitions_from tree.NoDefinitions xs

@@ -3,6 +3,7 @@
 -- Lists grow at their end, as they are read.
 use Rattle.std.specs.Prelude.{ℕ, ℤ, Bool, List}
 use Rattle.trace_base.specs.declared.place.Place.{Place}
+use Rattle.tla_ast.specs.declared.form.DefinitionForm.{DefinitionForm}
 use Rattle.tla_ast.specs.declared.laid.Bullet.{Bullet}
 use Rattle.tla_ast.specs.declared.operators.PrefixOperator.{PrefixOperator}
 use Rattle.tla_ast.specs.declared.operators.InfixOperator.{InfixOperator}
@@ -77,7 +78,7 @@ mutual
 
   pub data Definitions : Type 0 where
     NoDefinitions : Definitions
-    MoreDefinitions : Definitions → List ℕ → Place → List (List ℕ) → Tree → Definitions
+    MoreDefinitions : Definitions → List ℕ → Place → List (List ℕ) → DefinitionForm → Tree → Definitions
 
 -- the place of a tree
 abbrev pub place_of : Tree → Place

@@ -5,6 +5,7 @@ ghost use Rattle.tla_ast.specs.TreeLists.{trees_list, operands_list, steps_list,
 ghost use Rattle.tla_ast.specs.Trees.{First, MoreArms, MoreBounds, MoreChanges, MoreDefinitions, MoreFields, MoreSteps, MoreTrees, Next, NoArms, NoBounds, NoChanges, NoDefinitions, NoFields, NoSteps, NoTrees};
 ghost use Rattle.tla_ast.specs.TreeViews.{are_none, steps_are_none, node_view, step_view, trees_of, steps_of, bounds_of, fields_of, changes_of, arms_of, definitions_of, operands_of};
 
+use crate::form::DefinitionForm;
 use crate::laid::Bullet;
 use crate::operators::{BuiltinSet, InfixOperator, PrefixOperator, Quantifier};
 use std::alloc::Global;
@@ -165,14 +166,15 @@ pub struct Arm {
     pub value: Expr,
 }
 
-/// A definition: its name and the place of it, its parameters and its body. `N[B] == E` has the body
-/// `[B |-> E]` at the place of its bracket.
+/// A definition: its name and the place of it, its parameters, its form and its body. `N[B] == E` has no parameters and
+/// the body `[B |-> E]` at the place of its bracket.
 #[cycle(expr)]
 #[derive(Drop)]
 pub struct Definition {
     pub name: Text,
     pub at: Place,
     pub params: Names,
+    pub form: DefinitionForm,
     pub body: Expr,
 }
 
@@ -712,7 +714,7 @@ impl Definitions {
 
     /// Adds one at the end. On a refusal the list is as it was.
     pub fn push(&mut self, item: Definition) -> Result<(), NoMemory>
-        ensures pushed { OnOk result (self.new ≡ MoreDefinitions self.old item.name item.at item.params item.body) }
+        ensures pushed { OnOk result (self.new ≡ MoreDefinitions self.old item.name item.at item.params item.form item.body) }
         ensures kept { OnErr result (self.new ≡ self.old) }
     {
         self.items.push(item)?;

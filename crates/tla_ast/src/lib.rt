@@ -4,6 +4,7 @@
 mod config;
 mod construct;
 mod expr;
+mod form;
 mod laid;
 mod laid_laws;
 mod lexed_ends;
@@ -16,8 +17,11 @@ pub use expr::{
     Arm, Arms, Bound, Bounds, Change, Changes, Definition, Definitions, Expr, Exprs, Field, Fields,
     Node, Operand, Operands, Step, StepAt, Steps,
 };
+pub use form::DefinitionForm;
 pub use laid::{Bullet, Laid};
 pub use laid_laws::laws_of_laid;
 pub use lexed_ends::tokens_end_once;
-pub use module::{Declared, DeclaredNames, Module, Program, Unit, Units};
+pub use module::{
+    Declared, DeclaredNames, DeclaredOperator, DeclaredOperators, Module, Program, Unit, Units,
+};
 pub use operators::{BuiltinSet, InfixOperator, PrefixOperator, Quantifier};

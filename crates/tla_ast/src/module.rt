@@ -71,6 +71,57 @@ impl DeclaredNames {
     }
 }
 
+/// What a module declares of an operator before it is defined, as `N` or `N(_, _)`: its name, the place of that, and how many
+/// parameters it has.
+#[derive(Drop)]
+pub struct DeclaredOperator {
+    pub name: Text,
+    pub at: Place,
+    pub parameters: usize,
+}
+
+/// A list of declared operators, seen as the list itself.
+#[derive(Drop)]
+pub struct DeclaredOperators {
+    items: Vec<DeclaredOperator>,
+}
+
+impl Model for DeclaredOperators {
+    ghost use Rattle.std.specs.Prelude.{List};
+    ghost use Rattle.tla_ast.specs.declared.module.DeclaredOperator.{DeclaredOperator};
+
+    ghost Value = { List DeclaredOperator };
+
+    ghost view = { λ n. n.items.items };
+}
+
+impl DeclaredOperators {
+    /// No operators.
+    pub fn new(alloc: Global) -> DeclaredOperators
+        ensures { result ≡ [] }
+    {
+        DeclaredOperators {
+            items: Vec::new(alloc),
+        }
+    }
+
+    /// Adds an operator at the end. On a refusal the list is as it was.
+    pub fn push(&mut self, item: DeclaredOperator) -> Result<(), NoMemory>
+        ensures pushed { OnOk result (self.new ≡ self.old ++ item ∷ []) }
+        ensures kept { OnErr result (self.new ≡ self.old) }
+    {
+        self.items.push(item)?;
+        Ok(())
+    }
+
+    /// The declared operators as a slice.
+    pub fn items(&self) -> &[DeclaredOperator]
+        ensures { result.now ≡ self.now }
+    {
+        &self.items
+    }
+}
+
 /// A unit of a module.
 #[derive(Drop)]
 pub enum Unit {
@@ -78,6 +129,8 @@ pub enum Unit {
     Variables(DeclaredNames),
     /// `CONSTANTS c, d`
     Constants(DeclaredNames),
+    /// `RECURSIVE F(_), g`: operators whose definitions may use them
+    Recursive(DeclaredOperators),
     Define(Definition),
     /// What is assumed. A name before it is passed over.
     Assume(Expr),

@@ -2,6 +2,7 @@
 use Rattle.std.proofs.Common.{◌≡◌, ℕ, ◌-◌, ◌<◌, ◌≤◌, List, [], ◌∷◌, length, drop, subst, arith}
 use Rattle.std.proofs.lemmas.List.{length-drop}
 use Rattle.trace_base.specs.declared.place.Place.{Place}
+use Rattle.tla_ast.specs.declared.form.DefinitionForm.{DefinitionForm}
 use Rattle.tla_ast.specs.declared.laid.Laid.{Laid}
 use Rattle.tla_ast.specs.declared.laid.Laid.TheVariants.{Plain, ListOpen, ListItem, ListClose}
 use Rattle.tla_tokens.specs.declared.token.Kind.{Kind}
@@ -19,7 +20,7 @@ use Rattle.reader_model.specs.declared.frame.Scope.{Scope}
 
 abbrev NeverEnds : Stepped → Type 0
 NeverEnds (Ends e) = ⊥
-NeverEnds (EndsDefinition n p ns e) = ⊥
+NeverEnds (EndsDefinition n p ns form e) = ⊥
 NeverEnds _ = Unit {0}
 
 word_never : (w : Word) (at : Place) (fs : List Frame) → NeverEnds (word_begins w at fs)
@@ -80,12 +81,12 @@ definition_never (ListClose at) s fs = tt
 -- what is left has at most so many tokens
 abbrev Left : ℕ → Outcome → Type 0
 Left n (EndsAt e rest) = length rest ≤ n
-Left n (EndsDefinitionAt m p ns e rest) = length rest ≤ n
+Left n (EndsDefinitionAt m p ns form e rest) = length rest ≤ n
 Left n _ = Unit {0}
 
 more_left : (n m : ℕ) (o : Outcome) → n ≤ m → Left n o → Left m o
 more_left n m (EndsAt e rest) k h = omega (arith, h, k)
-more_left n m (EndsDefinitionAt w p ns e rest) k h = omega (arith, h, k)
+more_left n m (EndsDefinitionAt w p ns form e rest) k h = omega (arith, h, k)
 more_left n m (StopsAt rest) k h = tt
 more_left n m (ClashesAt p q rest) k h = tt
 
@@ -94,7 +95,7 @@ after_left n here (Reads fs m) next h g = g fs m
 after_left n here Stops next h g = tt
 after_left n here (Clashes p q) next h g = tt
 after_left n here (Ends e) next h g = h
-after_left n here (EndsDefinition m p ns e) next h g = h
+after_left n here (EndsDefinition m p ns form e) next h g = h
 
 run_left : (xs : List Laid) (fs : List Frame) (m : Mode) → Left (length xs) (run xs fs m)
 run_left [] fs m = tt
@@ -106,7 +107,7 @@ first_left x xs (Reads fs m) h = run_left xs fs m
 first_left x xs Stops h = tt
 first_left x xs (Clashes p q) h = tt
 first_left x xs (Ends e) h = absurd h
-first_left x xs (EndsDefinition n p ns e) h = absurd h
+first_left x xs (EndsDefinition n p ns form e) h = absurd h
 
 one_less : (x : Laid) (xs : List Laid) → length xs ≡ length (x ∷ xs) - 1
 one_less x xs = omega arith
@@ -125,6 +126,6 @@ pub expression_ahead : (laid : List Laid) (from i : ℕ) (e : Tree) → from < l
 expression_ahead laid from i e f w q =
     further laid from i f w (begun_left (drop from laid) mode.Want (EndsAt e (drop i laid)) (some_left laid from f) (λ x. want_never x []) q)
 
-pub definition_ahead : (laid : List Laid) (from i : ℕ) (s : Scope) (n : List ℕ) (p : Place) (ns : List (List ℕ)) (e : Tree) → from < length laid → i < length laid → run (drop from laid) [] (mode.DefinitionName s) ≡ EndsDefinitionAt n p ns e (drop i laid) → from < i
-definition_ahead laid from i s n p ns e f w q =
-    further laid from i f w (begun_left (drop from laid) (mode.DefinitionName s) (EndsDefinitionAt n p ns e (drop i laid)) (some_left laid from f) (λ x. definition_never x s []) q)
+pub definition_ahead : (laid : List Laid) (from i : ℕ) (s : Scope) (n : List ℕ) (p : Place) (ns : List (List ℕ)) (form : DefinitionForm) (e : Tree) → from < length laid → i < length laid → run (drop from laid) [] (mode.DefinitionName s) ≡ EndsDefinitionAt n p ns form e (drop i laid) → from < i
+definition_ahead laid from i s n p ns form e f w q =
+    further laid from i f w (begun_left (drop from laid) (mode.DefinitionName s) (EndsDefinitionAt n p ns form e (drop i laid)) (some_left laid from f) (λ x. definition_never x s []) q)

@@ -115,7 +115,7 @@ read_ends laid from i start m t x fs gs r k v h g d e = record {
 
 pub read_defines : (laid : List Laid) (from i : ℕ) (start m : Mode) (t : Definition) (x : Laid) (fs gs : List Frame) (r : code.Stepped) → ReadUpTo laid from i start fs m → kept_run laid from [] start ≡ kept_run laid i fs m → i < length laid → x ≡ get_or laid i x → Does r gs (kept_step x fs m) → r ≡ codes.EndsDefinition t → IsRead laid from start (ended.Definition t i)
 read_defines laid from i start m t x fs gs r k v h g d e = record {
-  ends = v ∙ kept_after laid i x fs m (EndsDefinition t.name t.at t.params t.body) h g (subst (λ s. Does s gs (kept_step x fs m)) e d);
+  ends = v ∙ kept_after laid i x fs m (EndsDefinition t.name t.at t.params t.form t.body) h g (subst (λ s. Does s gs (kept_step x fs m)) e d);
   within = h;
   shallow = up_to laid from i start fs m k;
 }

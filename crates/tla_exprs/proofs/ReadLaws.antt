@@ -25,21 +25,21 @@ ahead : (laid : List Laid) (from i : ℕ) (e : Tree) → from < length laid → 
 unfolding kept_run
 ahead laid from i e f q = expression_ahead laid from i e f q.within q.ends
 
-defined : (laid : List Laid) (from i : ℕ) (d : Definition) → IsRead laid from (mode.DefinitionName scopes.Unit) (ended.Definition d i) → (token d.at (kinds.Name d.name) ⨟ DefinitionRest d.params d.body) (drop from laid) (drop i laid)
+defined : (laid : List Laid) (from i : ℕ) (d : Definition) → IsRead laid from (mode.DefinitionName scopes.Unit) (ended.Definition d i) → (token d.at (kinds.Name d.name) ⨟ DefinitionRest d.params d.form d.body) (drop from laid) (drop i laid)
 unfolding kept_run
-defined laid from i d q = (definition_spells (drop from laid) (drop i laid) d.name d.at d.params d.body q.ends).0
+defined laid from i d q = (definition_spells (drop from laid) (drop i laid) d.name d.at d.params d.form d.body q.ends).0
 
 fits : (laid : List Laid) (from i : ℕ) (d : Definition) → IsRead laid from (mode.DefinitionName scopes.Unit) (ended.Definition d i) → Fits d.body
 unfolding kept_run
-fits laid from i d q = (definition_spells (drop from laid) (drop i laid) d.name d.at d.params d.body q.ends).1
+fits laid from i d q = (definition_spells (drop from laid) (drop i laid) d.name d.at d.params d.form d.body q.ends).1
 
 behind : (laid : List Laid) (from i : ℕ) (d : Definition) → from < length laid → IsRead laid from (mode.DefinitionName scopes.Unit) (ended.Definition d i) → from < i
 unfolding kept_run
-behind laid from i d f q = definition_ahead laid from i scopes.Unit d.name d.at d.params d.body f q.within q.ends
+behind laid from i d f q = definition_ahead laid from i scopes.Unit d.name d.at d.params d.form d.body f q.within q.ends
 
 no_unit : (laid : List Laid) (from i : ℕ) (d : Definition) → IsRead laid from mode.Want (ended.Definition d i) → ⊥
 unfolding kept_run
-no_unit laid from i d q = no_definition (drop from laid) (drop i laid) d.name d.at d.params d.body q.ends
+no_unit laid from i d q = no_definition (drop from laid) (drop i laid) d.name d.at d.params d.form d.body q.ends
 
 no_body : (laid : List Laid) (from i : ℕ) (e : Tree) → IsRead laid from (mode.DefinitionName scopes.Unit) (ended.Expression e i) → ⊥
 unfolding kept_run
@@ -55,7 +55,7 @@ expression_spelled laid from i e r q p = spelled laid from i e (at_form laid fro
 pub expression_on : (laid : List Laid) (from i : ℕ) (e : Tree) (r : Ended) → from < length laid → IsRead laid from mode.Want r → r ≡ ended.Expression e i → from < i
 expression_on laid from i e r f q p = ahead laid from i e f (at_form laid from mode.Want r (ended.Expression e i) q p)
 
-pub definition_spelled : (laid : List Laid) (from i : ℕ) (d : Definition) (r : Ended) → IsRead laid from (mode.DefinitionName scopes.Unit) r → r ≡ ended.Definition d i → (token d.at (kinds.Name d.name) ⨟ DefinitionRest d.params d.body) (drop from laid) (drop i laid)
+pub definition_spelled : (laid : List Laid) (from i : ℕ) (d : Definition) (r : Ended) → IsRead laid from (mode.DefinitionName scopes.Unit) r → r ≡ ended.Definition d i → (token d.at (kinds.Name d.name) ⨟ DefinitionRest d.params d.form d.body) (drop from laid) (drop i laid)
 definition_spelled laid from i d r q p = defined laid from i d (at_form laid from (mode.DefinitionName scopes.Unit) r (ended.Definition d i) q p)
 
 pub definition_fits : (laid : List Laid) (from i : ℕ) (d : Definition) (r : Ended) → IsRead laid from (mode.DefinitionName scopes.Unit) r → r ≡ ended.Definition d i → Fits d.body

@@ -134,7 +134,7 @@ module _ (reader : Runner) (unit : Bool) where
     definition_ended at NoDefinitions q r xs h =
         itself (mode.DefinitionName (scopes.Let at NoDefinitions)) xs (enters_by reader unit gs r (kinds.Word words.Let) at xs h.0 h.1 refl tt
         ∙ ap (λ v. run reader v gs mode.Want) h.1 ∙ ap (λ v. run reader v gs (mode.DefinitionName (scopes.Let at NoDefinitions))) h.2)
-    definition_ended at (MoreDefinitions ds n p ns e) q r xs h = absurd (let v : MoreDefinitions ds n p ns e ≡ NoDefinitions = q in cc)
+    definition_ended at (MoreDefinitions ds n p ns form e) q r xs h = absurd (let v : MoreDefinitions ds n p ns form e ≡ NoDefinitions = q in cc)
 
     unit_ended : gs ≡ [] → unit ≡ true → (xs : List Laid) → xs ≡ [] → At (mode.DefinitionName scopes.Unit) xs
     unit_ended q u xs h =

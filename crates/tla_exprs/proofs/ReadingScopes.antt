@@ -104,12 +104,12 @@ module _ (reader : Runner) where
 
   pub let_body_goes : (p : Place) (ds : Definitions) → DefinitionsFit ds → (gs : List Frame) (xs ys : List Laid) → FrameText (frame.LetBody p ds) xs ys → run reader xs gs mode.Want ≡ run reader ys (frame.LetBody p ds ∷ gs) mode.Want
   let_body_goes p NoDefinitions f gs xs ys h = absurd h.2.1
-  let_body_goes p (MoreDefinitions ds n q ns d) f gs xs ys h =
+  let_body_goes p (MoreDefinitions ds n q ns form d) f gs xs ys h =
       let k = h.2.1 in
-      let g = definitions_good reader (MoreDefinitions ds n q ns d) f in
+      let g = definitions_good reader (MoreDefinitions ds n q ns form d) f in
       ap (λ v. run reader v gs mode.Want) h.1
       ∙ definitions_run reader p ds g.0 n q gs h.0 k.0 k.2.0 k.1 k.2.1
-      ∙ definition_reads reader (in_ends h.2.2.0 p ds n q gs) ns d g.1.runs g.2 k.2.0 h.2.0 ys k.2.2 h.2.2.1
+      ∙ definition_reads reader (in_ends h.2.2.0 p ds n q gs) ns form d g.1.runs g.2 k.2.0 h.2.0 ys k.2.2 h.2.2.1
 
   -- names in a binder, behind other bounds
   pub bound_names_before : (c : Binder) (bs : Bounds) (ms ns : List (List ℕ)) (gs : List Frame) (xs ys : List Laid) → NamesBefore ns xs ys → run reader xs gs (mode.BoundName (binding c bs) ms) ≡ run reader ys gs (mode.BoundName (binding c bs) (ms ++ ns))

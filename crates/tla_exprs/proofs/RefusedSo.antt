@@ -3,6 +3,7 @@ use Rattle.std.specs.Prelude.{IfErr, Result, Ok, Err}
 use Rattle.std.proofs.Common.{◌≡◌, ◌⊎◌, true, false, ℕ, zero, suc, ◌<◌, List, [], ◌∷◌, ◌++◌, length, drop, refl, sym, ap, subst, ◌∙◌, arith, inl, inr}
 use Rattle.std.proofs.lemmas.List.{append-nil}
 use Rattle.trace_base.specs.declared.place.Place.{Place}
+use Rattle.tla_ast.specs.declared.form.DefinitionForm.{DefinitionForm}
 use Rattle.tla_ast.specs.declared.laid.Laid.{Laid}
 use Rattle.tla_ast.specs.declared.expr.Definition.{Definition}
 use Rattle.tla_ast.specs.Begun.{Begun}
@@ -39,7 +40,7 @@ use Rattle.reader_model.proofs.DefinitionGoes.{definition_stopped_there, definit
 -- a run has ended before these tokens, with an expression or with a unit's definition
 abbrev EndsBefore : Outcome → List Laid → Type 0
 EndsBefore (EndsAt e r) rest = r ≡ rest
-EndsBefore (EndsDefinitionAt n p ns e r) rest = r ≡ rest
+EndsBefore (EndsDefinitionAt n p ns form e r) rest = r ≡ rest
 EndsBefore _ rest = ⊥
 
 -- what is so of the texts that are read from this start
@@ -64,7 +65,7 @@ token_after (Reads fs m) x xs f = f fs m
 token_after Stops x xs f = tt
 token_after (Clashes p q) x xs f = tt
 token_after (Ends e) x xs f = tt
-token_after (EndsDefinition n p ns e) x xs f = tt
+token_after (EndsDefinition n p ns form e) x xs f = tt
 
 at_token : (xs : List Laid) (fs : List Frame) (m : Mode) → AtToken (run xs fs m)
 at_token [] fs m = tt
@@ -91,8 +92,8 @@ some_left (suc i) (x ∷ xs) h = some_left i xs (omega (arith, h))
 ends_here : (o : Outcome) (e : Tree) (r : List Laid) → o ≡ EndsAt e r → EndsBefore o r
 ends_here o e r q = subst (λ v. EndsBefore v r) (sym q) refl
 
-defines_here : (o : Outcome) (n : List ℕ) (p : Place) (ns : List (List ℕ)) (e : Tree) (r : List Laid) → o ≡ EndsDefinitionAt n p ns e r → EndsBefore o r
-defines_here o n p ns e r q = subst (λ v. EndsBefore v r) (sym q) refl
+defines_here : (o : Outcome) (n : List ℕ) (p : Place) (ns : List (List ℕ)) (form : DefinitionForm) (e : Tree) (r : List Laid) → o ≡ EndsDefinitionAt n p ns form e r → EndsBefore o r
+defines_here o n p ns form e r q = subst (λ v. EndsBefore v r) (sym q) refl
 
 module _ (start : Mode) (Begins Fitting Shallow : List Laid → Type 0) (texts : TextsFrom start Begins Fitting Shallow) where
   -- each token of what is read from the start stands inside at most so many unfinished constructs
@@ -208,7 +209,7 @@ module _ (start : Mode) (Begins Fitting Shallow : List Laid → Type 0) (texts :
   goes : (laid : List Laid) (from : ℕ) (r : Ended) → IsRead laid from start r → GoesAsFar Begins Fitting Shallow laid from (index_of r)
   unfolding kept_run
   goes laid from (ended.Expression e i) q = far laid from i (λ r. EndsAt e r) q.ends (λ r. refl) (λ r. refl) q.within q.shallow
-  goes laid from (ended.Definition d i) q = far laid from i (λ r. EndsDefinitionAt d.name d.at d.params d.body r) q.ends (λ r. refl) (λ r. refl) q.within q.shallow
+  goes laid from (ended.Definition d i) q = far laid from i (λ r. EndsDefinitionAt d.name d.at d.params d.form d.body r) q.ends (λ r. refl) (λ r. refl) q.within q.shallow
 
   pub expression_goes : (laid : List Laid) (from i : ℕ) (e : Tree) (r : Ended) → IsRead laid from start r → r ≡ ended.Expression e i → GoesAsFar Begins Fitting Shallow laid from i
   expression_goes laid from i e r q p = goes laid from (ended.Expression e i) (subst (λ t. IsRead laid from start t) p q)
@@ -220,7 +221,7 @@ module _ (start : Mode) (Begins Fitting Shallow : List Laid → Type 0) (texts :
 
 end_of_expression : (read rest : List Laid) (x : Laid) (o : Outcome) → run (read ++ x ∷ rest) [] mode.Want ≡ o → EndsBefore o (x ∷ rest) → ¬ (Begun (read ++ x ∷ []))
 end_of_expression read rest x (EndsAt e r) q l = ends_there read rest x e (q ∙ ap (λ v. EndsAt e v) l)
-end_of_expression read rest x (EndsDefinitionAt n p ns e r) q l = absurd (no_definition (read ++ x ∷ rest) r n p ns e q)
+end_of_expression read rest x (EndsDefinitionAt n p ns form e r) q l = absurd (no_definition (read ++ x ∷ rest) r n p ns form e q)
 end_of_expression read rest x (StopsAt r) q l = absurd l
 end_of_expression read rest x (ClashesAt a b r) q l = absurd l
 
@@ -245,7 +246,7 @@ named = mode.DefinitionName scopes.Unit
 
 end_of_definition : (read rest : List Laid) (x : Laid) (o : Outcome) → run (read ++ x ∷ rest) [] named ≡ o → EndsBefore o (x ∷ rest) → ¬ (BegunDefinition (read ++ x ∷ []))
 end_of_definition read rest x (EndsAt e r) q l = absurd (no_expression (read ++ x ∷ rest) r e q)
-end_of_definition read rest x (EndsDefinitionAt n p ns e r) q l = definition_ends_there read rest x n p ns e (q ∙ ap (λ v. EndsDefinitionAt n p ns e v) l)
+end_of_definition read rest x (EndsDefinitionAt n p ns form e r) q l = definition_ends_there read rest x n p ns form e (q ∙ ap (λ v. EndsDefinitionAt n p ns form e v) l)
 end_of_definition read rest x (StopsAt r) q l = absurd l
 end_of_definition read rest x (ClashesAt a b r) q l = absurd l
 

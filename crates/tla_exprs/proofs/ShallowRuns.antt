@@ -14,7 +14,7 @@ nothing_behind (Reads fs m) = tt
 nothing_behind Stops = tt
 nothing_behind (Clashes p q) = tt
 nothing_behind (Ends e) = tt
-nothing_behind (EndsDefinition n p ns e) = tt
+nothing_behind (EndsDefinition n p ns form e) = tt
 
 -- one more token, before which few enough are unfinished
 pub shallow_on : (read : List Laid) (x : Laid) (fs gs : List Frame) (m n : Mode) → Path read fs m gs n → ShallowIn fs m read → unfinished gs n ≤ deepest → ShallowIn fs m (read ++ x ∷ [])

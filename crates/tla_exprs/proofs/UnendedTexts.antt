@@ -3,6 +3,8 @@ use Rattle.std.specs.Prelude.{IfErr, Result, Ok, Err}
 use Rattle.std.proofs.Common.{◌≡◌, ℕ, List, [], ◌∷◌, ◌++◌, drop, inl, inr, refl, sym, subst, ◌∙◌}
 use Rattle.std.proofs.lemmas.List.{append-nil}
 use Rattle.trace_base.specs.declared.place.Place.{Place}
+use Rattle.tla_ast.specs.declared.form.DefinitionForm.{DefinitionForm}
+use Rattle.tla_ast.specs.declared.form.DefinitionForm.TheVariants as definition_forms
 use Rattle.tla_ast.specs.declared.laid.Laid.{Laid}
 use Rattle.tla_tokens.specs.declared.token.Kind.TheVariants as kinds
 use Rattle.tla_tokens.specs.declared.token.Symbol.{Symbol}
@@ -44,7 +46,7 @@ TextNeverStops = (e : Tree) (xs rest left : List Laid) (x : Laid) → Text e xs 
 -- the same of a unit's definition
 abbrev pub DefinitionNeverStops : Type 0
 DefinitionNeverStops =
-    (n : List ℕ) (at : Place) (ns : List (List ℕ)) (e : Tree) (xs rest left : List Laid) (x : Laid) → DefinitionText n at ns e xs (x ∷ rest) → EndsText x → ¬ (run xs [] (mode.DefinitionName scopes.Unit) ≡ StopsAt left)
+    (n : List ℕ) (at : Place) (ns : List (List ℕ)) (form : DefinitionForm) (e : Tree) (xs rest left : List Laid) (x : Laid) → DefinitionText n at ns form e xs (x ∷ rest) → EndsText x → ¬ (run xs [] (mode.DefinitionName scopes.Unit) ≡ StopsAt left)
 
 -- so a list that the reader refuses is unended
 abbrev pub RefusedUnended : Type 0
@@ -78,13 +80,13 @@ abbrev Goes : Outcome → Type 0
 Goes (StopsAt r) = ⊥
 Goes (ClashesAt p q r) = Unit {0}
 Goes (EndsAt e r) = Unit {0}
-Goes (EndsDefinitionAt n p ns e r) = Unit {0}
+Goes (EndsDefinitionAt n p ns form e r) = Unit {0}
 
 part_goes : (b : Frame) (o : Outcome) (x : Laid) (r : List Laid) → Alike o (flat.EndsAt (x ∷ r)) → ((e : Tree) → Goes (after (closes x (b ∷ []) e) (x ∷ r) (run r))) → Goes (continued b o)
 part_goes b (StopsAt s) x r q f = absurd (stops_ends s (x ∷ r) (sym q))
 part_goes b (ClashesAt p c s) x r q f = tt
 part_goes b (EndsAt e s) x r q f = subst (λ v. Goes (continued b (EndsAt e v))) (ends_rest (x ∷ r) s q) (f e)
-part_goes b (EndsDefinitionAt n p ns e s) x r q f = absurd q
+part_goes b (EndsDefinitionAt n p ns form e s) x r q f = absurd q
 
 -- an expression over a row, up to a token that ends it
 set_goes : (b : Frame) → Waits b → (x : Laid) (xs r : List Laid) → flat.run xs [] flat.Want ≡ flat.EndsAt (x ∷ r) → ((d : Tree) → Goes (after (closes x (b ∷ []) d) (x ∷ r) (run r))) → Goes (run xs (b ∷ []) mode.Want)
@@ -140,16 +142,16 @@ function_goes n p (tree.Function at bs e) xs rest x ends h =
     subst (λ v. Goes (run v [] (mode.DefinitionNamed scopes.Unit n p))) (sym h.1) (bounds_go_on n p at x rest ends bs e h.0 h.2.0 h.2.2.0 h.2.2.2.0 h.2.1 h.2.2.1 h.2.2.2.1 h.2.2.2.2)
 function_goes n p _ xs rest x ends h = absurd h
 
-rest_goes : (n : List ℕ) (p : Place) (ns : List (List ℕ)) (e : Tree) (xs rest : List Laid) (x : Laid) → EndsText x → DefinitionRest ns e xs (x ∷ rest) → Goes (run xs [] (mode.DefinitionNamed scopes.Unit n p))
-rest_goes n p ns e xs rest x ends (inl h) =
+rest_goes : (n : List ℕ) (p : Place) (ns : List (List ℕ)) (form : DefinitionForm) (e : Tree) (xs rest : List Laid) (x : Laid) → EndsText x → DefinitionRest ns form e xs (x ∷ rest) → Goes (run xs [] (mode.DefinitionNamed scopes.Unit n p))
+rest_goes n p ns definition_forms.Operator e xs rest x ends h =
     subst Goes (sym (operator_begins n p ns xs h.0 h.2.0 h.1 h.2.1)) (body_goes n p p x rest ends (forms.Operator ns) e h.2.0 h.2.2)
-rest_goes n p ns e xs rest x ends (inr h) = function_goes n p e xs rest x ends h.1
+rest_goes n p ns definition_forms.Function e xs rest x ends h = function_goes n p e xs rest x ends h.1
 
-definition_goes : (n : List ℕ) (p : Place) (ns : List (List ℕ)) (e : Tree) (xs rest : List Laid) (x : Laid) → EndsText x → DefinitionText n p ns e xs (x ∷ rest) → Goes (run xs [] (mode.DefinitionName scopes.Unit))
-definition_goes n p ns e xs rest x ends h = subst (λ v. Goes (run v [] (mode.DefinitionName scopes.Unit))) (sym h.1) (rest_goes n p ns e h.0 rest x ends h.2)
+definition_goes : (n : List ℕ) (p : Place) (ns : List (List ℕ)) (form : DefinitionForm) (e : Tree) (xs rest : List Laid) (x : Laid) → EndsText x → DefinitionText n p ns form e xs (x ∷ rest) → Goes (run xs [] (mode.DefinitionName scopes.Unit))
+definition_goes n p ns form e xs rest x ends h = subst (λ v. Goes (run v [] (mode.DefinitionName scopes.Unit))) (sym h.1) (rest_goes n p ns form e h.0 rest x ends h.2)
 
 pub definition_never_stops : DefinitionNeverStops
-definition_never_stops n at ns e xs rest left x t h q = subst Goes q (definition_goes n at ns e xs rest x h t)
+definition_never_stops n at ns form e xs rest left x t h q = subst Goes q (definition_goes n at ns form e xs rest x h t)
 
 -- ---- what is refused
 
@@ -160,18 +162,19 @@ text_before e text ys h =
     let same : l.0 ≡ text = sym (l.1 ∙ append-nil l.0) in
     subst (λ v. Text e (v ++ ys) ys) same (l.2 ys)
 
-definition_before : (n : List ℕ) (at : Place) (ns : List (List ℕ)) (e : Tree) (text ys : List Laid) → DefinitionText n at ns e text [] → DefinitionText n at ns e (text ++ ys) ys
-definition_before n at ns e text ys h =
-    let l = local_definition n at ns e text [] h in
+definition_before : (n : List ℕ) (at : Place) (ns : List (List ℕ)) (form : DefinitionForm) (e : Tree) (text ys : List Laid) → DefinitionText n at ns form e text [] → DefinitionText n at ns form e (text ++ ys) ys
+definition_before n at ns form e text ys h =
+    let l = local_definition n at ns form e text [] h in
     let same : l.0 ≡ text = sym (l.1 ∙ append-nil l.0) in
-    subst (λ v. DefinitionText n at ns e (v ++ ys) ys) same (l.2 ys)
+    subst (λ v. DefinitionText n at ns form e (v ++ ys) ys) same (l.2 ys)
 
 none_ends : (xs left : List Laid) → run xs [] mode.Want ≡ StopsAt left → NoneEnds EndedText xs
 none_ends xs left q text rest x w ends h = text_never_stops h.0 xs rest left x (subst (λ v. Text h.0 v (x ∷ rest)) (sym w) (text_before h.0 text (x ∷ rest) h.1)) ends q
 
 no_definition_ends : (xs left : List Laid) → run xs [] (mode.DefinitionName scopes.Unit) ≡ StopsAt left → NoneEnds EndedDefinition xs
 no_definition_ends xs left q text rest x w ends h =
-    definition_never_stops h.0 h.1 h.2 h.3 xs rest left x (subst (λ v. DefinitionText h.0 h.1 h.2 h.3 v (x ∷ rest)) (sym w) (definition_before h.0 h.1 h.2 h.3 text (x ∷ rest) h.4)) ends q
+    definition_never_stops h.0 h.1 h.2 h.3 h.4 xs rest left x
+    (subst (λ v. DefinitionText h.0 h.1 h.2 h.3 h.4 v (x ∷ rest)) (sym w) (definition_before h.0 h.1 h.2 h.3 h.4 text (x ∷ rest) h.5)) ends q
 
 pub refused_unended : RefusedUnended
 unfolding kept_run

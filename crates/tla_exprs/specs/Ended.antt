@@ -14,7 +14,7 @@ index_of (Definition d i) = i
 
 abbrev pub EndsSo : List Laid → ℕ → Mode → Ended → Type 0
 EndsSo laid from start (Expression e i) = kept_run laid from [] start ≡ EndsAt e (drop i laid)
-EndsSo laid from start (Definition d i) = kept_run laid from [] start ≡ EndsDefinitionAt d.name d.at d.params d.body (drop i laid)
+EndsSo laid from start (Definition d i) = kept_run laid from [] start ≡ EndsDefinitionAt d.name d.at d.params d.form d.body (drop i laid)
 
 pub record IsRead (laid : List Laid) (from : ℕ) (start : Mode) (ended : Ended) : Type 0 where
   pub ends : EndsSo laid from start ended

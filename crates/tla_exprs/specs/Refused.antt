@@ -48,7 +48,7 @@ ShallowBehind (Reads fs m) next = next fs m
 ShallowBehind Stops next = Unit {0}
 ShallowBehind (Clashes p q) next = Unit {0}
 ShallowBehind (Ends e) next = Unit {0}
-ShallowBehind (EndsDefinition n p ns e) next = Unit {0}
+ShallowBehind (EndsDefinition n p ns form e) next = Unit {0}
 
 -- the reader, which is in this state before these tokens, comes to each of them in a state with at most 100 unfinished constructs
 abbrev pub ShallowIn : List Frame → Mode → List Laid → Type 0

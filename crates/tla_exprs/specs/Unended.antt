@@ -1,6 +1,7 @@
 -- Where a token is refused because no text goes on through it, no text ends before it either.
 use Rattle.std.specs.Prelude.{◌≡◌, ℕ, List, [], ◌∷◌, ◌++◌}
 use Rattle.trace_base.specs.declared.place.Place.{Place}
+use Rattle.tla_ast.specs.declared.form.DefinitionForm.{DefinitionForm}
 use Rattle.tla_ast.specs.declared.laid.Laid.{Laid}
 use Rattle.tla_ast.specs.Trees.{Tree}
 use Rattle.tla_ast.specs.Grammar.{Text}
@@ -15,7 +16,7 @@ EndedText text = (e : Tree) × Text e text []
 
 -- the same of a unit's definition
 abbrev pub EndedDefinition : List Laid → Type 0
-EndedDefinition text = (n : List ℕ) × (at : Place) × (ns : List (List ℕ)) × (e : Tree) × DefinitionText n at ns e text []
+EndedDefinition text = (n : List ℕ) × (at : Place) × (ns : List (List ℕ)) × (form : DefinitionForm) × (e : Tree) × DefinitionText n at ns form e text []
 
 -- the list begins with no text behind which stands a token that ends texts
 abbrev pub NoneEnds : (Ended : List Laid → Type 0) → List Laid → Type 0

@@ -95,7 +95,7 @@ pub fn definition(
     from: usize,
 ) -> Result<(Definition, usize), ParseFault>
     requires { from < length laid.now }
-    ensures spelled { IfOk result (λ r. (token r.0.at (kinds.Name r.0.name) ⨟ DefinitionRest r.0.params r.0.body) (drop from laid.now) (drop r.1 laid.now)) }
+    ensures spelled { IfOk result (λ r. (token r.0.at (kinds.Name r.0.name) ⨟ DefinitionRest r.0.params r.0.form r.0.body) (drop from laid.now) (drop r.1 laid.now)) }
     ensures fits { IfOk result (λ r. Fits r.0.body) }
     ensures ahead { IfOk result (λ r. from < r.1) }
     ensures within { IfOk result (λ r. r.1 < length laid.now) }

@@ -89,6 +89,7 @@ fn unit_fault(
         Unit::Assume(_) => assumed_fault(alloc, table, notes, assumes, assumptions),
         Unit::Variables(_) => Ok(None),
         Unit::Constants(_) => Ok(None),
+        Unit::Recursive(_) => Ok(None),
         Unit::Passed => Ok(None),
     }
 }
@@ -130,6 +131,7 @@ fn definitions_of(unit: &Unit) -> usize
         Unit::Variables(_) => 0,
         Unit::Constants(_) => 0,
         Unit::Assume(_) => 0,
+        Unit::Recursive(_) => 0,
         Unit::Passed => 0,
     }
 }
@@ -143,6 +145,7 @@ fn assumptions_of(unit: &Unit) -> usize
         Unit::Variables(_) => 0,
         Unit::Constants(_) => 0,
         Unit::Define(_) => 0,
+        Unit::Recursive(_) => 0,
         Unit::Passed => 0,
     }
 }

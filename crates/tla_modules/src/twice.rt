@@ -41,6 +41,7 @@ fn add_unit(names: &mut DeclaredNames, unit: &Unit) -> Result<(), NoMemory>
         Unit::Constants(more) => add_all(names, more.items()),
         Unit::Define(definition) => add(names, &definition.name, definition.at),
         Unit::Assume(_) => Ok(()),
+        Unit::Recursive(_) => Ok(()),
         Unit::Passed => Ok(()),
     }
 }

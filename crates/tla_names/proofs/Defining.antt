@@ -2,6 +2,7 @@
 use Rattle.std.proofs.Common.{◌≡◌, ◌∙◌, sym, ap, refl, subst, List, [], ◌∷◌, ◌++◌, length, ◌<◌, ◌≤◌, append_assoc}
 use Rattle.std.specs.Prelude.{ℕ, ◌+◌, drop, get_or, Some, None, slice_get}
 use Rattle.trace_base.specs.declared.place.Place.{Place}
+use Rattle.tla_ast.specs.declared.form.DefinitionForm.{DefinitionForm}
 use Rattle.tla_ast.specs.Trees as tree
 use Rattle.tla_ast.specs.Trees.{Tree}
 use Rattle.tla_ast.specs.TreeViews.{definitions_from, definitions_of}
@@ -42,8 +43,8 @@ defined_means m m1 m2 depth ps a x dp b r =
     subst (λ (h : Here). Means h.names m2.table (bind h.scope ps) a x) (sym in_it.kept) (in_it.means m2.table (grows_same m2.table))
 
 -- one more definition: it stands at the end of the table, behind those of its own LETs
-pub definition_on : (w m m1 m2 v : Around) (depth : ℕ) (ds : tree.Definitions) (ks : List ℕ) (n : List ℕ) (at : Place) (ps : List (List ℕ)) (a : Tree) (x : Term) (k : DefId) (count : ℕ) → ResolvesDefinitions w m ds ks → itself n at ps a ≡ None → depth ≡ length m.here.scope → m1 ≡ record { here = record { names = m.here.names; scope = bind m.here.scope ps }; table = m.table } → ResolvesTo m1 m2 depth a x → count ≡ length ps → k.0 ≡ length m2.table → v.here.names ≡ m2.here.names → v.here.scope ≡ m2.here.scope ++ Defined n k count ∷ [] → v.table ≡ m2.table ++ local_operator (slots m2.here.scope) count x ∷ [] → KeepsOrder m2.table v.table → ResolvesDefinitions w v (tree.MoreDefinitions ds n at ps a) (ks ++ k.0 ∷ [])
-definition_on w m m1 m2 v depth ds ks n at ps a x k count d i dp b r ct ke vn vs vt vo =
+pub definition_on : (w m m1 m2 v : Around) (depth : ℕ) (ds : tree.Definitions) (ks : List ℕ) (n : List ℕ) (at : Place) (ps : List (List ℕ)) (form : DefinitionForm) (a : Tree) (x : Term) (k : DefId) (count : ℕ) → ResolvesDefinitions w m ds ks → itself n at ps a ≡ None → depth ≡ length m.here.scope → m1 ≡ record { here = record { names = m.here.names; scope = bind m.here.scope ps }; table = m.table } → ResolvesTo m1 m2 depth a x → count ≡ length ps → k.0 ≡ length m2.table → v.here.names ≡ m2.here.names → v.here.scope ≡ m2.here.scope ++ Defined n k count ∷ [] → v.table ≡ m2.table ++ local_operator (slots m2.here.scope) count x ∷ [] → KeepsOrder m2.table v.table → ResolvesDefinitions w v (tree.MoreDefinitions ds n at ps form a) (ks ++ k.0 ∷ [])
+definition_on w m m1 m2 v depth ds ks n at ps form a x k count d i dp b r ct ke vn vs vt vo =
     let more : (more : List Local) × (bind m.here.scope ps ≡ m.here.scope ++ more) = bind_adds m.here.scope ps in
     let in_it : ReadIn m m2 (bind m.here.scope ps) a x = read_back m m1 m2 depth (bind m.here.scope ps) more.0 a x b dp more.1 r in
     let o : Operator = local_operator (slots m.here.scope) (length ps) x in
@@ -68,7 +69,7 @@ definition_on w m m1 m2 v depth ds ks n at ps a x k count d i dp b r ct ke vn vs
 complain_on : (g : Takes) (l : tree.Definitions) (xs : List Definition) (f : NameFault) → Complains (definitions_complaint g l) f → Complains (definitions_complaint g (definitions_from l xs)) f
 complain_on g l [] f c = c
 complain_on g l (x ∷ xs) f c =
-    complain_on g (tree.MoreDefinitions l x.name x.at x.params x.body) xs f (complains_first (definitions_complaint g l) (or_else (itself x.name x.at x.params x.body) (complaint (with_names (with_definitions g l) x.params) x.body)) f c)
+    complain_on g (tree.MoreDefinitions l x.name x.at x.params x.form x.body) xs f (complains_first (definitions_complaint g l) (or_else (itself x.name x.at x.params x.body) (complaint (with_names (with_definitions g l) x.params) x.body)) f c)
 
 pub record DefinitionsRead (w v : Around) (items : List Definition) (i : ℕ) (ks : List ℕ) : Type 0 where
   pub so_far : tree.Definitions
@@ -82,9 +83,9 @@ definitions_begin w items =
 pub definitions_pushed : (w m m1 m2 v : Around) (items : List Definition) (i : ℕ) (depth count : ℕ) (ks new : List ℕ) (d : Definition) (x : Term) (k : DefId) → new ≡ ks ++ k.0 ∷ [] → i < length items → d ≡ get_or items i d → DefinitionsRead w m items i ks → itself d.name d.at d.params d.body ≡ None → depth ≡ length m.here.scope → m1 ≡ record { here = record { names = m.here.names; scope = bind m.here.scope d.params }; table = m.table } → ResolvesTo m1 m2 depth d.body x → count ≡ length d.params → k.0 ≡ length m2.table → v.here.names ≡ m2.here.names → v.here.scope ≡ m2.here.scope ++ Defined d.name k count ∷ [] → v.table ≡ m2.table ++ local_operator (slots m2.here.scope) count x ∷ [] → KeepsOrder m2.table v.table → DefinitionsRead w v items (i + 1) new
 definitions_pushed w m m1 m2 v items i depth count ks new d x k e lt at h own dp b r ct ke vn vs vt vo =
     record {
-      so_far = tree.MoreDefinitions h.so_far d.name d.at d.params d.body;
+      so_far = tree.MoreDefinitions h.so_far d.name d.at d.params d.form d.body;
       whole = ap (λ ts. definitions_from h.so_far ts) (sym (cut_at items i d lt at)) ∙ h.whole;
-      read = subst (λ (y : List ℕ). ResolvesDefinitions w v (tree.MoreDefinitions h.so_far d.name d.at d.params d.body) y) (sym e) (definition_on w m m1 m2 v depth h.so_far ks d.name d.at d.params d.body x k count h.read own dp b r ct ke vn vs vt vo);
+      read = subst (λ (y : List ℕ). ResolvesDefinitions w v (tree.MoreDefinitions h.so_far d.name d.at d.params d.form d.body) y) (sym e) (definition_on w m m1 m2 v depth h.so_far ks d.name d.at d.params d.form d.body x k count h.read own dp b r ct ke vn vs vt vo);
     }
 
 pub definitions_end : (w v : Around) (items : List Definition) (all : tree.Definitions) (i : ℕ) (ks : List ℕ) → definitions_of items ≡ all → length items ≤ i → DefinitionsRead w v items i ks → ResolvesDefinitions w v all ks
@@ -95,7 +96,7 @@ definitions_end w v items all i ks e le h =
 refused : (w m : Around) (items : List Definition) (all : tree.Definitions) (i : ℕ) (ks : List ℕ) (d : Definition) (f : NameFault) → definitions_of items ≡ all → i < length items → d ≡ get_or items i d → (h : DefinitionsRead w m items i ks) → Complains (or_else (itself d.name d.at d.params d.body) (complaint (with_names (with_definitions (takes w.here) h.so_far) d.params) d.body)) f → Complains (definitions_complaint (takes w.here) all) f
 refused w m items all i ks d f e lt at h c =
     subst (λ (l : tree.Definitions). Complains (definitions_complaint (takes w.here) l) f) (ap (λ ts. definitions_from h.so_far ts) (sym (cut_at items i d lt at)) ∙ h.whole ∙ e)
-    (complain_on (takes w.here) (tree.MoreDefinitions h.so_far d.name d.at d.params d.body) (drop (i + 1) items) f (complains_later (definitions_complaint (takes w.here) h.so_far) (or_else (itself d.name d.at d.params d.body) (complaint (with_names (with_definitions (takes w.here) h.so_far) d.params) d.body)) f h.read.fine c))
+    (complain_on (takes w.here) (tree.MoreDefinitions h.so_far d.name d.at d.params d.form d.body) (drop (i + 1) items) f (complains_later (definitions_complaint (takes w.here) h.so_far) (or_else (itself d.name d.at d.params d.body) (complaint (with_names (with_definitions (takes w.here) h.so_far) d.params) d.body)) f h.read.fine c))
 
 pub itself_refused : (w m : Around) (items : List Definition) (all : tree.Definitions) (i : ℕ) (ks : List ℕ) (d : Definition) (f : NameFault) → definitions_of items ≡ all → i < length items → d ≡ get_or items i d → DefinitionsRead w m items i ks → Complains (itself d.name d.at d.params d.body) f → Complains (definitions_complaint (takes w.here) all) f
 itself_refused w m items all i ks d f e lt at h c =

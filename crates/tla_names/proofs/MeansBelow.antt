@@ -248,7 +248,7 @@ module _ (names : List Entry) (ops : List Operator) (program : AreIn (length ops
     defines_below : (sc : List Local) (ds : tree.Definitions) (ks : List ℕ) (inner : List Local) → In sc → Defines names ops sc ds ks inner → ((k : ℕ) → Contains ks k → k < length ops) × In inner
     defines_below sc tree.NoDefinitions ks inner g h =
         (λ k c. let P : List ℕ → Type 0 = λ l. Contains l k in absurd (contains_nothing k (subst P h.0 c)), subst In (sym h.1) g)
-    defines_below sc (tree.MoreDefinitions ds n at ps e) ks inner g h =
+    defines_below sc (tree.MoreDefinitions ds n at ps form e) ks inner g h =
         let d : ((k : ℕ) → Contains h.0 k → k < length ops) × In h.1 = defines_below sc ds h.0 h.1 g h.4 in
         let lt : h.2.0 < length ops = item_within ops h.2.0 _ h.6 in
         (λ k c. let P : List ℕ → Type 0 = λ l. Contains l k in number_behind (length ops) h.0 h.2.0 d.0 lt k (subst P h.7 c), subst In (sym h.8) (defined_in (length ops) h.1 n h.2 (length ps) lt d.1))

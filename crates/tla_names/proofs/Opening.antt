@@ -106,7 +106,7 @@ choose_opens w m v rows new at n s a t y e j r b =
 
 defines_add : (names : List Entry) (ops : List Operator) (sc : List Local) (ds : tree.Definitions) (ks : List ℕ) (inner : List Local) → Defines names ops sc ds ks inner → (more : List Local) × (inner ≡ sc ++ more)
 defines_add names ops sc tree.NoDefinitions ks inner d = ([], d.1 ∙ sym (append-nil sc))
-defines_add names ops sc (tree.MoreDefinitions ds n at ps e) ks inner d =
+defines_add names ops sc (tree.MoreDefinitions ds n at ps form e) ks inner d =
     let m : (more : List Local) × (d.1 ≡ sc ++ more) = defines_add names ops sc ds d.0 d.1 d.4 in
     let one : List Local = Defined n d.2 (length ps) ∷ [] in
     (m.0 ++ one, d.8 ∙ ap (λ x. x ++ one) m.1 ∙ append_assoc sc m.0 one)

@@ -63,5 +63,5 @@ takes_bounds names sc (tree.MoreBounds bs ns e) = takes_bind names (bind_bounds 
 
 pub takes_definitions : (names : List Entry) (ops : List Operator) (sc : List Local) (ds : tree.Definitions) (ks : List ℕ) (sc' : List Local) → Defines names ops sc ds ks sc' → takes_in names sc' ≡ with_definitions (takes_in names sc) ds
 takes_definitions names ops sc tree.NoDefinitions ks sc' h = ap (λ (s : List Local). takes_in names s) h.1
-takes_definitions names ops sc (tree.MoreDefinitions ds n at ps e) ks sc' h =
+takes_definitions names ops sc (tree.MoreDefinitions ds n at ps form e) ks sc' h =
     ap (λ (s : List Local). takes_in names s) h.8 ∙ takes_defined names h.1 n h.2 (length ps) ∙ ap (λ (g : Takes). with_name g n (length ps)) (takes_definitions names ops sc ds h.0 h.1 h.4)

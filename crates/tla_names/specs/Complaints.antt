@@ -42,7 +42,7 @@ with_bounds g (MoreBounds bs ns e) = with_names (with_bounds g bs) ns
 
 abbrev pub with_definitions : Takes → Definitions → Takes
 with_definitions g NoDefinitions = g
-with_definitions g (MoreDefinitions ds n at ps e) = with_name (with_definitions g ds) n (length ps)
+with_definitions g (MoreDefinitions ds n at ps form e) = with_name (with_definitions g ds) n (length ps)
 
 -- a definition may not use itself; a parameter of its name hides it
 abbrev pub itself : List ℕ → Place → List (List ℕ) → Tree → Option NameFault
@@ -121,5 +121,5 @@ abbrev mutual
   -- there.
   pub definitions_complaint : Takes → Definitions → Option NameFault
   definitions_complaint g NoDefinitions = None
-  definitions_complaint g (MoreDefinitions ds n at ps e) =
+  definitions_complaint g (MoreDefinitions ds n at ps form e) =
       or_else (definitions_complaint g ds) (or_else (itself n at ps e) (complaint (with_names (with_definitions g ds) ps) e))

@@ -152,5 +152,5 @@ module _ (names : List Entry) (ops : List Operator) where
     -- does not use itself, no name of its body means the definition, and its name need not be there.
     pub Defines : List Local → Definitions → List ℕ → List Local → Type 0
     Defines sc tree.NoDefinitions ks inner = (ks ≡ []) × (inner ≡ sc)
-    Defines sc (tree.MoreDefinitions ds n at ps e) ks inner =
+    Defines sc (tree.MoreDefinitions ds n at ps form e) ks inner =
         (before : List ℕ) × (mid : List Local) × (k : DefId) × (x : Term) × Defines sc ds before mid × Means (bind mid ps) e x × (slice_get ops k.0 ≡ Some (local_operator (slots mid) (length ps) x)) × (ks ≡ before ++ k.0 ∷ []) × (inner ≡ mid ++ Defined n k (length ps) ∷ [])

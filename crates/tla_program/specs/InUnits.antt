@@ -4,7 +4,7 @@ use Rattle.tla_ast.specs.Trees.{Tree}
 use Rattle.tla_ast.specs.declared.expr.Definition.{Definition}
 use Rattle.tla_ast.specs.declared.module.Declared.{Declared}
 use Rattle.tla_ast.specs.declared.module.Unit.{Unit as ModuleUnit}
-use Rattle.tla_ast.specs.declared.module.Unit.TheVariants.{Variables, Constants, Define, Assume, Passed}
+use Rattle.tla_ast.specs.declared.module.Unit.TheVariants.{Variables, Constants, Recursive, Define, Assume, Passed}
 
 abbrev pub variables_in : List ModuleUnit → List Declared
 variables_in [] = []
@@ -12,6 +12,7 @@ variables_in (Variables ds ∷ us) = ds ++ variables_in us
 variables_in (Constants ds ∷ us) = variables_in us
 variables_in (Define d ∷ us) = variables_in us
 variables_in (Assume e ∷ us) = variables_in us
+variables_in (Recursive rs ∷ us) = variables_in us
 variables_in (Passed ∷ us) = variables_in us
 
 abbrev pub constants_in : List ModuleUnit → List Declared
@@ -20,6 +21,7 @@ constants_in (Variables ds ∷ us) = constants_in us
 constants_in (Constants ds ∷ us) = ds ++ constants_in us
 constants_in (Define d ∷ us) = constants_in us
 constants_in (Assume e ∷ us) = constants_in us
+constants_in (Recursive rs ∷ us) = constants_in us
 constants_in (Passed ∷ us) = constants_in us
 
 abbrev pub definitions_in : List ModuleUnit → List Definition
@@ -28,6 +30,7 @@ definitions_in (Variables ds ∷ us) = definitions_in us
 definitions_in (Constants ds ∷ us) = definitions_in us
 definitions_in (Define d ∷ us) = d ∷ definitions_in us
 definitions_in (Assume e ∷ us) = definitions_in us
+definitions_in (Recursive rs ∷ us) = definitions_in us
 definitions_in (Passed ∷ us) = definitions_in us
 
 abbrev pub assumptions_in : List ModuleUnit → List Tree
@@ -36,4 +39,5 @@ assumptions_in (Variables ds ∷ us) = assumptions_in us
 assumptions_in (Constants ds ∷ us) = assumptions_in us
 assumptions_in (Define d ∷ us) = assumptions_in us
 assumptions_in (Assume e ∷ us) = e ∷ assumptions_in us
+assumptions_in (Recursive rs ∷ us) = assumptions_in us
 assumptions_in (Passed ∷ us) = assumptions_in us

@@ -26,6 +26,7 @@ fn add_variables<'a>(found: &mut Vec<&'a Declared>, unit: &'a Unit) -> Result<()
         Unit::Constants(_) => Ok(()),
         Unit::Define(_) => Ok(()),
         Unit::Assume(_) => Ok(()),
+        Unit::Recursive(_) => Ok(()),
         Unit::Passed => Ok(()),
     }
 }
@@ -50,6 +51,7 @@ fn add_constants<'a>(found: &mut Vec<&'a Declared>, unit: &'a Unit) -> Result<()
         Unit::Variables(_) => Ok(()),
         Unit::Define(_) => Ok(()),
         Unit::Assume(_) => Ok(()),
+        Unit::Recursive(_) => Ok(()),
         Unit::Passed => Ok(()),
     }
 }
@@ -82,6 +84,7 @@ fn add_definition<'a>(found: &mut Vec<&'a Definition>, unit: &'a Unit) -> Result
         Unit::Variables(_) => Ok(()),
         Unit::Constants(_) => Ok(()),
         Unit::Assume(_) => Ok(()),
+        Unit::Recursive(_) => Ok(()),
         Unit::Passed => Ok(()),
     }
 }
@@ -114,6 +117,7 @@ fn add_assumption<'a>(found: &mut Vec<&'a Expr>, unit: &'a Unit) -> Result<(), N
         Unit::Variables(_) => Ok(()),
         Unit::Constants(_) => Ok(()),
         Unit::Define(_) => Ok(()),
+        Unit::Recursive(_) => Ok(()),
         Unit::Passed => Ok(()),
     }
 }

@@ -109,14 +109,14 @@ arm_below l (y ∷ ys) (suc j) x lt e = arm_below (tree.MoreArms l y.test y.valu
 
 definitions_grow : (l : tree.Definitions) (xs : List Definition) → definitions_size l ≤ definitions_size (definitions_from l xs)
 definitions_grow l [] = omega arith
-definitions_grow l (x ∷ xs) = omega (arith, definitions_grow (tree.MoreDefinitions l x.name x.at x.params x.body) xs)
+definitions_grow l (x ∷ xs) = omega (arith, definitions_grow (tree.MoreDefinitions l x.name x.at x.params x.form x.body) xs)
 
 pub body_below : (l : tree.Definitions) (xs : List Definition) (i : ℕ) (x : Definition) → i < length xs → x ≡ get_or xs i x → tree_size x.body < definitions_size (definitions_from l xs)
 body_below l [] i x lt e = absurd (omega (arith, lt))
 body_below l (y ∷ ys) zero x lt e =
     let s : tree_size x.body ≡ tree_size y.body = ap (λ (b : Definition). tree_size b.body) e in
-    omega (arith, definitions_grow (tree.MoreDefinitions l y.name y.at y.params y.body) ys, s)
-body_below l (y ∷ ys) (suc j) x lt e = body_below (tree.MoreDefinitions l y.name y.at y.params y.body) ys j x (omega (arith, lt)) e
+    omega (arith, definitions_grow (tree.MoreDefinitions l y.name y.at y.params y.form y.body) ys, s)
+body_below l (y ∷ ys) (suc j) x lt e = body_below (tree.MoreDefinitions l y.name y.at y.params y.form y.body) ys j x (omega (arith, lt)) e
 
 pub first_below : (first : Tree) (xs : List Operand) → tree_size first < operands_size (operands_of first xs)
 first_below first xs = omega (arith, operands_grow (tree.First first) xs)

@@ -237,7 +237,7 @@ Binds_found n items i x lt e h q =
 
 Defines_stays : (n : List ℕ) (l : tree.Definitions) (xs : List Definition) → defines_in n l ≡ true → defines_in n (definitions_from l xs) ≡ true
 Defines_stays n l [] t = t
-Defines_stays n l (x ∷ xs) t = Defines_stays n (tree.MoreDefinitions l x.name x.at x.params x.body) xs (first (defines_in n l) (bytes_eq x.name n) t)
+Defines_stays n l (x ∷ xs) t = Defines_stays n (tree.MoreDefinitions l x.name x.at x.params x.form x.body) xs (first (defines_in n l) (bytes_eq x.name n) t)
 
 pub record DefinesSoFar (n : List ℕ) (items : List Definition) (i : ℕ) : Type 0 where
   pub so_far : tree.Definitions
@@ -247,7 +247,7 @@ pub record DefinesSoFar (n : List ℕ) (items : List Definition) (i : ℕ) : Typ
 pub Defines_on : (n : List ℕ) (items : List Definition) (i : ℕ) (x : Definition) → i < length items → x ≡ get_or items i x → DefinesSoFar n items i → bytes_eq x.name n ≡ false → DefinesSoFar n items (i + 1)
 Defines_on n items i x lt e h q0 =
     record {
-      so_far = tree.MoreDefinitions h.so_far x.name x.at x.params x.body;
+      so_far = tree.MoreDefinitions h.so_far x.name x.at x.params x.form x.body;
       whole = ap (λ ts. definitions_from h.so_far ts) (sym (cut_at items i x lt e)) ∙ h.whole;
       none = neither (defines_in n h.so_far) (bytes_eq x.name n) h.none q0;
     }
@@ -257,14 +257,14 @@ Defines_end n items i le h = ap (λ (l : tree.Definitions). defines_in n l) (sym
 
 pub Defines_found : (n : List ℕ) (items : List Definition) (i : ℕ) (x : Definition) → i < length items → x ≡ get_or items i x → DefinesSoFar n items i → bytes_eq x.name n ≡ true → defines_in n (definitions_of items) ≡ true
 Defines_found n items i x lt e h q =
-    ap (λ (l : tree.Definitions). defines_in n l) (sym (ap (λ ts. definitions_from h.so_far ts) (sym (cut_at items i x lt e)) ∙ h.whole)) ∙ Defines_stays n (tree.MoreDefinitions h.so_far x.name x.at x.params x.body) (drop (i + 1) items) (second (defines_in n h.so_far) (bytes_eq x.name n) q)
+    ap (λ (l : tree.Definitions). defines_in n l) (sym (ap (λ ts. definitions_from h.so_far ts) (sym (cut_at items i x lt e)) ∙ h.whole)) ∙ Defines_stays n (tree.MoreDefinitions h.so_far x.name x.at x.params x.form x.body) (drop (i + 1) items) (second (defines_in n h.so_far) (bytes_eq x.name n) q)
 
 -- Definitions.
 
 no_more : (n : List ℕ) (l : tree.Definitions) (xs : List Definition) → defines l n ≡ true → mentions_definitions n (definitions_from l xs) ≡ mentions_definitions n l
 no_more n l [] d = refl
 no_more n l (x ∷ xs) d =
-    let m : tree.Definitions = tree.MoreDefinitions l x.name x.at x.params x.body in
+    let m : tree.Definitions = tree.MoreDefinitions l x.name x.at x.params x.form x.body in
     let hidden : (defines l n || bytes_eq x.name n || is_one_of n x.params) ≡ true =
     first (defines l n || bytes_eq x.name n) (is_one_of n x.params) (first (defines l n) (bytes_eq x.name n) d) in
     no_more n m xs (first (defines l n) (bytes_eq x.name n) d) ∙ ap (λ b. mentions_definitions n l || (not b && mentions n x.body)) hidden ∙ or_false (mentions_definitions n l)
@@ -276,7 +276,7 @@ no_more n l (x ∷ xs) d =
 definitions_stay : (n : List ℕ) (l : tree.Definitions) (xs : List Definition) → mentions_definitions n l ≡ true → mentions_definitions n (definitions_from l xs) ≡ true
 definitions_stay n l [] t = t
 definitions_stay n l (x ∷ xs) t =
-    definitions_stay n (tree.MoreDefinitions l x.name x.at x.params x.body) xs (first (mentions_definitions n l) (not (defines l n || bytes_eq x.name n || is_one_of n x.params) && mentions n x.body) t)
+    definitions_stay n (tree.MoreDefinitions l x.name x.at x.params x.form x.body) xs (first (mentions_definitions n l) (not (defines l n || bytes_eq x.name n || is_one_of n x.params) && mentions n x.body) t)
 
 pub record DefinitionsSoFar (n : List ℕ) (items : List Definition) (i : ℕ) : Type 0 where
   pub so_far : tree.Definitions
@@ -287,7 +287,7 @@ pub record DefinitionsSoFar (n : List ℕ) (items : List Definition) (i : ℕ) :
 definitions_so : (n : List ℕ) (items : List Definition) (i : ℕ) (x : Definition) → i < length items → x ≡ get_or items i x → (h : DefinitionsSoFar n items i) → bytes_eq x.name n ≡ false → (not (defines h.so_far n || bytes_eq x.name n || is_one_of n x.params) && mentions n x.body) ≡ false → DefinitionsSoFar n items (i + 1)
 definitions_so n items i x lt e h q r =
     record {
-      so_far = tree.MoreDefinitions h.so_far x.name x.at x.params x.body;
+      so_far = tree.MoreDefinitions h.so_far x.name x.at x.params x.form x.body;
       whole = ap (λ ts. definitions_from h.so_far ts) (sym (cut_at items i x lt e)) ∙ h.whole;
       none = neither (mentions_definitions n h.so_far) (not (defines h.so_far n || bytes_eq x.name n || is_one_of n x.params) && mentions n x.body) h.none r;
       free = neither (defines h.so_far n) (bytes_eq x.name n) h.free q;
@@ -313,14 +313,14 @@ pub definitions_found : (n : List ℕ) (items : List Definition) (i : ℕ) (x : 
 definitions_found n items i x lt e h q p r =
     let free : (defines h.so_far n || bytes_eq x.name n || is_one_of n x.params) ≡ false =
     neither (defines h.so_far n || bytes_eq x.name n) (is_one_of n x.params) (neither (defines h.so_far n) (bytes_eq x.name n) h.free q) p in
-    ap (λ (l : tree.Definitions). mentions_definitions n l) (sym (ap (λ ts. definitions_from h.so_far ts) (sym (cut_at items i x lt e)) ∙ h.whole)) ∙ definitions_stay n (tree.MoreDefinitions h.so_far x.name x.at x.params x.body) (drop (i + 1) items) (second (mentions_definitions n h.so_far) (not (defines h.so_far n || bytes_eq x.name n || is_one_of n x.params) && mentions n x.body) (ap (λ b. not b && mentions n x.body) free ∙ r))
+    ap (λ (l : tree.Definitions). mentions_definitions n l) (sym (ap (λ ts. definitions_from h.so_far ts) (sym (cut_at items i x lt e)) ∙ h.whole)) ∙ definitions_stay n (tree.MoreDefinitions h.so_far x.name x.at x.params x.form x.body) (drop (i + 1) items) (second (mentions_definitions n h.so_far) (not (defines h.so_far n || bytes_eq x.name n || is_one_of n x.params) && mentions n x.body) (ap (λ b. not b && mentions n x.body) free ∙ r))
 
 -- behind a definition of the name nothing means the outer one
 pub definitions_cut : (n : List ℕ) (items : List Definition) (i : ℕ) (x : Definition) → i < length items → x ≡ get_or items i x → DefinitionsSoFar n items i → bytes_eq x.name n ≡ true → mentions_definitions n (definitions_of items) ≡ false
 definitions_cut n items i x lt e h q =
     let hidden : (defines h.so_far n || bytes_eq x.name n || is_one_of n x.params) ≡ true =
     first (defines h.so_far n || bytes_eq x.name n) (is_one_of n x.params) (second (defines h.so_far n) (bytes_eq x.name n) q) in
-    ap (λ (l : tree.Definitions). mentions_definitions n l) (sym (ap (λ ts. definitions_from h.so_far ts) (sym (cut_at items i x lt e)) ∙ h.whole)) ∙ no_more n (tree.MoreDefinitions h.so_far x.name x.at x.params x.body) (drop (i + 1) items) (second (defines h.so_far n) (bytes_eq x.name n) q) ∙ neither (mentions_definitions n h.so_far) (not (defines h.so_far n || bytes_eq x.name n || is_one_of n x.params) && mentions n x.body) h.none (ap (λ b. not b && mentions n x.body) hidden)
+    ap (λ (l : tree.Definitions). mentions_definitions n l) (sym (ap (λ ts. definitions_from h.so_far ts) (sym (cut_at items i x lt e)) ∙ h.whole)) ∙ no_more n (tree.MoreDefinitions h.so_far x.name x.at x.params x.form x.body) (drop (i + 1) items) (second (defines h.so_far n) (bytes_eq x.name n) q) ∙ neither (mentions_definitions n h.so_far) (not (defines h.so_far n || bytes_eq x.name n || is_one_of n x.params) && mentions n x.body) h.none (ap (λ b. not b && mentions n x.body) hidden)
 
 -- Operands behind others.
 

@@ -16,7 +16,7 @@ binds (MoreBounds bs ns e) n = binds bs n || is_one_of n ns
 
 abbrev pub defines : Definitions → List ℕ → Bool
 defines NoDefinitions n = false
-defines (MoreDefinitions ds m at ps e) n = defines ds n || bytes_eq m n
+defines (MoreDefinitions ds m at ps form e) n = defines ds n || bytes_eq m n
 
 abbrev mutual
   pub mentions : List ℕ → Tree → Bool
@@ -83,5 +83,5 @@ abbrev mutual
   -- a definition sees itself and those before it
   pub mentions_definitions : List ℕ → Definitions → Bool
   mentions_definitions n NoDefinitions = false
-  mentions_definitions n (MoreDefinitions ds m at ps e) =
+  mentions_definitions n (MoreDefinitions ds m at ps form e) =
       mentions_definitions n ds || (not (defines ds n || bytes_eq m n || is_one_of n ps) && mentions n e)

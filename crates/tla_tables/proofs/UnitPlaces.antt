@@ -5,7 +5,7 @@ use Rattle.tla_ast.specs.declared.config.Config.{Config}
 use Rattle.tla_ast.specs.declared.expr.Definition.{Definition}
 use Rattle.tla_ast.specs.declared.module.Program.{Program}
 use Rattle.tla_ast.specs.declared.module.Unit.{Unit as ModuleUnit}
-use Rattle.tla_ast.specs.declared.module.Unit.TheVariants.{Variables, Constants, Define, Assume, Passed}
+use Rattle.tla_ast.specs.declared.module.Unit.TheVariants.{Variables, Constants, Recursive, Define, Assume, Passed}
 use Rattle.tla_names.specs.declared.fault.NameFault.{NameFault}
 use Rattle.tla_names.specs.declared.fault.NameFault.TheVariants.{Recursion}
 use Rattle.tla_names.specs.Complaints.{complaint, with_names}
@@ -27,6 +27,7 @@ defined_at (Define x ∷ us) (suc i) d e = (let r : DefinedAt us i d = defined_a
 defined_at (Variables x ∷ us) i d e = (let r : DefinedAt us i d = defined_at us i d e in record { place = suc r.place; stands = r.stands; before = r.before })
 defined_at (Constants x ∷ us) i d e = (let r : DefinedAt us i d = defined_at us i d e in record { place = suc r.place; stands = r.stands; before = r.before })
 defined_at (Assume x ∷ us) i d e = (let r : DefinedAt us i d = defined_at us i d e in record { place = suc r.place; stands = r.stands; before = r.before })
+defined_at (Recursive rs ∷ us) i d e = (let r : DefinedAt us i d = defined_at us i d e in record { place = suc r.place; stands = r.stands; before = r.before })
 defined_at (Passed ∷ us) i d e = (let r : DefinedAt us i d = defined_at us i d e in record { place = suc r.place; stands = r.stands; before = r.before })
 
 starts : (p : Program) (c : Config) (i j : ℕ) → LeadsTo p c i j → (d : Definition) × (slice_get (definitions_in p.units) i ≡ Some d)
@@ -59,6 +60,7 @@ fault_is p c i (Define d) f false mark e = inr ((λ u. untrue (mark.1 u)), e)
 fault_is p c i (Assume t) f b mark e = e
 fault_is p c i (Variables ds) f b mark e = absurd (cc)
 fault_is p c i (Constants ds) f b mark e = absurd (cc)
+fault_is p c i (Recursive rs) f b mark e = absurd (cc)
 fault_is p c i Passed f b mark e = absurd (cc)
 
 pub is_fault : (p : Program) (c : Config) (i : ℕ) (unit : ModuleUnit) (f : NameFault) (b : Bool) → (IsTrue b ↔ UsesItself p c i) → UnitFault p c i unit f → unit_complaint (takes_in_program p c) b unit ≡ Some f
@@ -69,4 +71,5 @@ is_fault p c i (Define d) f false mark (inr w) = w.1
 is_fault p c i (Assume t) f b mark w = w
 is_fault p c i (Variables ds) f b mark w = absurd w
 is_fault p c i (Constants ds) f b mark w = absurd w
+is_fault p c i (Recursive rs) f b mark w = absurd w
 is_fault p c i Passed f b mark w = absurd w

@@ -4,7 +4,7 @@ use Rattle.std.specs.List.{slice_index_or}
 use Rattle.tla_ast.specs.declared.config.Config.{Config}
 use Rattle.tla_ast.specs.declared.module.Program.{Program}
 use Rattle.tla_ast.specs.declared.module.Unit.{Unit as ModuleUnit}
-use Rattle.tla_ast.specs.declared.module.Unit.TheVariants.{Variables, Constants, Define, Assume, Passed}
+use Rattle.tla_ast.specs.declared.module.Unit.TheVariants.{Variables, Constants, Recursive, Define, Assume, Passed}
 use Rattle.tla_names.specs.declared.fault.NameFault.{NameFault}
 use Rattle.tla_names.specs.declared.fault.NameFault.TheVariants.{Recursion}
 use Rattle.tla_names.specs.Complaints.{Takes, with_names, complaint}
@@ -17,6 +17,7 @@ unit_complaint g itself (Define d) = if itself then Some (Recursion d.name d.at)
 unit_complaint g itself (Assume e) = complaint g e
 unit_complaint g itself (Variables ds) = None
 unit_complaint g itself (Constants ds) = None
+unit_complaint g itself (Recursive rs) = None
 unit_complaint g itself Passed = None
 
 -- the marks say which definitions use themselves, by their indices

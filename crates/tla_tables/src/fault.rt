@@ -129,6 +129,7 @@ fn unit_fault(
         Unit::Assume(tree) => assumption_fault(alloc, names, table, tree),
         Unit::Variables(_) => Ok(None),
         Unit::Constants(_) => Ok(None),
+        Unit::Recursive(_) => Ok(None),
         Unit::Passed => Ok(None),
     }
 }
@@ -142,6 +143,7 @@ fn definitions_of(unit: &Unit) -> usize
         Unit::Variables(_) => 0,
         Unit::Constants(_) => 0,
         Unit::Assume(_) => 0,
+        Unit::Recursive(_) => 0,
         Unit::Passed => 0,
     }
 }

@@ -3,6 +3,7 @@ pub mod Ends
 pub mod Extents
 pub mod LaidEnds
 pub mod Leading
+pub mod Lists
 pub mod Locals
 pub mod MarksTold
 pub mod NamesRead
@@ -15,6 +16,7 @@ pub mod OneModuleParts
 pub mod OneModuleTokens
 pub mod OneModuleUnits
 pub mod OpenStarts
+pub mod OperatorsRead
 pub mod Parts
 pub mod RefusedModule
 pub mod RestSteps

@@ -6,18 +6,20 @@ use Rattle.tla_ast.specs.declared.laid.Laid.{Laid}
 use Rattle.tla_ast.specs.declared.laid.Laid.TheVariants.{Plain}
 use Rattle.tla_ast.specs.declared.expr.Definition.{Definition as UnitDefinition}
 use Rattle.tla_ast.specs.declared.module.Declared.{Declared}
+use Rattle.tla_ast.specs.declared.module.DeclaredOperator.{DeclaredOperator}
 use Rattle.tla_ast.specs.declared.module.Unit.TheVariants as units
 use Rattle.tla_tokens.specs.declared.token.Kind.{Kind}
 use Rattle.tla_tokens.specs.declared.token.Kind.TheVariants as kinds
 use Rattle.tla_tokens.specs.declared.token.Word.TheVariants as words
 use Rattle.tla_tokens.specs.declared.token.Symbol.TheVariants as symbols
+use Rattle.tla_tokens.specs.declared.token.Foreign.TheVariants as foreign
 use Rattle.tla_ast.specs.Trees.{Tree}
 use Rattle.tla_ast.specs.Grammar.{Span, ◌⨟◌, nothing, either, token, some_token, word, sign, name, NamesText, Text}
-use Rattle.tla_ast.specs.Modules.{DeclaredText, DeclaredNamesText, MaybeTitle, ExtendsText, SomeExpression, UnitText, variable_word, constant_word, assume_word, theorem_word}
+use Rattle.tla_ast.specs.Modules.{DeclaredText, DeclaredNamesText, PlacesText, MaybePlaces, DeclaredOperatorText, DeclaredOperatorsText, underscore, recursive_word, MaybeTitle, ExtendsText, SomeExpression, UnitText, variable_word, constant_word, assume_word, theorem_word}
 use Rattle.reader_model.specs.LawsOfExtents.{LocalText, LocalDefinition}
 use Rattle.tla_units.specs.Parts.{MarkText}
 use Rattle.tla_units.specs.Refusals.{ShallowWholeUnit, SoManyUnits, ShallowWholeUnits, SomeExtends}
-use Rattle.tla_units.specs.Rests.{Marked, Others, Listed, Title}
+use Rattle.tla_units.specs.Rests.{Marked, OthersOf, ListOf, Listed, Places, Parameters, OneOperator, Title}
 use Rattle.tla_units.specs.declared.marks.Mark.{Mark}
 use Rattle.tla_units.specs.declared.marks.Mark.TheVariants as marks
 use Rattle.tla_units.proofs.Extents.{Local}
@@ -85,6 +87,12 @@ local_assume = local_either (word words.Assume) (either (word words.Assumption) 
 pub local_theorem : IsLocal theorem_word
 local_theorem = local_either (either (word words.Theorem) (word words.Lemma)) (either (word words.Proposition) (word words.Corollary)) (local_word_of_two (kinds.Word words.Theorem) (kinds.Word words.Lemma)) (local_word_of_two (kinds.Word words.Proposition) (kinds.Word words.Corollary))
 
+pub local_recursive_word : IsLocal recursive_word
+local_recursive_word = local_kind (kinds.Foreign foreign.Recursive)
+
+local_underscore : IsLocal underscore
+local_underscore = local_kind (kinds.Foreign foreign.Underscore)
+
 local_name : (n : List ℕ) → IsLocal (name n)
 local_name n = local_kind (kinds.Name n)
 
@@ -93,11 +101,15 @@ local_mark marks.Name = local_some (List ℕ) name local_name
 local_mark marks.Dashes = local_kind kinds.Dashes
 local_mark marks.Equals = local_kind kinds.Equals
 local_mark marks.Comma = local_kind (kinds.Symbol symbols.Comma)
+local_mark marks.OpenParenthesis = local_kind (kinds.Symbol symbols.OpenParenthesis)
+local_mark marks.CloseParenthesis = local_kind (kinds.Symbol symbols.CloseParenthesis)
+local_mark marks.Underscore = local_underscore
 local_mark marks.Defined = local_kind (kinds.Symbol symbols.Defined)
 local_mark marks.Heading = local_kind (kinds.Word words.Module)
 local_mark marks.Extends = local_kind (kinds.Word words.Extends)
 local_mark marks.Variables = local_variable
 local_mark marks.Constants = local_constant
+local_mark marks.Recursive = local_recursive_word
 local_mark marks.Assume = local_assume
 local_mark marks.Theorem = local_theorem
 
@@ -107,12 +119,50 @@ local_marked m (x ∷ xs) ys h = record { text = x ∷ []; whole = ap (λ v. x �
 
 -- ---- names
 
-local_others : (n : ℕ) → IsLocal (Others n)
-local_others zero = local_nothing
-local_others (suc n) = local_then (Marked marks.Comma) (Marked marks.Name ⨟ Others n) (local_marked marks.Comma) (local_then (Marked marks.Name) (Others n) (local_marked marks.Name) (local_others n))
+local_others : (R : Span) → IsLocal R → (n : ℕ) → IsLocal (OthersOf R n)
+local_others R part zero = local_nothing
+local_others R part (suc n) = local_then (Marked marks.Comma) (R ⨟ OthersOf R n) (local_marked marks.Comma) (local_then R (OthersOf R n) part (local_others R part n))
+
+pub local_list : (R : Span) → IsLocal R → IsLocal (ListOf R)
+local_list R part = local_then R (λ xs ys. (n : ℕ) × OthersOf R n xs ys) part (local_some ℕ (OthersOf R) (local_others R part))
 
 pub local_listed : IsLocal Listed
-local_listed = local_then (Marked marks.Name) (λ xs ys. (n : ℕ) × Others n xs ys) (local_marked marks.Name) (local_some ℕ Others local_others)
+local_listed = local_list (Marked marks.Name) (local_marked marks.Name)
+
+-- ---- operators
+
+pub local_parameters : IsLocal Parameters
+local_parameters =
+    local_either nothing (Marked marks.OpenParenthesis ⨟ Places ⨟ Marked marks.CloseParenthesis) local_nothing
+    (local_then (Marked marks.OpenParenthesis) (Places ⨟ Marked marks.CloseParenthesis) (local_marked marks.OpenParenthesis)
+    (local_then Places (Marked marks.CloseParenthesis) (local_list (Marked marks.Underscore) (local_marked marks.Underscore)) (local_marked marks.CloseParenthesis)))
+
+pub local_one_operator : IsLocal OneOperator
+local_one_operator = local_then (Marked marks.Name) Parameters (local_marked marks.Name) local_parameters
+
+local_places : (n : ℕ) → IsLocal (PlacesText n)
+local_places zero = λ xs ys h. absurd h
+local_places (suc zero) = local_underscore
+local_places (suc (suc n)) =
+    local_then underscore (sign symbols.Comma ⨟ PlacesText (suc n)) local_underscore (local_then (sign symbols.Comma) (PlacesText (suc n)) (local_kind (kinds.Symbol symbols.Comma)) (local_places (suc n)))
+
+local_maybe_places : (n : ℕ) → IsLocal (MaybePlaces n)
+local_maybe_places zero = local_nothing
+local_maybe_places (suc n) =
+    local_then (sign symbols.OpenParenthesis) (PlacesText (suc n) ⨟ sign symbols.CloseParenthesis) (local_kind (kinds.Symbol symbols.OpenParenthesis))
+    (local_then (PlacesText (suc n)) (sign symbols.CloseParenthesis) (local_places (suc n)) (local_kind (kinds.Symbol symbols.CloseParenthesis)))
+
+local_operator : (d : DeclaredOperator) → IsLocal (DeclaredOperatorText d)
+local_operator d = local_then (token d.at (kinds.Name d.name)) (MaybePlaces d.parameters) (local_token d.at (kinds.Name d.name)) (local_maybe_places d.parameters)
+
+pub local_operators : (ds : List DeclaredOperator) → IsLocal (DeclaredOperatorsText ds)
+local_operators [] = λ xs ys h. absurd h
+local_operators (d ∷ []) = local_operator d
+local_operators (d ∷ e ∷ ds) =
+    local_then (DeclaredOperatorText d) (sign symbols.Comma ⨟ DeclaredOperatorsText (e ∷ ds)) (local_operator d)
+    (local_then (sign symbols.Comma) (DeclaredOperatorsText (e ∷ ds)) (local_kind (kinds.Symbol symbols.Comma)) (local_operators (e ∷ ds)))
+
+-- ---- titles and what is extended
 
 pub local_title : IsLocal Title
 local_title = local_then (Marked marks.Name) (Marked marks.Defined) (local_marked marks.Name) (local_marked marks.Defined)
@@ -151,8 +201,11 @@ local_variables ds = local_then variable_word (DeclaredNamesText ds) local_varia
 pub local_constants : (ds : List Declared) → IsLocal (UnitText (units.Constants ds))
 local_constants ds = local_then constant_word (DeclaredNamesText ds) local_constant (local_declared ds)
 
+pub local_recursive : (ds : List DeclaredOperator) → IsLocal (UnitText (units.Recursive ds))
+local_recursive ds = λ xs ys h. absurd h
+
 pub local_definition : LocalDefinition → (d : UnitDefinition) → IsLocal (UnitText (units.Define d))
-local_definition local d xs ys h = let p = local d.name d.at d.params d.body xs ys h in record { text = p.0; whole = p.1; anywhere = p.2 }
+local_definition local d xs ys h = let p = local d.name d.at d.params d.form d.body xs ys h in record { text = p.0; whole = p.1; anywhere = p.2 }
 
 pub local_assumption : LocalText → (e : Tree) → IsLocal (UnitText (units.Assume e))
 local_assumption local e = local_then assume_word (MaybeTitle ⨟ Text e) local_assume (local_then MaybeTitle (Text e) local_maybe_title (local_text local e))

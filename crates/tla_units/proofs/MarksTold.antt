@@ -9,11 +9,13 @@ use Rattle.tla_tokens.specs.declared.token.Word.{Word}
 use Rattle.tla_tokens.specs.declared.token.Word.TheVariants as words
 use Rattle.tla_tokens.specs.declared.token.Symbol.{Symbol}
 use Rattle.tla_tokens.specs.declared.token.Symbol.TheVariants as symbols
+use Rattle.tla_tokens.specs.declared.token.Foreign.{Foreign}
+use Rattle.tla_tokens.specs.declared.token.Foreign.TheVariants as foreign
 use Rattle.tla_tokens.specs.declared.token.Token.{Token as LaidToken}
 use Rattle.reader_model.specs.LawsOfTrees.{EndsText}
 use Rattle.std.specs.Option.{IfSome}
 use Rattle.tla_exprs.specs.Refused.{IsRefusedAt}
-use Rattle.tla_units.specs.Marks.{word_mark, symbol_mark, kind_mark, mark_of, first_mark}
+use Rattle.tla_units.specs.Marks.{word_mark, symbol_mark, foreign_mark, kind_mark, mark_of, first_mark}
 use Rattle.tla_exprs.specs.declared.fault.ParseFault.{ParseFault}
 use Rattle.tla_units.specs.Reads.{Misses}
 use Rattle.tla_units.specs.Rests.{Marked}
@@ -47,8 +49,16 @@ word_tells _ = tt
 symbol_tells : (s : Symbol) → Tells (symbol_mark s) (kinds.Symbol s)
 unfolding symbol_mark
 symbol_tells symbols.Comma = refl
+symbol_tells symbols.OpenParenthesis = refl
+symbol_tells symbols.CloseParenthesis = refl
 symbol_tells symbols.Defined = refl
 symbol_tells _ = tt
+
+foreign_tells : (f : Foreign) → Tells (foreign_mark f) (kinds.Foreign f)
+unfolding foreign_mark
+foreign_tells foreign.Recursive = refl
+foreign_tells foreign.Underscore = refl
+foreign_tells _ = tt
 
 pub kind_tells : (k : Kind) → Tells (kind_mark k) k
 unfolding kind_mark
@@ -57,6 +67,7 @@ kind_tells kinds.Dashes = refl
 kind_tells kinds.Equals = refl
 kind_tells (kinds.Word w) = word_tells w
 kind_tells (kinds.Symbol s) = symbol_tells s
+kind_tells (kinds.Foreign f) = foreign_tells f
 kind_tells _ = tt
 
 -- a laid token of a mark
@@ -84,6 +95,10 @@ told m x e = subst (λ v. TellsLaid v x) e (tells x)
 -- a mark of a token that begins a unit, or of equals signs
 abbrev pub BeginsUnit : Mark → Type 0
 BeginsUnit marks.Comma = ⊥
+BeginsUnit marks.OpenParenthesis = ⊥
+BeginsUnit marks.CloseParenthesis = ⊥
+BeginsUnit marks.Underscore = ⊥
+BeginsUnit marks.Recursive = ⊥
 BeginsUnit marks.Defined = ⊥
 BeginsUnit marks.Extends = ⊥
 BeginsUnit marks.Heading = ⊥
@@ -92,20 +107,34 @@ BeginsUnit _ = Unit {0}
 abbrev EndsIf : Option Mark → Laid → Type 0
 EndsIf None x = Unit {0}
 EndsIf (Some marks.Comma) x = Unit {0}
+EndsIf (Some marks.OpenParenthesis) x = Unit {0}
+EndsIf (Some marks.CloseParenthesis) x = Unit {0}
 EndsIf (Some marks.Defined) x = Unit {0}
 EndsIf (Some _) x = EndsText x
 
 word_ends : (m : Option Mark) (w : Word) (p : Place) → EndsIf m (Plain (record { kind = kinds.Word w; place = p }))
 word_ends None w p = tt
 word_ends (Some marks.Comma) w p = tt
+word_ends (Some marks.OpenParenthesis) w p = tt
+word_ends (Some marks.CloseParenthesis) w p = tt
 word_ends (Some marks.Defined) w p = tt
 word_ends (Some _) w p = tt
 
 symbol_ends : (s : Symbol) (p : Place) → EndsIf (symbol_mark s) (Plain (record { kind = kinds.Symbol s; place = p }))
 unfolding symbol_mark
 symbol_ends symbols.Comma p = tt
+symbol_ends symbols.OpenParenthesis p = tt
+symbol_ends symbols.CloseParenthesis p = tt
 symbol_ends symbols.Defined p = tt
 symbol_ends _ p = tt
+
+foreign_ends : (m : Option Mark) (f : Foreign) (p : Place) → EndsIf m (Plain (record { kind = kinds.Foreign f; place = p }))
+foreign_ends None f p = tt
+foreign_ends (Some marks.Comma) f p = tt
+foreign_ends (Some marks.OpenParenthesis) f p = tt
+foreign_ends (Some marks.CloseParenthesis) f p = tt
+foreign_ends (Some marks.Defined) f p = tt
+foreign_ends (Some _) f p = tt
 
 kind_ends : (k : Kind) (p : Place) → EndsIf (kind_mark k) (Plain (record { kind = k; place = p }))
 unfolding kind_mark
@@ -114,6 +143,7 @@ kind_ends kinds.Dashes p = tt
 kind_ends kinds.Equals p = tt
 kind_ends (kinds.Word w) p = word_ends (word_mark w) w p
 kind_ends (kinds.Symbol s) p = symbol_ends s p
+kind_ends (kinds.Foreign f) p = foreign_ends (foreign_mark f) f p
 kind_ends _ p = tt
 
 laid_ends : (x : Laid) → EndsIf (mark_of x) x
@@ -125,6 +155,9 @@ laid_ends (ListClose at) = tt
 
 ends_if : (m : Mark) (x : Laid) → BeginsUnit m → EndsIf (Some m) x → EndsText x
 ends_if marks.Comma x b h = absurd b
+ends_if marks.OpenParenthesis x b h = absurd b
+ends_if marks.CloseParenthesis x b h = absurd b
+ends_if marks.Underscore x b h = absurd b
 ends_if marks.Defined x b h = absurd b
 ends_if marks.Extends x b h = absurd b
 ends_if marks.Heading x b h = absurd b
@@ -133,6 +166,7 @@ ends_if marks.Dashes x b h = h
 ends_if marks.Equals x b h = h
 ends_if marks.Variables x b h = h
 ends_if marks.Constants x b h = h
+ends_if marks.Recursive x b h = absurd b
 ends_if marks.Assume x b h = h
 ends_if marks.Theorem x b h = h
 
@@ -153,25 +187,33 @@ kind_with marks.Name = kinds.Name []
 kind_with marks.Dashes = kinds.Dashes
 kind_with marks.Equals = kinds.Equals
 kind_with marks.Comma = kinds.Symbol symbols.Comma
+kind_with marks.OpenParenthesis = kinds.Symbol symbols.OpenParenthesis
+kind_with marks.CloseParenthesis = kinds.Symbol symbols.CloseParenthesis
+kind_with marks.Underscore = kinds.Foreign foreign.Underscore
 kind_with marks.Defined = kinds.Symbol symbols.Defined
 kind_with marks.Heading = kinds.Word words.Module
 kind_with marks.Extends = kinds.Word words.Extends
 kind_with marks.Variables = kinds.Word words.Variable
 kind_with marks.Constants = kinds.Word words.Constant
+kind_with marks.Recursive = kinds.Foreign foreign.Recursive
 kind_with marks.Assume = kinds.Word words.Assume
 kind_with marks.Theorem = kinds.Word words.Theorem
 
 pub has_mark : (m : Mark) → mark_of (plain (kind_with m)) ≡ Some m
-unfolding mark_of kind_mark word_mark symbol_mark
+unfolding mark_of kind_mark word_mark symbol_mark foreign_mark
 has_mark marks.Name = refl
 has_mark marks.Dashes = refl
 has_mark marks.Equals = refl
 has_mark marks.Comma = refl
+has_mark marks.OpenParenthesis = refl
+has_mark marks.CloseParenthesis = refl
+has_mark marks.Underscore = refl
 has_mark marks.Defined = refl
 has_mark marks.Heading = refl
 has_mark marks.Extends = refl
 has_mark marks.Variables = refl
 has_mark marks.Constants = refl
+has_mark marks.Recursive = refl
 has_mark marks.Assume = refl
 has_mark marks.Theorem = refl
 

@@ -13,14 +13,14 @@ use Rattle.tla_units.specs.declared.marks.Mark.TheVariants as marks
 use Rattle.tla_units.proofs.Leading.{leads_on, refused_on, stay}
 use Rattle.tla_units.proofs.Locals.{before_any, local_then, local_marked, local_listed}
 use Rattle.tla_units.proofs.MarksTold.{plain, kind_with, has_mark}
-use Rattle.tla_units.proofs.RestSteps.{Avoids, misses_refused, leads_part, first_name, comma_leads, one_more, names_end, no_token}
+use Rattle.tla_units.proofs.RestSteps.{Avoids, misses_refused, leads_part, first_name, comma_leads, one_more, parts_end, no_token}
 use Rattle.tla_units.proofs.TailSteps.{tail_avoids, last_tokens, some_tail}
 
 -- a token of a mark begins such a rest
 pub marked_begun : (m : Mark) (T : Rest) (fit : Bool) (ws : List Laid) → T fit ws → BegunBy (Marked m ▹ T) fit []
 marked_begun m T fit ws t = (plain (kind_with m) ∷ ws, (ws, (has_mark m, refl), t))
 
-no_comma : Avoids marks.Comma Tail
+pub no_comma : Avoids marks.Comma Tail
 no_comma = tail_avoids marks.Comma (λ b. b)
 
 others_begun : (fit : Bool) → BegunBy (Marked marks.Name ▹ SomeOthers ▹ Tail) fit []
@@ -31,10 +31,10 @@ others_begun fit = marked_begun marks.Name (SomeOthers ▹ Tail) fit last_tokens
 pub list_first : (xs ys : List Laid) → Marked marks.Name xs ys → Leads (Listed ▹ Tail) (SomeOthers ▹ Tail) xs ys
 list_first xs ys h = first_name Tail xs ys h
 
-abbrev some_name : Laid
+abbrev pub some_name : Laid
 some_name = plain (kind_with marks.Name)
 
-is_some_name : (ws : List Laid) → Marked marks.Name (some_name ∷ ws) ws
+pub is_some_name : (ws : List Laid) → Marked marks.Name (some_name ∷ ws) ws
 is_some_name ws = (has_mark marks.Name, refl)
 
 -- a list of names begins with no token
@@ -67,12 +67,12 @@ comma_begun ws xs ys text h c e l q =
 
 pub list_more_refused : (ws xs ys : List Laid) (e : ParseFault) → Listed ws xs → Leads (Listed ▹ Tail) (SomeOthers ▹ Tail) ws xs → Marked marks.Comma xs ys → Misses marks.Name ys e → RefusedIn (Listed ▹ Tail) NeverDeep (Begins Listed) ws e
 list_more_refused ws xs ys e listed h c m =
-    let there : Leads (Listed ▹ Tail) (Marked marks.Name ▹ SomeOthers ▹ Tail) ws ys = leads_on (Listed ▹ Tail) (SomeOthers ▹ Tail) (Marked marks.Name ▹ SomeOthers ▹ Tail) ws xs ys h (comma_leads Tail xs ys no_comma c) in
+    let there : Leads (Listed ▹ Tail) (Marked marks.Name ▹ SomeOthers ▹ Tail) ws ys = leads_on (Listed ▹ Tail) (SomeOthers ▹ Tail) (Marked marks.Name ▹ SomeOthers ▹ Tail) ws xs ys h (comma_leads (Marked marks.Name) Tail xs ys no_comma c) in
     let first : RefusedIn (Marked marks.Name ▹ SomeOthers ▹ Tail) NeverDeep (λ l. l ≡ []) ys e = misses_refused marks.Name (SomeOthers ▹ Tail) NeverDeep (λ l. l ≡ []) ys e refl others_begun m in
     refused_on (Listed ▹ Tail) (Marked marks.Name ▹ SomeOthers ▹ Tail) NeverDeep NeverDeep (Begins Listed) (λ l. l ≡ []) ws ys e there (λ p d. d) (comma_begun ws xs ys there.text listed c there.whole) first
 
 pub list_end : (ws xs : List Laid) → Leads (Listed ▹ Tail) (SomeOthers ▹ Tail) ws xs → Lacks marks.Comma xs → Leads (Listed ▹ Tail) Tail ws xs
-list_end ws xs h l = leads_on (Listed ▹ Tail) (SomeOthers ▹ Tail) Tail ws xs xs h (names_end Tail xs l)
+list_end ws xs h l = leads_on (Listed ▹ Tail) (SomeOthers ▹ Tail) Tail ws xs xs h (parts_end (Marked marks.Name) Tail xs l)
 
 -- ---- what is extended
 

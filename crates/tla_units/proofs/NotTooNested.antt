@@ -24,7 +24,7 @@ use Rattle.tla_units.specs.Refusals.{HeadingText, ShallowWholeModule, ShallowWho
 use Rattle.tla_units.specs.declared.marks.Mark.TheVariants as marks
 use Rattle.tla_units.proofs.DeepUnits.{deep_definition_form, deep_stated_form, no_deep_definition, no_deep_stated, stated_no_equals, unit_there}
 use Rattle.tla_units.proofs.Extents.{Parted, Same, Before, Behind, parted}
-use Rattle.tla_units.proofs.Locals.{IsLocal, before_any, joined, local_assumption, local_constants, local_definition, local_mark, local_nothing, local_passed, local_some_extends, local_then, local_variables}
+use Rattle.tla_units.proofs.Locals.{IsLocal, before_any, joined, local_assumption, local_constants, local_definition, local_mark, local_nothing, local_passed, local_recursive, local_some_extends, local_then, local_variables}
 use Rattle.tla_units.proofs.OneModuleParts.{extends_same}
 use Rattle.tla_units.proofs.OneModuleTokens.{OfDefinition, OfEquals, IsOfUnits, TextEnds, form_ends, form_of, some_behind, tail_of}
 use Rattle.tla_units.proofs.OneModuleUnits.{equals_no_unit}
@@ -55,6 +55,7 @@ heading_same xs ys zs h g a b =
 local_unit : LocalText → LocalDefinition → (u : ModuleUnit) → IsLocal (UnitText u)
 local_unit text defined (units.Variables ds) = local_variables ds
 local_unit text defined (units.Constants ds) = local_constants ds
+local_unit text defined (units.Recursive ds) = local_recursive ds
 local_unit text defined (units.Define d) = local_definition defined d
 local_unit text defined (units.Assume e) = local_assumption text e
 local_unit text defined units.Passed = local_passed text

@@ -7,15 +7,17 @@ use Rattle.tla_tokens.specs.declared.token.Kind.{Kind}
 use Rattle.tla_tokens.specs.declared.token.Kind.TheVariants as kinds
 use Rattle.tla_tokens.specs.declared.token.Word.TheVariants as words
 use Rattle.tla_tokens.specs.declared.token.Symbol.TheVariants as symbols
+use Rattle.tla_tokens.specs.declared.token.Foreign.TheVariants as foreign
 use Rattle.tla_ast.specs.declared.module.Declared.{Declared}
+use Rattle.tla_ast.specs.declared.module.DeclaredOperator.{DeclaredOperator}
 use Rattle.tla_ast.specs.declared.module.Unit.{Unit as ModuleUnit}
 use Rattle.tla_ast.specs.declared.module.Unit.TheVariants as units
 use Rattle.tla_ast.specs.declared.module.Module.{Module}
 use Rattle.tla_ast.specs.Grammar.{Span, nothing, either, some_token, name, NamesText}
-use Rattle.tla_ast.specs.Modules.{SomeExpression, SomeText, DeclaredText, DeclaredNamesText, MaybeTitle, ExtendsText, UnitTextBy, UnitsTextBy, UnitFits, UnitsFit, ModuleTextBy}
+use Rattle.tla_ast.specs.Modules.{SomeExpression, SomeText, DeclaredText, DeclaredNamesText, PlacesText, MaybePlaces, DeclaredOperatorText, DeclaredOperatorsText, underscore, MaybeTitle, ExtendsText, UnitTextBy, UnitsTextBy, UnitFits, UnitsFit, ModuleTextBy}
 use Rattle.tla_units.specs.Marks.{mark_of}
 use Rattle.tla_units.specs.Parts.{MarkText, IsMark}
-use Rattle.tla_units.specs.Rests.{Marked, Others, Listed, Extended, Title, Titled, Expression, Definition, Behind, UnitPart, Last, UnitsLeft, Whole}
+use Rattle.tla_units.specs.Rests.{Marked, OthersOf, Others, Listed, Parameters, OneOperator, Operators, Extended, Title, Titled, Expression, Definition, Behind, UnitPart, Last, UnitsLeft, Whole}
 use Rattle.tla_units.specs.declared.marks.Mark.{Mark}
 use Rattle.tla_units.specs.declared.marks.Mark.TheVariants as marks
 use Rattle.tla_units.proofs.MarksTold.{told}
@@ -30,6 +32,9 @@ text_of marks.Name t x xs ys e h w = (h.0, of_kind (kinds.Name h.0) t x xs ys e 
 text_of marks.Dashes t x xs ys e h w = of_kind kinds.Dashes t x xs ys e h w
 text_of marks.Equals t x xs ys e h w = of_kind kinds.Equals t x xs ys e h w
 text_of marks.Comma t x xs ys e h w = of_kind (kinds.Symbol symbols.Comma) t x xs ys e h w
+text_of marks.OpenParenthesis t x xs ys e h w = of_kind (kinds.Symbol symbols.OpenParenthesis) t x xs ys e h w
+text_of marks.CloseParenthesis t x xs ys e h w = of_kind (kinds.Symbol symbols.CloseParenthesis) t x xs ys e h w
+text_of marks.Underscore t x xs ys e h w = of_kind (kinds.Foreign foreign.Underscore) t x xs ys e h w
 text_of marks.Defined t x xs ys e h w = of_kind (kinds.Symbol symbols.Defined) t x xs ys e h w
 text_of marks.Heading t x xs ys e h w = of_kind (kinds.Word words.Module) t x xs ys e h w
 text_of marks.Extends t x xs ys e h w = of_kind (kinds.Word words.Extends) t x xs ys e h w
@@ -37,6 +42,7 @@ text_of marks.Variables t x xs ys e (inl h) w = inl (of_kind (kinds.Word words.V
 text_of marks.Variables t x xs ys e (inr h) w = inr (of_kind (kinds.Word words.Variables) t x xs ys e h w)
 text_of marks.Constants t x xs ys e (inl h) w = inl (of_kind (kinds.Word words.Constant) t x xs ys e h w)
 text_of marks.Constants t x xs ys e (inr h) w = inr (of_kind (kinds.Word words.Constants) t x xs ys e h w)
+text_of marks.Recursive t x xs ys e h w = of_kind (kinds.Foreign foreign.Recursive) t x xs ys e h w
 text_of marks.Assume t x xs ys e (inl h) w = inl (of_kind (kinds.Word words.Assume) t x xs ys e h w)
 text_of marks.Assume t x xs ys e (inr (inl h)) w = inr (inl (of_kind (kinds.Word words.Assumption) t x xs ys e h w))
 text_of marks.Assume t x xs ys e (inr (inr h)) w = inr (inr (of_kind (kinds.Word words.Axiom) t x xs ys e h w))
@@ -77,6 +83,35 @@ declared_names_of (suc n) xs ws ys h o =
 pub listed_of : (xs ys : List Laid) → Listed xs ys → (ds : List Declared) × DeclaredNamesText ds xs ys
 listed_of xs ys h = let r = declared_names_of h.2.0 xs h.0 ys h.1 h.2.1 in (r.0 ∷ r.1, r.2)
 
+-- ---- operators
+
+places_of : (n : ℕ) (xs ws ys : List Laid) → Marked marks.Underscore xs ws → OthersOf (Marked marks.Underscore) n ws ys → PlacesText (suc n) xs ys
+places_of zero xs ws ys h o = subst (λ v. underscore xs v) o (marked_text marks.Underscore xs ws h)
+places_of (suc n) xs ws ys h o = (ws, marked_text marks.Underscore xs ws h, (o.0, marked_text marks.Comma ws o.0 o.1, places_of n o.0 o.2.0 ys o.2.1 o.2.2))
+
+parameters_of : (xs ys : List Laid) → Parameters xs ys → (n : ℕ) × MaybePlaces n xs ys
+parameters_of xs ys (inl q) = (zero, q)
+parameters_of xs ys (inr h) =
+    let p = h.2.1 in
+    let places : PlacesText (suc p.2.0) h.0 h.2.0 = places_of p.2.0 h.0 p.0 h.2.0 p.1 p.2.1 in
+    (suc p.2.0, (h.0, marked_text marks.OpenParenthesis xs h.0 h.1, (h.2.0, places, marked_text marks.CloseParenthesis h.2.0 ys h.2.2)))
+
+operator_of : (xs ys : List Laid) → OneOperator xs ys → (d : DeclaredOperator) × DeclaredOperatorText d xs ys
+operator_of xs ys h =
+    let t = marked_text marks.Name xs h.0 h.1 in
+    let p = parameters_of h.0 ys h.2 in
+    (record { name = t.0; at = t.1.0; parameters = p.0 }, (h.0, t.1.1, p.1))
+
+operators_in : (n : ℕ) (xs ws ys : List Laid) → OneOperator xs ws → OthersOf OneOperator n ws ys → (d : DeclaredOperator) × (ds : List DeclaredOperator) × DeclaredOperatorsText (d ∷ ds) xs ys
+operators_in zero xs ws ys h o = let t = operator_of xs ws h in (t.0, [], subst (DeclaredOperatorText t.0 xs) o t.1)
+operators_in (suc n) xs ws ys h o =
+    let t = operator_of xs ws h in
+    let r = operators_in n o.0 o.2.0 ys o.2.1 o.2.2 in
+    (t.0, r.0 ∷ r.1, (ws, t.1, (o.0, marked_text marks.Comma ws o.0 o.1, r.2)))
+
+pub operators_of : (xs ys : List Laid) → Operators xs ys → (ds : List DeclaredOperator) × DeclaredOperatorsText ds xs ys
+operators_of xs ys h = let r = operators_in h.2.0 xs h.0 ys h.1 h.2.1 in (r.0 ∷ r.1, r.2)
+
 -- ---- units
 
 -- the grammar of what stands behind the title of a theorem
@@ -115,8 +150,8 @@ stated_of : (fit : Bool) (x : Laid) (xs ys : List Laid) → mark_of x ≡ Some m
 stated_of fit x xs ys e h = (units.Passed, inr (xs, marked_text marks.Theorem (x ∷ xs) xs (e, refl), (h.0, title_of xs h.0 h.1, some_of fit h.0 ys h.2)), no_fits fit units.Passed tt)
 
 defined_of : (fit : Bool) (xs ys : List Laid) → Definition fit xs ys → SomeUnit fit xs ys
-defined_of true xs ys h = (units.Define (record { name = h.0; at = h.1; params = h.2; body = h.3 }), h.4, h.5)
-defined_of false xs ys h = (units.Define (record { name = h.0; at = h.1; params = h.2; body = h.3 }), h.4, tt)
+defined_of true xs ys h = (units.Define (record { name = h.0; at = h.1; params = h.2; form = h.3; body = h.4 }), h.5, h.6)
+defined_of false xs ys h = (units.Define (record { name = h.0; at = h.1; params = h.2; form = h.3; body = h.4 }), h.5, tt)
 
 unit_by : (fit : Bool) (o : Option Mark) (x : Laid) (xs ys : List Laid) → mark_of x ≡ o → Behind fit o x xs ys → SomeUnit fit (x ∷ xs) ys
 unit_by fit (Some marks.Variables) x xs ys e h = let r = listed_of xs ys h in (units.Variables r.0, (xs, marked_text marks.Variables (x ∷ xs) xs (e, refl), r.1), no_fits fit (units.Variables r.0) tt)

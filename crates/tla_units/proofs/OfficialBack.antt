@@ -3,15 +3,16 @@ use Rattle.std.proofs.Common.{◌≡◌, ℕ, zero, suc, Bool, true, false, List
 use Rattle.tla_ast.specs.declared.laid.Laid.{Laid}
 use Rattle.tla_ast.specs.declared.expr.Definition.{Definition as UnitDefinition}
 use Rattle.tla_ast.specs.declared.module.Declared.{Declared}
+use Rattle.tla_ast.specs.declared.module.DeclaredOperator.{DeclaredOperator}
 use Rattle.tla_ast.specs.declared.module.Unit.{Unit as ModuleUnit}
 use Rattle.tla_ast.specs.declared.module.Unit.TheVariants as units
 use Rattle.tla_ast.specs.declared.module.Module.{Module}
 use Rattle.tla_ast.specs.Trees.{Tree}
-use Rattle.tla_ast.specs.Grammar.{nothing, either, NamesText}
-use Rattle.tla_ast.specs.Modules.{DeclaredNamesText, MaybeTitle, ExtendsText, UnitTextBy, UnitsTextBy, ModuleTextBy}
-use Rattle.tla_units.specs.Marks.{mark_of, kind_mark, word_mark, symbol_mark}
+use Rattle.tla_ast.specs.Grammar.{Span, nothing, either, NamesText}
+use Rattle.tla_ast.specs.Modules.{DeclaredNamesText, PlacesText, MaybePlaces, DeclaredOperatorText, DeclaredOperatorsText, MaybeTitle, ExtendsText, UnitTextBy, UnitsTextBy, ModuleTextBy}
+use Rattle.tla_units.specs.Marks.{mark_of, kind_mark, word_mark, symbol_mark, foreign_mark}
 use Rattle.tla_units.specs.Parts.{MarkText}
-use Rattle.tla_units.specs.Rests.{Marked, Others, Listed, Extended, Title, FitsIf, Expression, Behind, UnitPart, Last, Tail, Whole}
+use Rattle.tla_units.specs.Rests.{Marked, ListOf, Others, Listed, Places, Parameters, OneOperator, Operators, Extended, Title, FitsIf, Expression, Behind, UnitPart, Last, Tail, Whole}
 use Rattle.tla_units.specs.declared.marks.Mark.{Mark}
 use Rattle.tla_units.specs.declared.marks.Mark.TheVariants as marks
 use Rattle.tla_units.proofs.Official.{some_by, UnitFitsIf, UnitsFitIf}
@@ -23,11 +24,14 @@ set : (m : Mark) (x : Laid) (xs ys : List Laid) → xs ≡ x ∷ ys → mark_of 
 set m x xs ys e q = subst (λ v. Marked m v ys) (sym e) (q, refl)
 
 of_mark : (m : Mark) (xs ys : List Laid) → MarkText m xs ys → Marked m xs ys
-unfolding mark_of kind_mark word_mark symbol_mark
+unfolding mark_of kind_mark word_mark symbol_mark foreign_mark
 of_mark marks.Name xs ys h = set marks.Name _ xs ys h.1.1 refl
 of_mark marks.Dashes xs ys h = set marks.Dashes _ xs ys h.1 refl
 of_mark marks.Equals xs ys h = set marks.Equals _ xs ys h.1 refl
 of_mark marks.Comma xs ys h = set marks.Comma _ xs ys h.1 refl
+of_mark marks.OpenParenthesis xs ys h = set marks.OpenParenthesis _ xs ys h.1 refl
+of_mark marks.CloseParenthesis xs ys h = set marks.CloseParenthesis _ xs ys h.1 refl
+of_mark marks.Underscore xs ys h = set marks.Underscore _ xs ys h.1 refl
 of_mark marks.Defined xs ys h = set marks.Defined _ xs ys h.1 refl
 of_mark marks.Heading xs ys h = set marks.Heading _ xs ys h.1 refl
 of_mark marks.Extends xs ys h = set marks.Extends _ xs ys h.1 refl
@@ -35,6 +39,7 @@ of_mark marks.Variables xs ys (inl h) = set marks.Variables _ xs ys h.1 refl
 of_mark marks.Variables xs ys (inr h) = set marks.Variables _ xs ys h.1 refl
 of_mark marks.Constants xs ys (inl h) = set marks.Constants _ xs ys h.1 refl
 of_mark marks.Constants xs ys (inr h) = set marks.Constants _ xs ys h.1 refl
+of_mark marks.Recursive xs ys h = set marks.Recursive _ xs ys h.1 refl
 of_mark marks.Assume xs ys (inl h) = set marks.Assume _ xs ys h.1 refl
 of_mark marks.Assume xs ys (inr (inl h)) = set marks.Assume _ xs ys h.1 refl
 of_mark marks.Assume xs ys (inr (inr h)) = set marks.Assume _ xs ys h.1 refl
@@ -66,6 +71,29 @@ extends_from : (ns : List (List ℕ)) (xs ys : List Laid) → ExtendsText ns xs 
 extends_from [] xs ys h = inl h
 extends_from (n ∷ ns) xs ys h = inr (h.0, of_mark marks.Extends xs h.0 h.1, listed_from (n ∷ ns) h.0 ys h.2)
 
+-- ---- operators
+
+one_more_before : (R : Span) (xs ws vs ys : List Laid) → R xs ws → Marked marks.Comma ws vs → ListOf R vs ys → ListOf R xs ys
+one_more_before R xs ws vs ys a c r = (ws, a, (suc r.2.0, (vs, c, (r.0, r.1, r.2.1))))
+
+pub places_from : (n : ℕ) (xs ys : List Laid) → PlacesText n xs ys → Places xs ys
+places_from zero xs ys h = absurd h
+places_from (suc zero) xs ys h = (ys, of_mark marks.Underscore xs ys h, (zero, refl))
+places_from (suc (suc n)) xs ys h =
+    one_more_before (Marked marks.Underscore) xs h.0 h.2.0 ys (of_mark marks.Underscore xs h.0 h.1) (of_mark marks.Comma h.0 h.2.0 h.2.1) (places_from (suc n) h.2.0 ys h.2.2)
+
+parameters_from : (n : ℕ) (xs ys : List Laid) → MaybePlaces n xs ys → Parameters xs ys
+parameters_from zero xs ys h = inl h
+parameters_from (suc n) xs ys h = inr (h.0, of_mark marks.OpenParenthesis xs h.0 h.1, (h.2.0, places_from (suc n) h.0 h.2.0 h.2.1, of_mark marks.CloseParenthesis h.2.0 ys h.2.2))
+
+operator_from : (d : DeclaredOperator) (xs ys : List Laid) → DeclaredOperatorText d xs ys → OneOperator xs ys
+operator_from d xs ys h = (h.0, of_mark marks.Name xs h.0 (d.name, (d.at, h.1)), parameters_from d.parameters h.0 ys h.2)
+
+pub operators_from : (ds : List DeclaredOperator) (xs ys : List Laid) → DeclaredOperatorsText ds xs ys → Operators xs ys
+operators_from [] xs ys h = absurd h
+operators_from (d ∷ []) xs ys h = (ys, operator_from d xs ys h, (zero, refl))
+operators_from (d ∷ e ∷ ds) xs ys h = one_more_before OneOperator xs h.0 h.2.0 ys (operator_from d xs h.0 h.1) (of_mark marks.Comma h.0 h.2.0 h.2.1) (operators_from (e ∷ ds) h.2.0 ys h.2.2)
+
 -- ---- units
 
 unit_from : (m : Mark) (fit : Bool) (xs ws ys : List Laid) → Marked m xs ws → ((x : Laid) → Behind fit (Some m) x ws ys) → UnitPart fit xs ys
@@ -95,7 +123,8 @@ passed_from fit xs ys (inr h) = unit_from marks.Theorem fit xs h.0 ys (of_mark m
 part_from : (u : ModuleUnit) (fit : Bool) (xs ys : List Laid) → UnitTextBy (some_by fit) u xs ys → UnitFitsIf fit u → UnitPart fit xs ys
 part_from (units.Variables ds) fit xs ys h f = unit_from marks.Variables fit xs h.0 ys (of_mark marks.Variables xs h.0 h.1) (λ x. declared_from ds h.0 ys h.2)
 part_from (units.Constants ds) fit xs ys h f = unit_from marks.Constants fit xs h.0 ys (of_mark marks.Constants xs h.0 h.1) (λ x. declared_from ds h.0 ys h.2)
-part_from (units.Define d) fit xs ys h f = definition_part fit xs ys (d.name, d.at, d.params, d.body, h, fits_defined fit d f)
+part_from (units.Recursive ds) fit xs ys h f = absurd h
+part_from (units.Define d) fit xs ys h f = definition_part fit xs ys (d.name, d.at, d.params, d.form, d.body, h, fits_defined fit d f)
 part_from (units.Assume e) fit xs ys h f = unit_from marks.Assume fit xs h.0 ys (of_mark marks.Assume xs h.0 h.1) (λ x. (h.2.0, title_from h.0 h.2.0 h.2.1, (e, h.2.2, fits_assumed fit e f)))
 part_from units.Passed fit xs ys h f = passed_from fit xs ys h
 

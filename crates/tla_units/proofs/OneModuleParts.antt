@@ -1,19 +1,23 @@
 -- The parts of units: names, expressions, definitions and titles are told by their tokens, and so is where each ends.
-use Rattle.std.proofs.Common.{◌≡◌, ℕ, List, [], ◌∷◌, inl, inr, refl, sym, ap, subst, ◌∙◌}
+use Rattle.std.proofs.Common.{◌≡◌, ℕ, zero, suc, Bool, true, false, List, [], ◌∷◌, inl, inr, refl, sym, ap, subst, ◌∙◌}
 use Rattle.trace_base.specs.declared.place.Place.{Place}
+use Rattle.tla_ast.specs.declared.form.DefinitionForm.{DefinitionForm}
 use Rattle.tla_ast.specs.declared.laid.Laid.{Laid}
 use Rattle.tla_ast.specs.declared.laid.Laid.TheVariants.{Plain}
 use Rattle.tla_tokens.specs.declared.token.Kind.{Kind}
 use Rattle.tla_tokens.specs.declared.token.Kind.TheVariants as kinds
 use Rattle.tla_tokens.specs.declared.token.Word.TheVariants as words
+use Rattle.tla_tokens.specs.declared.token.Symbol.{Symbol}
 use Rattle.tla_tokens.specs.declared.token.Symbol.TheVariants as symbols
+use Rattle.tla_tokens.specs.declared.token.Foreign.TheVariants as foreign
 use Rattle.tla_ast.specs.declared.expr.Definition.{Definition}
 use Rattle.tla_ast.specs.declared.module.Declared.{Declared}
+use Rattle.tla_ast.specs.declared.module.DeclaredOperator.{DeclaredOperator}
 use Rattle.tla_ast.specs.Trees as tree
 use Rattle.tla_ast.specs.Trees.{Tree}
 use Rattle.tla_ast.specs.Grammar.{◌⨟◌, token, sign, name, NamesText, DefinitionRest}
 use Rattle.tla_ast.specs.Fits.{Fits, Spells}
-use Rattle.tla_ast.specs.Modules.{DeclaredText, DeclaredNamesText, MaybeTitle, ExtendsText}
+use Rattle.tla_ast.specs.Modules.{DeclaredText, DeclaredNamesText, PlacesText, MaybePlaces, DeclaredOperatorText, DeclaredOperatorsText, MaybeTitle, ExtendsText}
 use Rattle.reader_model.specs.declared.frame.Mode.TheVariants as mode
 use Rattle.reader_model.specs.Machine.{EndsAt, EndsDefinitionAt, run}
 use Rattle.reader_model.specs.LawsOfTrees.{SpelledRead, DefinitionRead}
@@ -89,6 +93,95 @@ declared_names_same (d ∷ c ∷ ds) (e ∷ f ∷ es) xs ys zs h g a b =
     let r = declared_names_same (c ∷ ds) (f ∷ es) h.2.0 ys zs h.2.2 (subst (λ v. DeclaredNamesText (f ∷ es) v zs) (sym q) g.2.2) a b in
     (ap (λ v. v ∷ c ∷ ds) p.0 ∙ ap (λ v. e ∷ v) r.0, r.1)
 
+-- ---- operators
+
+-- no list goes on there
+abbrev NoComma : List Laid → Type 0
+NoComma xs = (ys : List Laid) → sign symbols.Comma xs ys → ⊥
+
+-- no parameters stand there
+abbrev NoOpen : List Laid → Type 0
+NoOpen xs = (ys : List Laid) → sign symbols.OpenParenthesis xs ys → ⊥
+
+abbrev is_comma_symbol : Symbol → Bool
+is_comma_symbol symbols.Comma = true
+is_comma_symbol _ = false
+
+abbrev is_comma_kind : Kind → Bool
+is_comma_kind (kinds.Symbol s) = is_comma_symbol s
+is_comma_kind _ = false
+
+abbrev is_comma : List Laid → Bool
+is_comma (Plain t ∷ xs) = is_comma_kind t.kind
+is_comma _ = false
+
+comma_no_open : (xs ys zs : List Laid) → sign symbols.Comma xs ys → sign symbols.OpenParenthesis xs zs → ⊥
+comma_no_open xs ys zs h g = let q : true ≡ false = sym (ap is_comma h.1) ∙ ap is_comma g.1 in cc
+
+close_no_comma : (xs ys zs : List Laid) → sign symbols.CloseParenthesis xs ys → sign symbols.Comma xs zs → ⊥
+close_no_comma xs ys zs h g = let q : true ≡ false = sym (ap is_comma g.1) ∙ ap is_comma h.1 in cc
+
+no_open : (xs ys : List Laid) → TextEnds xs → sign symbols.OpenParenthesis xs ys → ⊥
+no_open xs ys a c = subst TextEnds c.1 a
+
+places_same : (n m : ℕ) (xs ys zs : List Laid) → PlacesText n xs ys → PlacesText m xs zs → NoComma ys → NoComma zs → (n ≡ m) × (ys ≡ zs)
+places_same zero m xs ys zs h g a b = absurd h
+places_same (suc n) zero xs ys zs h g a b = absurd g
+places_same (suc zero) (suc zero) xs ys zs h g a b = (refl, some_behind (kinds.Foreign foreign.Underscore) xs xs ys zs refl h g)
+places_same (suc zero) (suc (suc m)) xs ys zs h g a b =
+    let p : ys ≡ g.0 = some_behind (kinds.Foreign foreign.Underscore) xs xs ys g.0 refl h g.1 in
+    absurd (a g.2.0 (subst (λ v. sign symbols.Comma v g.2.0) (sym p) g.2.1))
+places_same (suc (suc n)) (suc zero) xs ys zs h g a b =
+    let p : zs ≡ h.0 = some_behind (kinds.Foreign foreign.Underscore) xs xs zs h.0 refl g h.1 in
+    absurd (b h.2.0 (subst (λ v. sign symbols.Comma v h.2.0) (sym p) h.2.1))
+places_same (suc (suc n)) (suc (suc m)) xs ys zs h g a b =
+    let p : h.0 ≡ g.0 = some_behind (kinds.Foreign foreign.Underscore) xs xs h.0 g.0 refl h.1 g.1 in
+    let q : h.2.0 ≡ g.2.0 = some_behind (kinds.Symbol symbols.Comma) h.0 g.0 h.2.0 g.2.0 p h.2.1 g.2.1 in
+    let r = places_same (suc n) (suc m) h.2.0 ys zs h.2.2 (subst (λ v. PlacesText (suc m) v zs) (sym q) g.2.2) a b in
+    (ap suc r.0, r.1)
+
+maybe_places_same : (n m : ℕ) (xs ys zs : List Laid) → MaybePlaces n xs ys → MaybePlaces m xs zs → NoOpen ys → NoOpen zs → (n ≡ m) × (ys ≡ zs)
+maybe_places_same zero zero xs ys zs h g a b = (refl, sym h ∙ g)
+maybe_places_same zero (suc m) xs ys zs h g a b = absurd (a g.0 (subst (λ v. sign symbols.OpenParenthesis v g.0) h g.1))
+maybe_places_same (suc n) zero xs ys zs h g a b = absurd (b h.0 (subst (λ v. sign symbols.OpenParenthesis v h.0) g h.1))
+maybe_places_same (suc n) (suc m) xs ys zs h g a b =
+    let q : h.0 ≡ g.0 = some_behind (kinds.Symbol symbols.OpenParenthesis) xs xs h.0 g.0 refl h.1 g.1 in
+    let r = places_same (suc n) (suc m) h.0 h.2.0 g.2.0 h.2.1 (subst (λ v. PlacesText (suc m) v g.2.0) (sym q) g.2.1) (λ vs c. close_no_comma h.2.0 ys vs h.2.2 c) (λ vs c. close_no_comma g.2.0 zs vs g.2.2 c) in
+    (r.0, some_behind (kinds.Symbol symbols.CloseParenthesis) h.2.0 g.2.0 ys zs r.1 h.2.2 g.2.2)
+
+same_operator : (d e : DeclaredOperator) → d.name ≡ e.name → d.at ≡ e.at → d.parameters ≡ e.parameters → d ≡ e
+same_operator d e n p k =
+    let named : List ℕ → DeclaredOperator = λ v. record { name = v; at = d.at; parameters = d.parameters } in
+    let placed : Place → DeclaredOperator = λ v. record { name = e.name; at = v; parameters = d.parameters } in
+    let given : ℕ → DeclaredOperator = λ v. record { name = e.name; at = e.at; parameters = v } in
+    ap named n ∙ ap placed p ∙ ap given k
+
+operator_same : (d e : DeclaredOperator) (xs ys zs : List Laid) → DeclaredOperatorText d xs ys → DeclaredOperatorText e xs zs → NoOpen ys → NoOpen zs → (d ≡ e) × (ys ≡ zs)
+operator_same d e xs ys zs h g a b =
+    let p = token_same d.name e.name d.at e.at xs xs h.0 g.0 refl h.1 g.1 in
+    let r = maybe_places_same d.parameters e.parameters h.0 ys zs h.2 (subst (λ v. MaybePlaces e.parameters v zs) (sym p.2) g.2) a b in
+    (same_operator d e p.0 p.1 r.0, r.1)
+
+pub operators_same : (ds es : List DeclaredOperator) (xs ys zs : List Laid) → DeclaredOperatorsText ds xs ys → DeclaredOperatorsText es xs zs → TextEnds ys → TextEnds zs → (ds ≡ es) × (ys ≡ zs)
+operators_same [] es xs ys zs h g a b = absurd h
+operators_same (d ∷ ds) [] xs ys zs h g a b = absurd g
+operators_same (d ∷ []) (e ∷ []) xs ys zs h g a b =
+    let p = operator_same d e xs ys zs h g (λ vs c. no_open ys vs a c) (λ vs c. no_open zs vs b c) in
+    (ap (λ v. v ∷ []) p.0, p.1)
+operators_same (d ∷ []) (e ∷ f ∷ es) xs ys zs h g a b =
+    let p = operator_same d e xs ys g.0 h g.1 (λ vs c. no_open ys vs a c) (λ vs c. comma_no_open g.0 g.2.0 vs g.2.1 c) in
+    absurd (no_comma g.0 g.2.0 (subst TextEnds p.1 a) g.2.1)
+operators_same (d ∷ c ∷ ds) (e ∷ []) xs ys zs h g a b =
+    let p = operator_same d e xs h.0 zs h.1 g (λ vs k. comma_no_open h.0 h.2.0 vs h.2.1 k) (λ vs k. no_open zs vs b k) in
+    absurd (no_comma h.0 h.2.0 (subst TextEnds (sym p.1) b) h.2.1)
+operators_same (d ∷ c ∷ ds) (e ∷ f ∷ es) xs ys zs h g a b =
+    let p = operator_same d e xs h.0 g.0 h.1 g.1 (λ vs k. comma_no_open h.0 h.2.0 vs h.2.1 k) (λ vs k. comma_no_open g.0 g.2.0 vs g.2.1 k) in
+    let q : h.2.0 ≡ g.2.0 = some_behind (kinds.Symbol symbols.Comma) h.0 g.0 h.2.0 g.2.0 p.1 h.2.1 g.2.1 in
+    let r = operators_same (c ∷ ds) (f ∷ es) h.2.0 ys zs h.2.2 (subst (λ v. DeclaredOperatorsText (f ∷ es) v zs) (sym q) g.2.2) a b in
+    (ap (λ v. v ∷ c ∷ ds) p.0 ∙ ap (λ v. e ∷ v) r.0, r.1)
+
+-- ---- what is extended
+
 -- the names of what is extended, before units
 pub extends_same : (ns ms : List (List ℕ)) (xs ys zs : List Laid) → ExtendsText ns xs ys → ExtendsText ms xs zs → IsOfUnits (form_of ys) → IsOfUnits (form_of zs) → (ns ≡ ms) × (ys ≡ zs)
 extends_same [] [] xs ys zs h g a b = (refl, sym h ∙ g)
@@ -139,25 +232,27 @@ titled_same read e f xs us vs ys zs (inr h) (inr g) s t a b =
 
 -- ---- definitions
 
-same_definition : (d e : Definition) (ys zs : List Laid) → EndsDefinitionAt d.name d.at d.params d.body ys ≡ EndsDefinitionAt e.name e.at e.params e.body zs → d ≡ e
+same_definition : (d e : Definition) (ys zs : List Laid) → EndsDefinitionAt d.name d.at d.params d.form d.body ys ≡ EndsDefinitionAt e.name e.at e.params e.form e.body zs → d ≡ e
 same_definition d e ys zs q =
     let n : d.name ≡ e.name = cc in
     let p : d.at ≡ e.at = cc in
     let ns : d.params ≡ e.params = cc in
+    let f : d.form ≡ e.form = cc in
     let b : d.body ≡ e.body = cc in
-    let named : List ℕ → Definition = λ v. record { name = v; at = d.at; params = d.params; body = d.body } in
-    let placed : Place → Definition = λ v. record { name = e.name; at = v; params = d.params; body = d.body } in
-    let given : List (List ℕ) → Definition = λ v. record { name = e.name; at = e.at; params = v; body = d.body } in
-    let whole : Tree → Definition = λ v. record { name = e.name; at = e.at; params = e.params; body = v } in
-    ap named n ∙ ap placed p ∙ ap given ns ∙ ap whole b
+    let named : List ℕ → Definition = λ v. record { name = v; at = d.at; params = d.params; form = d.form; body = d.body } in
+    let placed : Place → Definition = λ v. record { name = e.name; at = v; params = d.params; form = d.form; body = d.body } in
+    let given : List (List ℕ) → Definition = λ v. record { name = e.name; at = e.at; params = v; form = d.form; body = d.body } in
+    let formed : DefinitionForm → Definition = λ v. record { name = e.name; at = e.at; params = e.params; form = v; body = d.body } in
+    let whole : Tree → Definition = λ v. record { name = e.name; at = e.at; params = e.params; form = e.form; body = v } in
+    ap named n ∙ ap placed p ∙ ap given ns ∙ ap formed f ∙ ap whole b
 
-definition_behind : (n m : List ℕ) (p q : Place) (ns ms : List (List ℕ)) (e f : Tree) (ys zs : List Laid) → EndsDefinitionAt n p ns e ys ≡ EndsDefinitionAt m q ms f zs → ys ≡ zs
-definition_behind n m p q ns ms e f ys zs r = cc
+definition_behind : (n m : List ℕ) (p q : Place) (ns ms : List (List ℕ)) (s t : DefinitionForm) (e f : Tree) (ys zs : List Laid) → EndsDefinitionAt n p ns s e ys ≡ EndsDefinitionAt m q ms t f zs → ys ≡ zs
+definition_behind n m p q ns ms s t e f ys zs r = cc
 
-pub definition_same : DefinitionRead → (d e : Definition) (xs ys zs : List Laid) → (token d.at (kinds.Name d.name) ⨟ DefinitionRest d.params d.body) xs ys → (token e.at (kinds.Name e.name) ⨟ DefinitionRest e.params e.body) xs zs → Fits d.body → Fits e.body → TextEnds ys → TextEnds zs → (d ≡ e) × (ys ≡ zs)
+pub definition_same : DefinitionRead → (d e : Definition) (xs ys zs : List Laid) → (token d.at (kinds.Name d.name) ⨟ DefinitionRest d.params d.form d.body) xs ys → (token e.at (kinds.Name e.name) ⨟ DefinitionRest e.params e.form e.body) xs zs → Fits d.body → Fits e.body → TextEnds ys → TextEnds zs → (d ≡ e) × (ys ≡ zs)
 definition_same read d e xs [] zs h g f k a b = absurd a
 definition_same read d e xs (y ∷ ys) [] h g f k a b = absurd b
 definition_same read d e xs (y ∷ ys) (z ∷ zs) h g f k a b =
-    let q : EndsDefinitionAt d.name d.at d.params d.body (y ∷ ys) ≡ EndsDefinitionAt e.name e.at e.params e.body (z ∷ zs) =
-    sym (read xs ys y d.name d.at d.params d.body h f a) ∙ read xs zs z e.name e.at e.params e.body g k b in
-    (same_definition d e (y ∷ ys) (z ∷ zs) q, definition_behind d.name e.name d.at e.at d.params e.params d.body e.body (y ∷ ys) (z ∷ zs) q)
+    let q : EndsDefinitionAt d.name d.at d.params d.form d.body (y ∷ ys) ≡ EndsDefinitionAt e.name e.at e.params e.form e.body (z ∷ zs) =
+    sym (read xs ys y d.name d.at d.params d.form d.body h f a) ∙ read xs zs z e.name e.at e.params e.form e.body g k b in
+    (same_definition d e (y ∷ ys) (z ∷ zs) q, definition_behind d.name e.name d.at e.at d.params e.params d.form e.form d.body e.body (y ∷ ys) (z ∷ zs) q)

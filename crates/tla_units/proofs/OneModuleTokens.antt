@@ -6,6 +6,8 @@ use Rattle.tla_tokens.specs.declared.token.Kind.{Kind}
 use Rattle.tla_tokens.specs.declared.token.Kind.TheVariants as kinds
 use Rattle.tla_tokens.specs.declared.token.Word.{Word}
 use Rattle.tla_tokens.specs.declared.token.Word.TheVariants as words
+use Rattle.tla_tokens.specs.declared.token.Foreign.{Foreign}
+use Rattle.tla_tokens.specs.declared.token.Foreign.TheVariants as foreign
 use Rattle.tla_ast.specs.declared.module.Unit.{Unit as ModuleUnit}
 use Rattle.tla_ast.specs.declared.module.Unit.TheVariants as units
 use Rattle.tla_ast.specs.Grammar.{some_token}
@@ -17,6 +19,7 @@ use Rattle.reader_model.specs.LawsOfTrees.{EndsKind, EndsText}
 pub data Form : Type 0 where
   OfVariables : Form
   OfConstants : Form
+  OfRecursive : Form
   OfDefinition : Form
   OfAssumption : Form
   OfPassed : Form
@@ -39,9 +42,14 @@ word_form words.Corollary = OfPassed
 word_form words.Extends = OfExtends
 word_form _ = OfOther
 
+abbrev foreign_form : Foreign → Form
+foreign_form foreign.Recursive = OfRecursive
+foreign_form _ = OfOther
+
 abbrev kind_form : Kind → Form
 kind_form (kinds.Name n) = OfDefinition
 kind_form (kinds.Word w) = word_form w
+kind_form (kinds.Foreign f) = foreign_form f
 kind_form kinds.Dashes = OfPassed
 kind_form kinds.Equals = OfEquals
 kind_form _ = OfOther
@@ -53,6 +61,7 @@ form_of _ = OfOther
 abbrev pub unit_form : ModuleUnit → Form
 unit_form (units.Variables ds) = OfVariables
 unit_form (units.Constants ds) = OfConstants
+unit_form (units.Recursive ds) = OfRecursive
 unit_form (units.Define d) = OfDefinition
 unit_form (units.Assume e) = OfAssumption
 unit_form units.Passed = OfPassed
@@ -76,6 +85,7 @@ TextEnds (x ∷ xs) = EndsText x
 kind_ends : (k : Kind) → IsOfUnits (kind_form k) → EndsKind k
 kind_ends (kinds.Name n) h = tt
 kind_ends (kinds.Word w) h = tt
+kind_ends (kinds.Foreign f) h = tt
 kind_ends kinds.Dashes h = tt
 kind_ends kinds.Equals h = tt
 kind_ends kinds.End h = tt
@@ -116,6 +126,7 @@ passed_begins xs ys (inr h) = theorem_begins xs h.0 h.1
 pub unit_begins : (u : ModuleUnit) (xs ys : List Laid) → UnitText u xs ys → form_of xs ≡ unit_form u
 unit_begins (units.Variables ds) xs ys h = variable_begins xs h.0 h.1
 unit_begins (units.Constants ds) xs ys h = constant_begins xs h.0 h.1
+unit_begins (units.Recursive ds) xs ys h = absurd h
 unit_begins (units.Define d) xs ys h = ap form_of h.1
 unit_begins (units.Assume e) xs ys h = assume_begins xs h.0 h.1
 unit_begins units.Passed xs ys h = passed_begins xs ys h
@@ -127,6 +138,7 @@ units_begin (u ∷ us) xs ys h q = unit_begins u xs h.0 h.1
 pub form_of_unit : (u : ModuleUnit) → IsOfUnits (unit_form u)
 form_of_unit (units.Variables ds) = tt
 form_of_unit (units.Constants ds) = tt
+form_of_unit (units.Recursive ds) = tt
 form_of_unit (units.Define d) = tt
 form_of_unit (units.Assume e) = tt
 form_of_unit units.Passed = tt

@@ -43,6 +43,7 @@ passed_same read xs ys zs (inr h) (inr g) a b =
 unit_same : SpelledRead → DefinitionRead → (u v : ModuleUnit) (xs ys zs : List Laid) → UnitText u xs ys → UnitText v xs zs → UnitFits u → UnitFits v → TextEnds ys → TextEnds zs → (u ≡ v) × (ys ≡ zs)
 unit_same read defined (units.Variables ds) (units.Variables es) xs ys zs h g k l a b = variables_same ds es xs ys zs h g a b
 unit_same read defined (units.Constants ds) (units.Constants es) xs ys zs h g k l a b = constants_same ds es xs ys zs h g a b
+unit_same read defined (units.Recursive ds) (units.Recursive es) xs ys zs h g k l a b = absurd h
 unit_same read defined (units.Define d) (units.Define e) xs ys zs h g k l a b =
     let r = definition_same defined d e xs ys zs h g k l a b in
     (ap units.Define r.0, r.1)
@@ -53,6 +54,7 @@ unit_same read defined u v xs ys zs h g k l a b = absurd (let q : unit_form u �
 unit_no_equals : (u : ModuleUnit) → unit_form u ≡ OfEquals → ⊥
 unit_no_equals (units.Variables ds) q = cc
 unit_no_equals (units.Constants ds) q = cc
+unit_no_equals (units.Recursive ds) q = cc
 unit_no_equals (units.Define d) q = cc
 unit_no_equals (units.Assume e) q = cc
 unit_no_equals units.Passed q = cc

@@ -1,5 +1,5 @@
 -- Parts of the slice: one behind another, lists that grow at their end, and the units and the module that they make.
-use Rattle.std.specs.Prelude.{◌≡◌, ℕ, ◌+◌, ◌<◌, ◌≤◌, List, [], ◌∷◌, ◌++◌, drop, length, refl}
+use Rattle.std.specs.Prelude.{◌≡◌, ℕ, zero, suc, ◌+◌, ◌<◌, ◌≤◌, List, [], ◌∷◌, ◌++◌, drop, length, refl}
 use Rattle.std.proofs.Common.{sym, subst, inl, inr, arith}
 use Rattle.tla_ast.specs.declared.laid.Laid.{Laid}
 use Rattle.tla_tokens.specs.declared.token.Kind.TheVariants as kinds
@@ -7,12 +7,13 @@ use Rattle.tla_tokens.specs.declared.token.Word.TheVariants as words
 use Rattle.tla_tokens.specs.declared.token.Symbol.TheVariants as symbols
 use Rattle.tla_ast.specs.declared.expr.Definition.{Definition}
 use Rattle.tla_ast.specs.declared.module.Declared.{Declared}
+use Rattle.tla_ast.specs.declared.module.DeclaredOperator.{DeclaredOperator}
 use Rattle.tla_ast.specs.declared.module.Unit.{Unit as ModuleUnit}
 use Rattle.tla_ast.specs.declared.module.Unit.TheVariants as units
 use Rattle.tla_ast.specs.Trees.{Tree}
 use Rattle.tla_ast.specs.Grammar.{◌⨟◌, token, sign, word, name, some_token, NamesText, DefinitionRest}
 use Rattle.tla_ast.specs.Fits.{Spells}
-use Rattle.tla_ast.specs.Modules.{DeclaredText, DeclaredNamesText, UnitText, UnitsText, UnitFits, UnitsFit, MaybeTitle, ExtendsText, SpellsModule, variable_word, constant_word, assume_word, theorem_word}
+use Rattle.tla_ast.specs.Modules.{DeclaredText, DeclaredNamesText, PlacesText, MaybePlaces, DeclaredOperatorText, DeclaredOperatorsText, underscore, UnitText, UnitsText, UnitFits, UnitsFit, MaybeTitle, ExtendsText, SpellsModule, variable_word, constant_word, assume_word, theorem_word}
 use Rattle.tla_units.specs.Parts.{Part}
 use Rattle.tla_units.specs.Refusals.{ShallowWholeModule, ShallowWholeUnits}
 
@@ -27,6 +28,16 @@ more_names : (ns : List (List ℕ)) (n : List ℕ) (ws xs ys zs : List Laid) →
 more_names [] n ws xs ys zs h c t = absurd h
 more_names (e ∷ []) n ws xs ys zs h c t = (xs, h, (ys, c, t))
 more_names (e ∷ f ∷ ns) n ws xs ys zs h c t = (h.0, h.1, (h.2.0, h.2.1, more_names (f ∷ ns) n h.2.0 xs ys zs h.2.2 c t))
+
+more_places : (n : ℕ) (ws xs ys zs : List Laid) → PlacesText n ws xs → sign symbols.Comma xs ys → underscore ys zs → PlacesText (suc n) ws zs
+more_places zero ws xs ys zs h c t = absurd h
+more_places (suc zero) ws xs ys zs h c t = (xs, h, (ys, c, t))
+more_places (suc (suc n)) ws xs ys zs h c t = (h.0, h.1, (h.2.0, h.2.1, more_places (suc n) h.2.0 xs ys zs h.2.2 c t))
+
+more_operators : (ds : List DeclaredOperator) (d : DeclaredOperator) (ws xs ys zs : List Laid) → DeclaredOperatorsText ds ws xs → sign symbols.Comma xs ys → DeclaredOperatorText d ys zs → DeclaredOperatorsText (ds ++ d ∷ []) ws zs
+more_operators [] d ws xs ys zs h c t = absurd h
+more_operators (e ∷ []) d ws xs ys zs h c t = (xs, h, (ys, c, t))
+more_operators (e ∷ f ∷ ds) d ws xs ys zs h c t = (h.0, h.1, (h.2.0, h.2.1, more_operators (f ∷ ds) d h.2.0 xs ys zs h.2.2 c t))
 
 more_units : (us : List ModuleUnit) (u : ModuleUnit) (xs ys zs : List Laid) → UnitsText us xs ys → UnitText u ys zs → UnitsText (us ++ u ∷ []) xs zs
 more_units [] u xs ys zs h t = (zs, subst (λ x. UnitText u x zs) (sym h) t, refl)
@@ -58,6 +69,43 @@ one_more_name ns ms d xs a b c p q r e =
     subst (λ l. Part (NamesText l) xs a c) (sym e)
     (record { text = more_names ns d.name (drop a xs) (drop b xs) (drop (b + 1) xs) (drop c xs) p.text q.text (d.at, r.text); ahead = omega (arith, a_b, b_c); within = r.within })
 
+-- ---- operators
+
+pub one_place : (n : ℕ) (xs : List Laid) (a b : ℕ) → Part underscore xs a b → n ≡ 1 → Part (PlacesText n) xs a b
+one_place n xs a b p e = subst (λ k. Part (PlacesText k) xs a b) (sym e) (record { text = p.text; ahead = p.ahead; within = p.within })
+
+pub one_more_place : (n m : ℕ) (xs : List Laid) (a b c : ℕ) → Part (PlacesText n) xs a b → Part (sign symbols.Comma) xs b (b + 1) → Part underscore xs (b + 1) c → m ≡ n + 1 → Part (PlacesText m) xs a c
+one_more_place n m xs a b c p q r e =
+    let a_b : a < b = p.ahead in
+    let b_c : b + 1 < c = r.ahead in
+    let k : suc n ≡ m = omega (arith, e) in
+    subst (λ k. Part (PlacesText k) xs a c) k (record { text = more_places n (drop a xs) (drop b xs) (drop (b + 1) xs) (drop c xs) p.text q.text r.text; ahead = omega (arith, a_b, b_c); within = r.within })
+
+pub some_places : (n : ℕ) (xs : List Laid) (a b c d : ℕ) → Part (sign symbols.OpenParenthesis) xs a b → Part (PlacesText n) xs b c → Part (sign symbols.CloseParenthesis) xs c d → MaybePlaces n (drop a xs) (drop d xs)
+some_places zero xs a b c d o p k = absurd p.text
+some_places (suc n) xs a b c d o p k = (drop b xs, o.text, (drop c xs, p.text, k.text))
+
+pub named_operator : (name : Declared) (d : DeclaredOperator) (xs : List Laid) (a b c : ℕ) → Part (DeclaredText name) xs a b → MaybePlaces d.parameters (drop b xs) (drop c xs) → b ≤ c → c < length xs → d.name ≡ name.name → d.at ≡ name.at
+    → Part (DeclaredOperatorText d) xs a c
+named_operator name d xs a b c p h le within n at =
+    let a_b : a < b = p.ahead in
+    let named : token d.at (kinds.Name d.name) (drop a xs) (drop b xs) =
+    subst (λ v. token v (kinds.Name d.name) (drop a xs) (drop b xs)) (sym at) (subst (λ v. token name.at (kinds.Name v) (drop a xs) (drop b xs)) (sym n) p.text) in
+    record { text = (drop b xs, named, h); ahead = omega (arith, a_b, le); within = within }
+
+pub one_operator : (d : DeclaredOperator) (ds : List DeclaredOperator) (xs : List Laid) (a b : ℕ) → Part (DeclaredOperatorText d) xs a b → ds ≡ [] ++ d ∷ [] → Part (DeclaredOperatorsText ds) xs a b
+one_operator d ds xs a b p e = subst (λ l. Part (DeclaredOperatorsText l) xs a b) (sym e) (record { text = p.text; ahead = p.ahead; within = p.within })
+
+pub one_more_operator : (ds es : List DeclaredOperator) (d : DeclaredOperator) (xs : List Laid) (a b c : ℕ) → Part (DeclaredOperatorsText ds) xs a b → Part (sign symbols.Comma) xs b (b + 1) → Part (DeclaredOperatorText d) xs (b + 1) c → es ≡ ds ++ d ∷ []
+    → Part (DeclaredOperatorsText es) xs a c
+one_more_operator ds es d xs a b c p q r e =
+    let a_b : a < b = p.ahead in
+    let b_c : b + 1 < c = r.ahead in
+    subst (λ l. Part (DeclaredOperatorsText l) xs a c) (sym e)
+    (record { text = more_operators ds d (drop a xs) (drop b xs) (drop (b + 1) xs) (drop c xs) p.text q.text r.text; ahead = omega (arith, a_b, b_c); within = r.within })
+
+-- ---- what is extended
+
 pub some_extended : (ns : List (List ℕ)) (xs : List Laid) (a b : ℕ) → Part (word words.Extends) xs a (a + 1) → Part (NamesText ns) xs (a + 1) b → ExtendsText ns (drop a xs) (drop b xs)
 some_extended [] xs a b p q = absurd q.text
 some_extended (n ∷ ns) xs a b p q = (drop (a + 1) xs, p.text, q.text)
@@ -74,7 +122,7 @@ constants_unit ds xs a b p q =
     let a_b : a + 1 < b = q.ahead in
     record { text = (drop (a + 1) xs, p.text, q.text); ahead = omega (arith, a_b); within = q.within }
 
-pub define_unit : (d : Definition) (xs : List Laid) (a b : ℕ) → (token d.at (kinds.Name d.name) ⨟ DefinitionRest d.params d.body) (drop a xs) (drop b xs) → a < b → b < length xs → Part (UnitText (units.Define d)) xs a b
+pub define_unit : (d : Definition) (xs : List Laid) (a b : ℕ) → (token d.at (kinds.Name d.name) ⨟ DefinitionRest d.params d.form d.body) (drop a xs) (drop b xs) → a < b → b < length xs → Part (UnitText (units.Define d)) xs a b
 define_unit d xs a b h lt within = record { text = h; ahead = lt; within = within }
 
 pub assume_unit : (e : Tree) (xs : List Laid) (a s b : ℕ) → Part assume_word xs a (a + 1) → MaybeTitle (drop (a + 1) xs) (drop s xs) → a + 1 ≤ s → Spells e (drop s xs) (drop b xs) → s < b → b < length xs → Part (UnitText (units.Assume e)) xs a b

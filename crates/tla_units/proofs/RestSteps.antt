@@ -13,7 +13,7 @@ use Rattle.tla_exprs.specs.Refused.{IsRefusedAt, place_of, refusal_before, refus
 use Rattle.tla_exprs.specs.declared.fault.ParseFault.{ParseFault}
 use Rattle.tla_exprs.specs.declared.fault.ParseFault.TheVariants.{Expected, Conflict, TooNested, OutOfProfile, NoMemory}
 use Rattle.tla_units.specs.Marks.{mark_of, first_mark}
-use Rattle.tla_units.specs.Rests.{Rest, ◌▹◌, Marked, Others, SomeOthers, Listed}
+use Rattle.tla_units.specs.Rests.{Rest, ◌▹◌, Marked, OthersOf, SomeOthersOf, SomeOthers, Listed}
 use Rattle.tla_units.specs.Reads.{SameHead, Leads, Lacks, Misses, IsStopped, RefusedIn, BegunBy}
 use Rattle.tla_units.specs.declared.marks.Mark.{Mark}
 use Rattle.tla_units.specs.declared.marks.Mark.TheVariants as marks
@@ -104,7 +104,7 @@ leads_part R S T xs = record {
   comes = λ fit zs s t. (t.1.0, t.1.1, (t.0, t.1.2, t.2));
 }
 
--- ---- names
+-- ---- lists
 
 -- no rest of this kind begins with a token of this mark
 abbrev pub Avoids : Mark → Rest → Type 0
@@ -113,32 +113,35 @@ Avoids m T = (fit : Bool) (zs : List Laid) → T fit zs → Lacks m zs
 pub first_name : (T : Rest) (xs ys : List Laid) → Marked marks.Name xs ys → Leads (Listed ▹ T) (SomeOthers ▹ T) xs ys
 first_name T xs ys h = leads_on (Listed ▹ T) (Marked marks.Name ▹ SomeOthers ▹ T) (SomeOthers ▹ T) xs xs ys (leads_part (Marked marks.Name) SomeOthers T xs) (token_leads marks.Name (SomeOthers ▹ T) xs ys h)
 
-behind_comma : (T : Rest) (n : ℕ) (fit : Bool) (x : Laid) (zs ys : List Laid) → Avoids marks.Comma T → mark_of x ≡ Some marks.Comma → Others n (x ∷ zs) ys → T fit ys → (Marked marks.Name ▹ SomeOthers ▹ T) fit zs
-behind_comma T zero fit x zs ys avoids e o t = absurd (avoids fit ys t (subst (λ v. first_mark v ≡ Some marks.Comma) o e))
-behind_comma T (suc n) fit x zs ys avoids e o t = (o.2.0, subst (λ v. Marked marks.Name v o.2.0) (sym o.1.1) o.2.1, (ys, (n, o.2.2), t))
+behind_comma : (R : Span) (T : Rest) (n : ℕ) (fit : Bool) (x : Laid) (zs ys : List Laid) → Avoids marks.Comma T → mark_of x ≡ Some marks.Comma → OthersOf R n (x ∷ zs) ys → T fit ys → (R ▹ SomeOthersOf R ▹ T) fit zs
+behind_comma R T zero fit x zs ys avoids e o t = absurd (avoids fit ys t (subst (λ v. first_mark v ≡ Some marks.Comma) o e))
+behind_comma R T (suc n) fit x zs ys avoids e o t = (o.2.0, subst (λ v. R v o.2.0) (sym o.1.1) o.2.1, (ys, (n, o.2.2), t))
 
-pub comma_leads : (T : Rest) (xs ys : List Laid) → Avoids marks.Comma T → Marked marks.Comma xs ys → Leads (SomeOthers ▹ T) (Marked marks.Name ▹ SomeOthers ▹ T) xs ys
-comma_leads T [] ys avoids h = absurd h
-comma_leads T (x ∷ xs) ys avoids h = record {
+pub comma_leads : (R : Span) (T : Rest) (xs ys : List Laid) → Avoids marks.Comma T → Marked marks.Comma xs ys → Leads (SomeOthersOf R ▹ T) (R ▹ SomeOthersOf R ▹ T) xs ys
+comma_leads R T [] ys avoids h = absurd h
+comma_leads R T (x ∷ xs) ys avoids h = record {
   text = x ∷ [];
   whole = ap (λ v. x ∷ v) h.1;
   goes = λ fit zs u. (u.2.0, (suc u.2.1.0, (zs, (h.0, refl), (u.0, u.1, u.2.1.1))), u.2.2);
-  comes = λ fit zs s t. behind_comma T t.1.0 fit x zs t.0 avoids h.0 t.1.1 t.2;
+  comes = λ fit zs s t. behind_comma R T t.1.0 fit x zs t.0 avoids h.0 t.1.1 t.2;
 }
 
+pub one_more_part : (R : Span) (T : Rest) (xs ys zs : List Laid) → Avoids marks.Comma T → Marked marks.Comma xs ys → Leads (R ▹ SomeOthersOf R ▹ T) (SomeOthersOf R ▹ T) ys zs → Leads (SomeOthersOf R ▹ T) (SomeOthersOf R ▹ T) xs zs
+one_more_part R T xs ys zs avoids c part = leads_on (SomeOthersOf R ▹ T) (R ▹ SomeOthersOf R ▹ T) (SomeOthersOf R ▹ T) xs ys zs (comma_leads R T xs ys avoids c) part
+
 pub one_more : (T : Rest) (xs ys zs : List Laid) → Avoids marks.Comma T → Marked marks.Comma xs ys → Marked marks.Name ys zs → Leads (SomeOthers ▹ T) (SomeOthers ▹ T) xs zs
-one_more T xs ys zs avoids c n = leads_on (SomeOthers ▹ T) (Marked marks.Name ▹ SomeOthers ▹ T) (SomeOthers ▹ T) xs ys zs (comma_leads T xs ys avoids c) (token_leads marks.Name (SomeOthers ▹ T) ys zs n)
+one_more T xs ys zs avoids c n = one_more_part (Marked marks.Name) T xs ys zs avoids c (token_leads marks.Name (SomeOthers ▹ T) ys zs n)
 
-no_others : (T : Rest) (n : ℕ) (fit : Bool) (xs zs ys : List Laid) → Lacks marks.Comma xs → SameHead xs zs → Others n zs ys → T fit ys → T fit zs
-no_others T zero fit xs zs ys l s o t = subst (T fit) (sym o) t
-no_others T (suc n) fit xs zs ys l s o t = absurd (no_token marks.Comma xs zs o.0 l s o.1)
+no_others : (R : Span) (T : Rest) (n : ℕ) (fit : Bool) (xs zs ys : List Laid) → Lacks marks.Comma xs → SameHead xs zs → OthersOf R n zs ys → T fit ys → T fit zs
+no_others R T zero fit xs zs ys l s o t = subst (T fit) (sym o) t
+no_others R T (suc n) fit xs zs ys l s o t = absurd (no_token marks.Comma xs zs o.0 l s o.1)
 
-pub names_end : (T : Rest) (xs : List Laid) → Lacks marks.Comma xs → Leads (SomeOthers ▹ T) T xs xs
-names_end T xs l = record {
+pub parts_end : (R : Span) (T : Rest) (xs : List Laid) → Lacks marks.Comma xs → Leads (SomeOthersOf R ▹ T) T xs xs
+parts_end R T xs l = record {
   text = [];
   whole = refl;
   goes = λ fit zs t. (zs, (zero, refl), t);
-  comes = λ fit zs s t. no_others T t.1.0 fit xs zs t.0 l s t.1.1 t.2;
+  comes = λ fit zs s t. no_others R T t.1.0 fit xs zs t.0 l s t.1.1 t.2;
 }
 
 -- what is so of the mark that there is

@@ -87,12 +87,13 @@ passed_extent none k xs ys zs (inr h) (inr g) a b =
     titled_extent none k h.2.2.0 g.2.2.0 h.0 h.2.0 g.2.0 ys zs h.2.1 (subst (λ v. MaybeTitle v g.2.0) (sym q) g.2.1) h.2.2.1.text g.2.2.1.text a b
 
 definition_extent : Defined → (d e : UnitDefinition) (xs ys zs : List Laid) → UnitText (units.Define d) xs ys → UnitText (units.Define e) xs zs → TextEnds ys → TextEnds zs → ys ≡ zs
-definition_extent k d e xs ys zs h g a b = one_extent Definition BegunDefinition FittingBegunDefinition k xs ys zs (d.name, d.at, d.params, d.body, h, tt) (e.name, e.at, e.params, e.body, g, tt) a b
+definition_extent k d e xs ys zs h g a b = one_extent Definition BegunDefinition FittingBegunDefinition k xs ys zs (d.name, d.at, d.params, d.form, d.body, h, tt) (e.name, e.at, e.params, e.form, e.body, g, tt) a b
 
 -- two units from one point on end at one point
 pub unit_extent : NoTitle → Expressions → Defined → (u v : ModuleUnit) (xs ys zs : List Laid) → UnitText u xs ys → UnitText v xs zs → TextEnds ys → TextEnds zs → ys ≡ zs
 unit_extent none k l (units.Variables ds) (units.Variables es) xs ys zs h g a b = (variables_same ds es xs ys zs h g a b).1
 unit_extent none k l (units.Constants ds) (units.Constants es) xs ys zs h g a b = (constants_same ds es xs ys zs h g a b).1
+unit_extent none k l (units.Recursive ds) (units.Recursive es) xs ys zs h g a b = absurd h
 unit_extent none k l (units.Define d) (units.Define e) xs ys zs h g a b = definition_extent l d e xs ys zs h g a b
 unit_extent none k l (units.Assume e) (units.Assume f) xs ys zs h g a b = assume_extent none k e f xs ys zs h g a b
 unit_extent none k l units.Passed units.Passed xs ys zs h g a b = passed_extent none k xs ys zs h g a b

@@ -119,9 +119,9 @@ IsSomething [] = ⊥
 IsSomething (x ∷ xs) = Unit {0}
 
 pub definition_part : (fit : Bool) (zs ys : List Laid) → Definition fit zs ys → UnitPart fit zs ys
-definition_part fit [] ys d = absurd (subst IsSomething (sym d.4.1) tt)
+definition_part fit [] ys d = absurd (subst IsSomething (sym d.5.1) tt)
 definition_part fit (z ∷ zs) ys d =
-    let e : mark_of z ≡ Some marks.Name = ap (λ v. mark_of (first_or z v)) d.4.1 ∙ plain_name d.0 d.1 in
+    let e : mark_of z ≡ Some marks.Name = ap (λ v. mark_of (first_or z v)) d.5.1 ∙ plain_name d.0 d.1 in
     subst (λ o. Behind fit o z zs ys) (sym e) d
 
 definition_first : (n : ℕ) (fit : Bool) (z : Laid) (zs : List Laid) → mark_of z ≡ Some marks.Name → UnitsLeft n fit (z ∷ zs) → Then Definition Tail fit (z ∷ zs)

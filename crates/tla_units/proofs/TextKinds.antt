@@ -68,7 +68,7 @@ expression_open xs NoMemory h = tt
 -- ---- definitions
 
 definition_local : LocalDefinition → (fit : Bool) (xs ys : List Laid) → Definition fit xs ys → Local (Definition fit) xs ys
-definition_local local fit xs ys s = let l = local s.0 s.1 s.2 s.3 xs ys s.4 in record { text = l.0; whole = l.1; anywhere = λ zs. (s.0, s.1, s.2, s.3, l.2 zs, s.5) }
+definition_local local fit xs ys s = let l = local s.0 s.1 s.2 s.3 s.4 xs ys s.5 in record { text = l.0; whole = l.1; anywhere = λ zs. (s.0, s.1, s.2, s.3, s.4, l.2 zs, s.6) }
 
 abbrev IsSomething : List Laid → Type 0
 IsSomething [] = ⊥
@@ -77,20 +77,20 @@ IsSomething (x ∷ xs) = Unit {0}
 pub definition_kind : LocalDefinition → NoneFollowsDefinition → NoMarkInsideDefinition → TextKind Definition BegunDefinition FittingBegunDefinition
 definition_kind local none no_mark = record {
   local = definition_local local;
-  loosely = λ fit xs ys s. (s.0, s.1, s.2, s.3, s.4, fits_any fit s.3 s.5);
-  loose = λ fit xs ys s. (s.0, s.1, s.2, s.3, s.4, tt);
-  some = λ s. subst IsSomething (sym s.4.1) tt;
-  none = λ text x s h b. none s.0 s.1 s.2 s.3 text x s.4 h b;
-  begins = λ l more s. record { name = s.0; at = s.1; parameters = s.2; body = s.3; rest = more; whole = s.4 };
-  begun = λ l b. (b.rest, (b.name, b.at, b.parameters, b.body, b.whole, tt));
-  fits = λ l more s. record { name = s.0; at = s.1; parameters = s.2; body = s.3; rest = more; whole = s.4; fits = s.5 };
-  fitting = λ l b. (b.rest, (b.name, b.at, b.parameters, b.body, b.whole, b.fits));
+  loosely = λ fit xs ys s. (s.0, s.1, s.2, s.3, s.4, s.5, fits_any fit s.4 s.6);
+  loose = λ fit xs ys s. (s.0, s.1, s.2, s.3, s.4, s.5, tt);
+  some = λ s. subst IsSomething (sym s.5.1) tt;
+  none = λ text x s h b. none s.0 s.1 s.2 s.3 s.4 text x s.5 h b;
+  begins = λ l more s. record { name = s.0; at = s.1; parameters = s.2; form = s.3; body = s.4; rest = more; whole = s.5 };
+  begun = λ l b. (b.rest, (b.name, b.at, b.parameters, b.form, b.body, b.whole, tt));
+  fits = λ l more s. record { name = s.0; at = s.1; parameters = s.2; form = s.3; body = s.4; rest = more; whole = s.5; fits = s.6 };
+  fitting = λ l b. (b.rest, (b.name, b.at, b.parameters, b.form, b.body, b.whole, b.fits));
   no_end = λ before after t b k. no_mark before after (Plain t) (subst IsMarkKind (sym k) tt) b;
 }
 
 pub definition_open : (xs : List Laid) (e : ParseFault) → IsUnended EndedDefinition xs e → StaysOpen Definition xs e
-definition_open xs (Expected p) h = λ text rest x q s ends. h text rest x q ends (s.0, s.1, s.2, s.3, s.4)
-definition_open xs (OutOfProfile f p) h = λ text rest x q s ends. h text rest x q ends (s.0, s.1, s.2, s.3, s.4)
+definition_open xs (Expected p) h = λ text rest x q s ends. h text rest x q ends (s.0, s.1, s.2, s.3, s.4, s.5)
+definition_open xs (OutOfProfile f p) h = λ text rest x q s ends. h text rest x q ends (s.0, s.1, s.2, s.3, s.4, s.5)
 definition_open xs (Conflict p q) h = tt
 definition_open xs (TooNested p) h = tt
 definition_open xs NoMemory h = tt

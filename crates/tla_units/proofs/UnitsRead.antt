@@ -114,9 +114,9 @@ pub record DefinitionLaws : Type 0 where
   pub none_follows : NoneFollowsDefinition
   pub no_mark : NoMarkInsideDefinition
 
-pub defined_far : DefinitionLaws → (d : UnitDefinition) (laid : List Laid) (from behind : ℕ) → first_mark (drop from laid) ≡ Some marks.Name → DefinitionText d.name d.at d.params d.body (drop from laid) (drop behind laid) → Fits d.body → GoesAsFar BegunDefinition FittingBegunDefinition ShallowDefinition laid from behind → Leads Tail Tail (drop from laid) (drop behind laid)
+pub defined_far : DefinitionLaws → (d : UnitDefinition) (laid : List Laid) (from behind : ℕ) → first_mark (drop from laid) ≡ Some marks.Name → DefinitionText d.name d.at d.params d.form d.body (drop from laid) (drop behind laid) → Fits d.body → GoesAsFar BegunDefinition FittingBegunDefinition ShallowDefinition laid from behind → Leads Tail Tail (drop from laid) (drop behind laid)
 defined_far k d laid from behind m s f g =
-    let p = passed Definition BegunDefinition FittingBegunDefinition (definition_kind k.local k.none_follows k.no_mark) Tail tail_ending (drop from laid) (drop behind laid) g.1 g.0 ShallowDefinition (d.name, d.at, d.params, d.body, s, f) g.2 g.3 in
+    let p = passed Definition BegunDefinition FittingBegunDefinition (definition_kind k.local k.none_follows k.no_mark) Tail tail_ending (drop from laid) (drop behind laid) g.1 g.0 ShallowDefinition (d.name, d.at, d.params, d.form, d.body, s, f) g.2 g.3 in
     leads_on Tail (Then Definition Tail) Tail (drop from laid) (drop from laid) (drop behind laid) (tail_definition (drop from laid) m) p.0
 
 pub defined_refused : DefinitionLaws → (laid : List Laid) (from : ℕ) (e : ParseFault) → LaidEndsOnce laid → from < length laid → first_mark (drop from laid) ≡ Some marks.Name → IsRefused BegunDefinition FittingBegunDefinition ShallowDefinition (drop from laid) e × IsUnended EndedDefinition (drop from laid) e → RefusedIn Tail (DeepUnit (drop from laid)) ShallowUnit (drop from laid) e

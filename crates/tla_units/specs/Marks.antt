@@ -8,9 +8,11 @@ use Rattle.tla_tokens.specs.declared.token.Word.{Word}
 use Rattle.tla_tokens.specs.declared.token.Word.TheVariants as words
 use Rattle.tla_tokens.specs.declared.token.Symbol.{Symbol}
 use Rattle.tla_tokens.specs.declared.token.Symbol.TheVariants as symbols
+use Rattle.tla_tokens.specs.declared.token.Foreign.{Foreign}
+use Rattle.tla_tokens.specs.declared.token.Foreign.TheVariants as foreign
 use Rattle.tla_ast.specs.Opens.{is_end}
 use Rattle.tla_units.specs.declared.marks.Mark.{Mark}
-use Rattle.tla_units.specs.declared.marks.Mark.TheVariants.{Name, Dashes, Equals, Comma, Defined, Heading, Extends, Variables, Constants, Assume, Theorem}
+use Rattle.tla_units.specs.declared.marks.Mark.TheVariants.{Name, Dashes, Equals, Comma, OpenParenthesis, CloseParenthesis, Underscore, Defined, Heading, Extends, Variables, Constants, Recursive, Assume, Theorem}
 
 unfoldable pub word_mark : Word → Option Mark
 word_mark words.Module = Some Heading
@@ -30,8 +32,15 @@ word_mark _ = None
 
 unfoldable pub symbol_mark : Symbol → Option Mark
 symbol_mark symbols.Comma = Some Comma
+symbol_mark symbols.OpenParenthesis = Some OpenParenthesis
+symbol_mark symbols.CloseParenthesis = Some CloseParenthesis
 symbol_mark symbols.Defined = Some Defined
 symbol_mark _ = None
+
+unfoldable pub foreign_mark : Foreign → Option Mark
+foreign_mark foreign.Recursive = Some Recursive
+foreign_mark foreign.Underscore = Some Underscore
+foreign_mark _ = None
 
 unfoldable pub kind_mark : Kind → Option Mark
 kind_mark (kinds.Name n) = Some Name
@@ -39,6 +48,7 @@ kind_mark kinds.Dashes = Some Dashes
 kind_mark kinds.Equals = Some Equals
 kind_mark (kinds.Word w) = word_mark w
 kind_mark (kinds.Symbol s) = symbol_mark s
+kind_mark (kinds.Foreign f) = foreign_mark f
 kind_mark _ = None
 
 unfoldable pub mark_of : Laid → Option Mark

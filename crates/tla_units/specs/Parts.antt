@@ -8,10 +8,11 @@ use Rattle.tla_tokens.specs.declared.token.Kind.{Kind}
 use Rattle.tla_tokens.specs.declared.token.Kind.TheVariants as kinds
 use Rattle.tla_tokens.specs.declared.token.Word.TheVariants as words
 use Rattle.tla_tokens.specs.declared.token.Symbol.TheVariants as symbols
+use Rattle.tla_tokens.specs.declared.token.Foreign.TheVariants as foreign
 use Rattle.tla_ast.specs.Grammar.{Span, some_token, word, sign, name}
-use Rattle.tla_ast.specs.Modules.{variable_word, constant_word, assume_word, theorem_word}
+use Rattle.tla_ast.specs.Modules.{underscore, variable_word, constant_word, recursive_word, assume_word, theorem_word}
 use Rattle.tla_units.specs.declared.marks.Mark.{Mark}
-use Rattle.tla_units.specs.declared.marks.Mark.TheVariants.{Name, Dashes, Equals, Comma, Defined, Heading, Extends, Variables, Constants, Assume, Theorem}
+use Rattle.tla_units.specs.declared.marks.Mark.TheVariants.{Name, Dashes, Equals, Comma, OpenParenthesis, CloseParenthesis, Underscore, Defined, Heading, Extends, Variables, Constants, Recursive, Assume, Theorem}
 
 pub record Part (R : Span) (laid : List Laid) (from to : ℕ) : Type 0 where
   pub text : R (drop from laid) (drop to laid)
@@ -23,11 +24,15 @@ MarkText Name = λ xs ys. (n : List ℕ) × name n xs ys
 MarkText Dashes = some_token kinds.Dashes
 MarkText Equals = some_token kinds.Equals
 MarkText Comma = sign symbols.Comma
+MarkText OpenParenthesis = sign symbols.OpenParenthesis
+MarkText CloseParenthesis = sign symbols.CloseParenthesis
+MarkText Underscore = underscore
 MarkText Defined = sign symbols.Defined
 MarkText Heading = word words.Module
 MarkText Extends = word words.Extends
 MarkText Variables = variable_word
 MarkText Constants = constant_word
+MarkText Recursive = recursive_word
 MarkText Assume = assume_word
 MarkText Theorem = theorem_word
 
@@ -37,10 +42,14 @@ IsMark Name k = (n : List ℕ) × (k ≡ kinds.Name n)
 IsMark Dashes k = k ≡ kinds.Dashes
 IsMark Equals k = k ≡ kinds.Equals
 IsMark Comma k = k ≡ kinds.Symbol symbols.Comma
+IsMark OpenParenthesis k = k ≡ kinds.Symbol symbols.OpenParenthesis
+IsMark CloseParenthesis k = k ≡ kinds.Symbol symbols.CloseParenthesis
+IsMark Underscore k = k ≡ kinds.Foreign foreign.Underscore
 IsMark Defined k = k ≡ kinds.Symbol symbols.Defined
 IsMark Heading k = k ≡ kinds.Word words.Module
 IsMark Extends k = k ≡ kinds.Word words.Extends
 IsMark Variables k = (k ≡ kinds.Word words.Variable) ⊎ (k ≡ kinds.Word words.Variables)
 IsMark Constants k = (k ≡ kinds.Word words.Constant) ⊎ (k ≡ kinds.Word words.Constants)
+IsMark Recursive k = k ≡ kinds.Foreign foreign.Recursive
 IsMark Assume k = (k ≡ kinds.Word words.Assume) ⊎ ((k ≡ kinds.Word words.Assumption) ⊎ (k ≡ kinds.Word words.Axiom))
 IsMark Theorem k = ((k ≡ kinds.Word words.Theorem) ⊎ (k ≡ kinds.Word words.Lemma)) ⊎ ((k ≡ kinds.Word words.Proposition) ⊎ (k ≡ kinds.Word words.Corollary))

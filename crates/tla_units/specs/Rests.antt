@@ -3,6 +3,7 @@
 -- false, ranges play no part.
 use Rattle.std.specs.Prelude.{◌≡◌, ℕ, zero, suc, Bool, true, false, List, [], ◌∷◌, Option, Some}
 use Rattle.trace_base.specs.declared.place.Place.{Place}
+use Rattle.tla_ast.specs.declared.form.DefinitionForm.{DefinitionForm}
 use Rattle.tla_ast.specs.declared.laid.Laid.{Laid}
 use Rattle.tla_ast.specs.Trees.{Tree}
 use Rattle.tla_ast.specs.Fits.{Fits}
@@ -20,17 +21,42 @@ abbrev pub Marked : Mark → Span
 Marked m [] ys = ⊥
 Marked m (x ∷ xs) ys = (mark_of x ≡ Some m) × (xs ≡ ys)
 
--- so many names, each with a comma before it
+-- so many parts of one kind, each with a comma before it
+abbrev pub OthersOf : Span → ℕ → Span
+OthersOf R zero = nothing
+OthersOf R (suc n) = Marked marks.Comma ⨟ R ⨟ OthersOf R n
+
+abbrev pub SomeOthersOf : Span → Span
+SomeOthersOf R xs ys = (n : ℕ) × OthersOf R n xs ys
+
+-- one or more of them with commas between them
+abbrev pub ListOf : Span → Span
+ListOf R = R ⨟ SomeOthersOf R
+
+-- names
 abbrev pub Others : ℕ → Span
-Others zero = nothing
-Others (suc n) = Marked marks.Comma ⨟ Marked marks.Name ⨟ Others n
+Others n = OthersOf (Marked marks.Name) n
 
 abbrev pub SomeOthers : Span
-SomeOthers xs ys = (n : ℕ) × Others n xs ys
+SomeOthers = SomeOthersOf (Marked marks.Name)
 
--- one or more names with commas between them
 abbrev pub Listed : Span
-Listed = Marked marks.Name ⨟ SomeOthers
+Listed = ListOf (Marked marks.Name)
+
+-- `_`, one or more
+abbrev pub Places : Span
+Places = ListOf (Marked marks.Underscore)
+
+-- the same in parentheses, or nothing
+abbrev pub Parameters : Span
+Parameters = either nothing (Marked marks.OpenParenthesis ⨟ Places ⨟ Marked marks.CloseParenthesis)
+
+-- a declared operator
+abbrev pub OneOperator : Span
+OneOperator = Marked marks.Name ⨟ Parameters
+
+abbrev pub Operators : Span
+Operators = ListOf OneOperator
 
 -- EXTENDS and names, or nothing
 abbrev pub Extended : Span
@@ -48,7 +74,7 @@ abbrev pub Expression : Bool → Span
 Expression fit xs ys = (e : Tree) × Text e xs ys × FitsIf fit e
 
 abbrev pub Definition : Bool → Span
-Definition fit xs ys = (n : List ℕ) × (at : Place) × (ns : List (List ℕ)) × (e : Tree) × DefinitionText n at ns e xs ys × FitsIf fit e
+Definition fit xs ys = (n : List ℕ) × (at : Place) × (ns : List (List ℕ)) × (form : DefinitionForm) × (e : Tree) × DefinitionText n at ns form e xs ys × FitsIf fit e
 
 -- an expression, and a name and `==` before it or not
 abbrev pub Titled : Bool → Span
@@ -97,6 +123,14 @@ UnitsLeft (suc n) = Then UnitPart (UnitsLeft n)
 
 abbrev pub Tail : Rest
 Tail fit xs = (n : ℕ) × UnitsLeft n fit xs
+
+-- behind a declared operator
+abbrev pub OperatorsLeft : Rest
+OperatorsLeft = SomeOthersOf OneOperator ▹ Tail
+
+-- behind the places of its parameters
+abbrev pub Closing : Rest
+Closing = Marked marks.CloseParenthesis ▹ OperatorsLeft
 
 -- a whole module
 abbrev pub Whole : Rest

@@ -6,10 +6,12 @@ mod laid_ends;
 mod marks;
 mod module_laws;
 mod names;
+mod operators;
 mod reader;
 mod units;
 
 pub use laid_ends::laid_ends_once;
 pub use module_laws::{one_module, shallow_not_refused};
+pub use operators::declared_operators;
 pub use reader::module;
 pub use tla_exprs::ParseFault;

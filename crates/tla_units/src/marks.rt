@@ -5,10 +5,10 @@ ghost use Rattle.tla_ast.specs.declared.laid.Laid.TheVariants.{Plain};
 ghost use Rattle.tla_tokens.specs.declared.token.Kind.TheVariants as kinds;
 ghost use Rattle.tla_tokens.specs.declared.token.Word.TheVariants as words;
 ghost use Rattle.tla_tokens.specs.declared.token.Symbol.TheVariants as symbols;
-ghost use Rattle.tla_ast.specs.Grammar.{some_token, word};
-ghost use Rattle.tla_ast.specs.Modules.{LaidEndsOnce};
+ghost use Rattle.tla_ast.specs.Grammar.{some_token, sign, word};
+ghost use Rattle.tla_ast.specs.Modules.{LaidEndsOnce, underscore};
 ghost use Rattle.tla_exprs.specs.Refused.{IsRefusedAt};
-ghost use Rattle.tla_units.specs.Marks.{word_mark, symbol_mark, kind_mark, first_mark, begins_end};
+ghost use Rattle.tla_units.specs.Marks.{word_mark, symbol_mark, foreign_mark, kind_mark, first_mark, begins_end};
 ghost use Rattle.tla_units.specs.Parts.{Part, MarkText, IsMark};
 ghost use Rattle.tla_units.specs.Reads.{Lacks};
 ghost use Rattle.tla_units.specs.Rests.{Marked};
@@ -16,7 +16,7 @@ ghost use Rattle.tla_units.specs.declared.marks.Mark.TheVariants as marks;
 
 use tla_ast::Laid;
 use tla_exprs::{ParseFault, fault_at};
-use tla_tokens::{Kind, Symbol, Token, Word};
+use tla_tokens::{Foreign, Kind, Symbol, Token, Word};
 
 /// A token by its part in the grammar of modules.
 #[derive(Clone, Copy, Debug, Drop, PartialEq, Eq)]
@@ -25,6 +25,12 @@ pub enum Mark {
     Dashes,
     Equals,
     Comma,
+    /// `(`
+    OpenParenthesis,
+    /// `)`
+    CloseParenthesis,
+    /// `_`
+    Underscore,
     /// `==`
     Defined,
     /// `MODULE`
@@ -32,6 +38,8 @@ pub enum Mark {
     Extends,
     Variables,
     Constants,
+    /// `RECURSIVE`
+    Recursive,
     /// `ASSUME`, `ASSUMPTION` or `AXIOM`
     Assume,
     /// `THEOREM`, `LEMMA`, `PROPOSITION` or `COROLLARY`
@@ -61,7 +69,21 @@ fn symbol_mark(symbol: Symbol) -> Option<Mark>
 {
     match symbol {
         Symbol::Comma => Some(Mark::Comma),
+        Symbol::OpenParenthesis => Some(Mark::OpenParenthesis),
+        Symbol::CloseParenthesis => Some(Mark::CloseParenthesis),
         Symbol::Defined => Some(Mark::Defined),
+        _ => None,
+    }
+}
+
+#[tactic(auto, unfolding(crate::specs::Marks::foreign_mark))]
+fn foreign_mark(foreign: Foreign) -> Option<Mark>
+    ensures mark { IfSome result (λ m. IsMark m (kinds.Foreign foreign)) }
+    ensures told { result ≡ foreign_mark foreign }
+{
+    match foreign {
+        Foreign::Recursive => Some(Mark::Recursive),
+        Foreign::Underscore => Some(Mark::Underscore),
         _ => None,
     }
 }
@@ -77,6 +99,7 @@ fn kind_mark(kind: &Kind) -> Option<Mark>
         Kind::Equals => Some(Mark::Equals),
         Kind::Word(word) => word_mark(*word),
         Kind::Symbol(symbol) => symbol_mark(*symbol),
+        Kind::Foreign(foreign) => foreign_mark(*foreign),
         _ => None,
     }
 }
@@ -161,6 +184,30 @@ pub fn equals(laid: &[Laid], from: usize) -> Result<usize, ParseFault>
     ensures refused { IfErr result (λ e. IsRefusedAt (drop from laid.now) e) }
 {
     expect(laid, from, Mark::Equals)
+}
+
+/// Reads a `_`.
+pub fn underscore(laid: &[Laid], from: usize) -> Result<usize, ParseFault>
+    requires ends { LaidEndsOnce laid.now }
+    requires inside { from < length laid.now }
+    ensures part { IfOk result (λ to. Part underscore laid.now from to) }
+    ensures token { IfOk result (λ to. Marked marks.Underscore (drop from laid.now) (drop to laid.now)) }
+    ensures lacks { OnErr result (Lacks marks.Underscore (drop from laid.now)) }
+    ensures refused { IfErr result (λ e. IsRefusedAt (drop from laid.now) e) }
+{
+    expect(laid, from, Mark::Underscore)
+}
+
+/// Reads a `)`.
+pub fn close_parenthesis(laid: &[Laid], from: usize) -> Result<usize, ParseFault>
+    requires ends { LaidEndsOnce laid.now }
+    requires inside { from < length laid.now }
+    ensures part { IfOk result (λ to. Part (sign symbols.CloseParenthesis) laid.now from to) }
+    ensures token { IfOk result (λ to. Marked marks.CloseParenthesis (drop from laid.now) (drop to laid.now)) }
+    ensures lacks { OnErr result (Lacks marks.CloseParenthesis (drop from laid.now)) }
+    ensures refused { IfErr result (λ e. IsRefusedAt (drop from laid.now) e) }
+{
+    expect(laid, from, Mark::CloseParenthesis)
 }
 
 /// Reads the End.

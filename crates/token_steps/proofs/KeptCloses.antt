@@ -1,6 +1,7 @@
 -- What a token does to a frame that waits, by the names that do not unfold.
 use Rattle.std.proofs.Common.{◌≡◌, ℕ, List, [], ◌∷◌, refl, ap, ◌∙◌}
 use Rattle.trace_base.specs.declared.place.Place.{Place}
+use Rattle.tla_ast.specs.declared.form.DefinitionForm.{DefinitionForm}
 use Rattle.tla_ast.specs.declared.expr.Definition.{Definition}
 use Rattle.tla_ast.specs.declared.laid.Bullet.{Bullet}
 use Rattle.tla_ast.specs.declared.laid.Laid.{Laid}
@@ -9,7 +10,7 @@ use Rattle.tla_tokens.specs.declared.token.Token.{Token}
 use Rattle.tla_tokens.specs.declared.token.Word.{Word}
 use Rattle.tla_tokens.specs.declared.token.Word.TheVariants as words
 use Rattle.tla_ast.specs.Trees.{Tree, Definitions}
-use Rattle.reader_model.specs.Machine.{Stops, Ends, EndsDefinition, word_closes, item_closes, list_closes, parameters_of, body_of}
+use Rattle.reader_model.specs.Machine.{Stops, Ends, EndsDefinition, word_closes, item_closes, list_closes, parameters_of, form_of, body_of}
 use Rattle.token_steps.specs.Kept.{kept_closes, kept_laid_closes, kept_kind_closes}
 use Rattle.reader_model.specs.declared.frame.Form.{Form}
 use Rattle.reader_model.specs.declared.frame.Frame.{Frame}
@@ -24,16 +25,16 @@ none_waits x e = refl
 pub nothing_waits : (x : Laid) (fs : List Frame) (e : Tree) → fs ≡ [] → kept_closes x fs e ≡ Ends e
 nothing_waits x fs e q = ap (λ gs. kept_closes x gs e) q ∙ none_waits x e
 
-unit_ends : (x : Laid) (fs : List Frame) (n : List ℕ) (p : Place) (form : Form) (e : Tree) → kept_closes x (frame.DefinitionBody scopes.Unit n p form ∷ fs) e ≡ EndsDefinition n p (parameters_of form) (body_of form e)
+unit_ends : (x : Laid) (fs : List Frame) (n : List ℕ) (p : Place) (form : Form) (e : Tree) → kept_closes x (frame.DefinitionBody scopes.Unit n p form ∷ fs) e ≡ EndsDefinition n p (parameters_of form) (form_of form) (body_of form e)
 unfolding kept_closes
 unit_ends x fs n p form e = refl
 
-same_end : (n m : List ℕ) (p q : Place) (ns ms : List (List ℕ)) (e f : Tree) → m ≡ n → q ≡ p → ms ≡ ns → f ≡ e → EndsDefinition n p ns e ≡ EndsDefinition m q ms f
-same_end n m p q ns ms e f h i j k = cc
+same_end : (n m : List ℕ) (p q : Place) (ns ms : List (List ℕ)) (s t : DefinitionForm) (e f : Tree) → m ≡ n → q ≡ p → ms ≡ ns → t ≡ s → f ≡ e → EndsDefinition n p ns s e ≡ EndsDefinition m q ms t f
+same_end n m p q ns ms s t e f h i j l k = cc
 
-pub unit_defined : (x : Laid) (fs : List Frame) (s : Scope) (n : List ℕ) (p : Place) (form : Form) (e : Tree) (d : Definition) → s ≡ scopes.Unit → d.name ≡ n → d.at ≡ p → d.params ≡ parameters_of form → d.body ≡ body_of form e → kept_closes x (frame.DefinitionBody s n p form ∷ fs) e ≡ EndsDefinition d.name d.at d.params d.body
-unit_defined x fs s n p form e d q h i j k =
-    ap (λ t. kept_closes x (frame.DefinitionBody t n p form ∷ fs) e) q ∙ (unit_ends x fs n p form e ∙ same_end n d.name p d.at (parameters_of form) d.params (body_of form e) d.body h i j k)
+pub unit_defined : (x : Laid) (fs : List Frame) (s : Scope) (n : List ℕ) (p : Place) (form : Form) (e : Tree) (d : Definition) → s ≡ scopes.Unit → d.name ≡ n → d.at ≡ p → d.params ≡ parameters_of form → d.form ≡ form_of form → d.body ≡ body_of form e → kept_closes x (frame.DefinitionBody s n p form ∷ fs) e ≡ EndsDefinition d.name d.at d.params d.form d.body
+unit_defined x fs s n p form e d q h i j l k =
+    ap (λ t. kept_closes x (frame.DefinitionBody t n p form ∷ fs) e) q ∙ (unit_ends x fs n p form e ∙ same_end n d.name p d.at (parameters_of form) d.params (form_of form) d.form (body_of form e) d.body h i j l k)
 
 in_let : (x : Laid) (fs : List Frame) (at : Place) (ds : Definitions) (n : List ℕ) (p : Place) (form : Form) (e : Tree) → kept_closes x (frame.DefinitionBody (scopes.Let at ds) n p form ∷ fs) e ≡ kept_laid_closes x (frame.DefinitionBody (scopes.Let at ds) n p form) fs e
 unfolding kept_closes kept_laid_closes

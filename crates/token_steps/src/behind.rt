@@ -2,7 +2,7 @@
 //! kind of frame is proved anew.
 
 ghost use Rattle.open_rows.specs.Does.{Does, frames_in};
-ghost use Rattle.reader_model.specs.Machine.{body_of, call_step, infix_of_symbol, infix_or, is_case_mark, item_closes, list_closes, name_closes, parameters_of, same_bullet, symbol_follows, word_closes};
+ghost use Rattle.reader_model.specs.Machine.{body_of, call_step, form_of, infix_of_symbol, infix_or, is_case_mark, item_closes, list_closes, name_closes, parameters_of, same_bullet, symbol_follows, word_closes};
 ghost use Rattle.std.specs.Prelude.{◌≡◌, ◌∷◌, IfOk, List, Ok};
 ghost use Rattle.token_steps.specs.Kept.{kept_behind, kept_closes, kept_follows, kept_kind_closes, kept_laid_closes};
 
@@ -11,7 +11,9 @@ use open_rows::{Joined, Stack, Stepped, infix_of_symbol, infix_step, pop, settle
 use reader_model::{Form, Frame, Mode, Scope};
 use row_symbols::{Member, join_member, symbol_closes, with_step};
 use std::alloc::Global;
-use tla_ast::{Bullet, Changes, Definition, Definitions, Expr, Exprs, Laid, Node, Step};
+use tla_ast::{
+    Bullet, Changes, Definition, DefinitionForm, Definitions, Expr, Exprs, Laid, Node, Step,
+};
 use tla_tokens::{Kind, Symbol, Word};
 use trace_base::{Names, NoMemory, Place, Text};
 
@@ -26,6 +28,7 @@ fn defined(
     ensures named { IfOk result (λ d. d.name ≡ name) }
     ensures placed { IfOk result (λ d. d.at ≡ at) }
     ensures parameters { IfOk result (λ d. d.params ≡ parameters_of form) }
+    ensures formed { IfOk result (λ d. d.form ≡ form_of form) }
     ensures body { IfOk result (λ d. d.body ≡ body_of form e) }
 {
     match form {
@@ -33,6 +36,7 @@ fn defined(
             name,
             at,
             params,
+            form: DefinitionForm::Operator,
             body: e,
         }),
         Form::Function(q, bounds) => {
@@ -41,6 +45,7 @@ fn defined(
                 name,
                 at,
                 params: Names::new(alloc),
+                form: DefinitionForm::Function,
                 body: Expr::new(alloc, q, node)?,
             })
         }

@@ -22,6 +22,7 @@ use Rattle.state_layers.specs.declared.answer.Answer.TheVariants.{Explained, Not
 use Rattle.state_verdicts.specs.declared.verdict.Verdict.{Verdict}
 use Rattle.state_verdicts.specs.declared.verdict.Verdict.TheVariants as verdict
 use Rattle.lined_verdicts.specs.Verdicts.{IsJudgedOf}
+use Rattle.held_readings.specs.Held.{IsHeldSo}
 use Rattle.ring_files.specs.Ring.{ring_files, ring_job}
 use Rattle.run_words.specs.declared.job.Job.{Job}
 use Rattle.run_words.specs.declared.job.Words.TheVariants.{Validate, Check, SelfRun}
@@ -128,7 +129,7 @@ status_no_device (TotalLimit after silent) e = cc
 
 calls_no_device : (holds : Option (List File)) (b n : ℕ) (job : Job) (s : Status) (report : List ℕ) → Calls holds b n job s report → s ≡ status.Device → ⊥
 calls_no_device holds b n job s report (is_refused _ refusal) e = cc
-calls_no_device holds b n job s report (is_answered p c g lined _ _ read answers) e = status_no_device answers.answer (sym answers.status_is ∙ e)
+calls_no_device holds b n job s report (is_answered p c g lined _ _ read held answers) e = status_no_device answers.answer (sym answers.status_is ∙ e)
 
 verdict_no_device : (v : Verdict) → status_of_verdict v ≡ status.Device → ⊥
 verdict_no_device verdict.Valid e = cc
@@ -183,10 +184,10 @@ device_part r words holds b n old new name piece wanted is whole part =
 
 -- what a job calls for, all texts being read
 pub calls_answered : (holds : Option (List File)) (b n : ℕ) (job : Job) (p : Program) (c : Config) (s : Spec) (lined : Lined) (r : Result Judged Stop)
-    → AllRead holds job p c s lined → IfOk r (λ j. Answers job p c s lined j.status (string_bytes j.report))
+    → AllRead holds job p c s lined → IsHeldSo s lined → IfOk r (λ j. Answers job p c s lined j.status (string_bytes j.report))
     → IfOk r (λ j. Calls holds b n job j.status (string_bytes j.report))
-calls_answered holds b n job p c s lined (Ok j) read answers = is_answered p c s lined j.status (string_bytes j.report) read answers
-calls_answered holds b n job p c s lined (Err x) read answers = tt
+calls_answered holds b n job p c s lined (Ok j) read held answers = is_answered p c s lined j.status (string_bytes j.report) read held answers
+calls_answered holds b n job p c s lined (Err x) read held answers = tt
 
 -- what a job of `check` calls for, all texts being read
 pub given_answered : (holds : Option (List File)) (b n : ℕ) (job : Job) (witness : List ℕ) (p : Program) (c : Config) (s : Spec) (lined : Lined) (w : List Shown) (r : Result Judged Stop)

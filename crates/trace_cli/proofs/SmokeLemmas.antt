@@ -23,6 +23,7 @@ use Rattle.state_verdicts.specs.declared.verdict.Verdict.{Verdict}
 use Rattle.state_verdicts.specs.declared.verdict.Verdict.TheVariants.{Valid, Invalid, Fault}
 use Rattle.lined_verdicts.specs.Laws.{ExplainedIsJudgedValid, HaveOneOf}
 use Rattle.lined_verdicts.specs.Verdicts.{IsJudgedOf}
+use Rattle.held_readings.specs.Held.{IsHeldSo}
 use Rattle.ring_files.specs.Ring.{ring_files, ring_job}
 use Rattle.run_words.specs.declared.job.Job.{Job}
 use Rattle.run_reading.specs.Reaches.{AllRead, Reaches, has_forms, logged, reads_log}
@@ -81,18 +82,18 @@ pub not_fault : (v : Verdict) (i : ℕ) (kind : EvalKind) (at : Place) → v ≡
 not_fault v i kind at valid is = cc
 
 tests_of : (n : ℕ) (p : Program) (c : Config) (s : Spec) (lined : Lined) (x : Status) (report : List ℕ) → AllRead (Some (ring_files n)) ring_job p c s lined
-    → IsTested n ring_job p c s lined x report → SmokeTests n x report
-tests_of n p c s lined x report read (tested_sure w widest is valid) = is_sure p c s lined w widest read is valid
-tests_of n p c s lined x report read (tested_other _ _ answers other) = is_not_explained x report (is_answered p c s lined x report read answers) other
+    → IsHeldSo s lined → IsTested n ring_job p c s lined x report → SmokeTests n x report
+tests_of n p c s lined x report read held (tested_sure w widest is valid) = is_sure p c s lined w widest read is valid
+tests_of n p c s lined x report read held (tested_other _ _ answers other) = is_not_explained x report (is_answered p c s lined x report read held answers) other
 
 -- what the smoke test calls for, the module and its log being read
 pub smoke_tested : (n : ℕ) (files : List File) (job : Job) (p : Program) (c : Config) (s : Spec) (lined : Lined) (r : Result Judged Stop) → files ≡ ring_files n
-    → job ≡ ring_job → AllRead (Some files) job p c s lined → IfOk r (λ j. IsTested n job p c s lined j.status (string_bytes j.report))
+    → job ≡ ring_job → AllRead (Some files) job p c s lined → IsHeldSo s lined → IfOk r (λ j. IsTested n job p c s lined j.status (string_bytes j.report))
     → IfOk r (λ j. SmokeTests n j.status (string_bytes j.report))
-smoke_tested n files job p c s lined (Ok j) held is read tested =
-    let own = subst (λ (x : List File). AllRead (Some x) ring_job p c s lined) held (subst (λ (x : Job). AllRead (Some files) x p c s lined) is read) in
-    tests_of n p c s lined j.status (string_bytes j.report) own (subst (λ (x : Job). IsTested n x p c s lined j.status (string_bytes j.report)) is tested)
-smoke_tested n files job p c s lined (Err x) held is read tested = tt
+smoke_tested n files job p c s lined (Ok j) there is read held tested =
+    let own = subst (λ (x : List File). AllRead (Some x) ring_job p c s lined) there (subst (λ (x : Job). AllRead (Some files) x p c s lined) is read) in
+    tests_of n p c s lined j.status (string_bytes j.report) own held (subst (λ (x : Job). IsTested n x p c s lined j.status (string_bytes j.report)) is tested)
+smoke_tested n files job p c s lined (Err x) there is read held tested = tt
 
 stop_of_ring : (n : ℕ) (x : Stop) → StopsBy (Some (ring_files n)) 0 0 ring_job x → IsSmokeStop n x
 stop_of_ring n (stop.Refused report) by = is_not_explained status.Reading (string_bytes report) (is_refused (string_bytes report) by) (λ e. cc)

@@ -23,6 +23,7 @@ use Rattle.ready_specs.specs.Beside.{asked}
 use Rattle.lined_specs.specs.Answers.{AreAssumedOf, IsTrueOf, IsUnassumedOf}
 use Rattle.lined_specs.specs.Beside.{lines_of}
 use Rattle.lined_verdicts.specs.Verdicts.{IsJudgedOf}
+use Rattle.held_readings.specs.Held.{IsHeldSo}
 use Rattle.why_report.specs.Reports.{IsReport}
 use Rattle.trace_cli.specs.declared.call.Status.{Status}
 use Rattle.trace_cli.specs.declared.call.Status.TheVariants.{Done, Not, Reading, Evaluation, Limit}
@@ -73,7 +74,7 @@ pub record Answers (job : Job) (p : Program) (c : Config) (s : Spec) (lined : Li
 pub data Calls (holds : Option (List File)) (before now : ℕ) (job : Job) : Status → List ℕ → Type 0 where
   is_refused : (report : List ℕ) → IsRefusal holds before now job report → Calls holds before now job Reading report
   is_answered : (p : Program) (c : Config) (s : Spec) (lined : Lined) (status : Status) (report : List ℕ) → AllRead holds job p c s lined
-      → Answers job p c s lined status report → Calls holds before now job status report
+      → IsHeldSo s lined → Answers job p c s lined status report → Calls holds before now job status report
 
 -- the status that goes with a verdict
 abbrev pub status_of_verdict : Verdict → Status

@@ -16,6 +16,7 @@ use crate::given::judge_given;
 use crate::searching::true_answer;
 use crate::smoke::judge_smoke;
 use crate::whole::told_whole;
+use held_readings::held_so;
 use run_stages::{Accepted, Stop, all_files, read_all};
 use run_texts::{Labels, answer_text, words_text};
 use run_words::{Job, Words, read_words};
@@ -84,6 +85,7 @@ fn judge_job<F: Files>(alloc: Global, job: &Job, files: &mut F) -> Result<Judged
     ensures later { F.faults files.old ≤ F.faults files.new }
 {
     let accepted = read_all(alloc, job, files)?;
+    held_so(&accepted.spec, &accepted.lined);
     answer(alloc, job, accepted)
 }
 

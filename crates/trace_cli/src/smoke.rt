@@ -12,6 +12,7 @@ ghost use Rattle.trace_cli.specs.Tested.{IsTested};
 use crate::call::Status;
 use crate::judge::{Judged, told};
 use crate::searching::true_answer;
+use held_readings::held_so;
 use lined_verdicts::{LinedPairs, lined_laws, verdict_over};
 use ring_files::{ring_files, ring_job};
 use run_stages::{Accepted, Stop, read_all};
@@ -31,6 +32,7 @@ pub(crate) fn judge_smoke(alloc: Global, lines: u32) -> Result<Judged, Stop>
     let job = ring_job(alloc)?;
     let mut files = ring_files(alloc, lines)?;
     let accepted = read_all(alloc, &job, &mut files)?;
+    held_so(&accepted.spec, &accepted.lined);
     answer_smoke(alloc, lines, &job, &accepted)
 }
 

@@ -191,7 +191,7 @@ module _ (A B W : List File) (pick : (X : List File → Type 0) → X A → X B 
 
     calls_so : (before now : ℕ) (end : Status) (report : List ℕ) → Calls (Some A) before now job end report → Calls (Some B) before now job end report
     calls_so before now _ _ (calls.is_refused report refused) = calls.is_refused report (refusal_so before now report refused)
-    calls_so before now _ _ (calls.is_answered p c s lined end report all answers) = calls.is_answered p c s lined end report (all_read_so p c s lined all) answers
+    calls_so before now _ _ (calls.is_answered p c s lined end report all held answers) = calls.is_answered p c s lined end report (all_read_so p c s lined all) held answers
 
   -- ---- all that a job of `check` reads
 

@@ -22,7 +22,8 @@ use Rattle.run_reading.specs.Reaches.{AllRead, Reaches, configured, given, has_f
 use Rattle.run_reading.specs.Texts.{LogsRead}
 use Rattle.unchecked_laws.specs.Laws.{HasNoFeed, UncheckedAreLines}
 use Rattle.wide_reading.specs.Laws.{PassedAreLines}
-use Rattle.printed_laws.specs.Laws.{ArePlaced, PrintedIsValid}
+use Rattle.held_readings.specs.Held.{ArePlaced}
+use Rattle.printed_laws.specs.Laws.{PrintedIsValid}
 use Rattle.trace_cli.specs.Calls.{asked_by, is_answered_given, is_judged, named_in}
 use Rattle.valid_reports.specs.Laws.{IsCheckedValid, PrintsValid}
 use Rattle.valid_reports.proofs.Searching.{all_read_so, assumed_so, judged_so}

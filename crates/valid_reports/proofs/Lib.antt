@@ -1,3 +1,2 @@
-mod UpTo
 mod Accepting
 pub mod Searching

@@ -6,7 +6,7 @@ ghost use Rattle.run_reading.specs.Reaches.{AllRead};
 ghost use Rattle.run_words.specs.Words.{JobMeets};
 ghost use Rattle.valid_reports.specs.Laws.{IsCheckedValid, PrintsValid};
 
-use crate::known::{known_places, known_texts};
+use held_readings::held_so;
 use printed_laws::printed_valid_law;
 use run_stages::Accepted;
 use run_words::Job;
@@ -27,6 +27,5 @@ pub fn printed_is_valid<F: Files>(files: &F, job: &Job, accepted: &Accepted)
     printed_valid_law(&accepted.spec, &accepted.lined);
     unchecked_law();
     passing_laws();
-    known_texts(&accepted.spec.variables);
-    known_places(&accepted.lined);
+    held_so(&accepted.spec, &accepted.lined);
 }

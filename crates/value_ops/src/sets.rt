@@ -37,7 +37,9 @@ pub fn union(alloc: Global, a: &Value, b: &Value) -> Result<Value, OpFault>
         both: true,
         right: true,
     };
-    let members = walk(alloc, a.members(), b.members(), keep)?;
+    let xs = a.members();
+    let ys = b.members();
+    let members = walk(alloc, xs.len().saturating_add(ys.len()), xs, ys, keep)?;
     set_from(members)
 }
 
@@ -54,7 +56,7 @@ pub fn intersect(alloc: Global, a: &Value, b: &Value) -> Result<Value, OpFault>
         both: true,
         right: false,
     };
-    let members = walk(alloc, a.members(), b.members(), keep)?;
+    let members = walk(alloc, 0, a.members(), b.members(), keep)?;
     set_from(members)
 }
 
@@ -71,7 +73,7 @@ pub fn minus(alloc: Global, a: &Value, b: &Value) -> Result<Value, OpFault>
         both: false,
         right: false,
     };
-    let members = walk(alloc, a.members(), b.members(), keep)?;
+    let members = walk(alloc, 0, a.members(), b.members(), keep)?;
     set_from(members)
 }
 
@@ -104,11 +106,17 @@ pub(crate) fn set_from(members: Vec<Value>) -> Result<Value, OpFault>
     }
 }
 
-/// The values of two ascending lists that are to be kept, in order.
-fn walk(alloc: Global, xs: &[Value], ys: &[Value], keep: Keep) -> Result<Vec<Value>, AllocError>
+/// The values of two ascending lists that are to be kept, in order, in a list that has room for so many from the first.
+fn walk(
+    alloc: Global,
+    room: usize,
+    xs: &[Value],
+    ys: &[Value],
+    keep: Keep,
+) -> Result<Vec<Value>, AllocError>
     ensures { IfOk result (λ v. v.items ≡ merged keep xs.now ys.now) }
 {
-    let mut out = Vec::new(alloc);
+    let mut out = Vec::with_capacity(alloc, room)?;
     let mut i: usize = 0;
     let mut j: usize = 0;
     while i < xs.len() && j < ys.len() {

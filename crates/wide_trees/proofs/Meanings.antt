@@ -6,7 +6,7 @@ use Rattle.tla_ast.specs.declared.config.Config.{Config}
 use Rattle.tla_ast.specs.declared.expr.Definition.{Definition}
 use Rattle.tla_ast.specs.declared.module.Program.{Program}
 use Rattle.tla_ast.specs.declared.module.Unit.{Unit as ModuleUnit}
-use Rattle.tla_ast.specs.declared.module.Unit.TheVariants.{Variables, Constants, Define, Assume, Passed}
+use Rattle.tla_ast.specs.declared.module.Unit.TheVariants.{Variables, Constants, Recursive, Define, Assume, Passed}
 use Rattle.tla_ast.specs.Trees.{Tree}
 use Rattle.tla_scopes.specs.declared.meant.Entry.{Entry}
 use Rattle.tla_scopes.specs.declared.meant.Meant.{Meant}
@@ -173,6 +173,7 @@ module _ (p : Program) (c : Config) (values : List Val) (names : List Entry) (ar
     goes i (Constants ds) h = h
     goes i (Define d) h = (exact i).0 h
     goes i (Assume e) h = leans_on e h
+    goes i (Recursive rs) h = h
     goes i Passed h = h
 
     is_to_go : (i : ℕ) (u : ModuleUnit) → GoesWith p c unread Goes i u → IsOver names unread flags i u
@@ -180,6 +181,7 @@ module _ (p : Program) (c : Config) (values : List Val) (names : List Entry) (ar
     is_to_go i (Constants ds) h = h
     is_to_go i (Define d) h = (exact i).1 h
     is_to_go i (Assume e) h = has_bad_name e h
+    is_to_go i (Recursive rs) h = h
     is_to_go i Passed h = h
 
     pub goes_with : (i : ℕ) (u : ModuleUnit) → IsOver names unread flags i u ↔ GoesWith p c unread Goes i u

@@ -4,7 +4,7 @@ use Rattle.std.specs.List.{slice_index_or}
 use Rattle.tla_ast.specs.declared.expr.Definition.{Definition}
 use Rattle.tla_ast.specs.declared.module.Program.{Program}
 use Rattle.tla_ast.specs.declared.module.Unit.{Unit as ModuleUnit}
-use Rattle.tla_ast.specs.declared.module.Unit.TheVariants.{Variables, Constants, Define, Assume, Passed}
+use Rattle.tla_ast.specs.declared.module.Unit.TheVariants.{Variables, Constants, Recursive, Define, Assume, Passed}
 use Rattle.tla_ast.specs.Trees.{Tree}
 use Rattle.tla_scopes.specs.declared.meant.Entry.{Entry}
 use Rattle.tla_scopes.specs.Mentions.{is_one_of, mentions}
@@ -62,6 +62,7 @@ IsOver names unread bad i (Variables ds) = ⊥
 IsOver names unread bad i (Constants ds) = ⊥
 IsOver names unread bad i (Define d) = is_set_at bad (Some i) ≡ true
 IsOver names unread bad i (Assume e) = HasBadName names unread bad e
+IsOver names unread bad i (Recursive rs) = ⊥
 IsOver names unread bad i Passed = ⊥
 
 -- for each of these units, before which there are so many definitions, whether it goes

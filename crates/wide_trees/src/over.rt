@@ -100,6 +100,7 @@ fn is_over(
         Unit::Constants(_) => Ok(false),
         Unit::Define(_) => Ok(is_set_at(bad, Some(index))),
         Unit::Assume(tree) => is_bad_assumption(alloc, names, unread, bad, tree),
+        Unit::Recursive(_) => Ok(false),
         Unit::Passed => Ok(false),
     }
 }
@@ -114,6 +115,7 @@ fn behind(index: usize, unit: &Unit) -> usize
         Unit::Variables(_) => index,
         Unit::Constants(_) => index,
         Unit::Assume(_) => index,
+        Unit::Recursive(_) => index,
         Unit::Passed => index,
     }
 }

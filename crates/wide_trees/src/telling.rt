@@ -50,6 +50,7 @@ fn add_told(found: &mut Vec<PassedOver>, unit: &Unit) -> Result<(), NoMemory>
         Unit::Assume(tree) => add_assumption(found, tree),
         Unit::Variables(_) => Ok(()),
         Unit::Constants(_) => Ok(()),
+        Unit::Recursive(_) => Ok(()),
         Unit::Passed => Ok(()),
     }
 }

@@ -11,45 +11,39 @@ use Rattle.serde_json.proofs.Views.{view-Array, view-Object, members_view-insert
 use Rattle.json_texts.proofs.Turns.{converted-array, converted-object, item_read, item_refused, items_over, member_read, member_refused, key_refused, members_over, items_before, items_before-no_items, one_more_item, none_before}
 use Rattle.json_texts.proofs.reading.+read.Goals as goal
 
-pub read_value-returns-in_ok-from_str-in-String-clause-read : goal.read_value-returns-in_ok-from_str-in-String-clause-read
-read_value-returns-in_ok-from_str-in-String-clause-read t c =
-    let first : c.args.reader.now ≡ token_of c.in_ok-token.token ∷ c.next.new.self = grind arith in
-    let is : c.args.reader.now ≡ Token.string c.in-String.text.now ∷ c.next.new.self = grind (arith, first) in
+pub read_from-returns-in_ok-from_str-in-String-clause-read : goal.read_from-returns-in_ok-from_str-in-String-clause-read
+read_from-returns-in_ok-from_str-in-String-clause-read t c =
+    let is : token_of c.args.token ∷ c.args.reader.now ≡ Token.string c.in-String.text.now ∷ c.args.reader.now = grind arith in
     let seen : view (String c.in_ok-from_str-in-String.field-0) ≡ string c.in-String.text.now = search (rules, the_lemmas) in
-    ap (converted of_json) (ap (value c.args.depth) is ∙ value_is c.args.depth _) ∙ ap (λ d. Some (d, c.next.new.self)) (sym seen)
+    ap (converted of_json) (ap (value c.args.depth) is ∙ value_is c.args.depth _) ∙ ap (λ d. Some (d, c.args.reader.now)) (sym seen)
 
-pub read_value-returns-in-Bool-clause-read : goal.read_value-returns-in-Bool-clause-read
-read_value-returns-in-Bool-clause-read t c =
-    let first : c.args.reader.now ≡ token_of c.in_ok-token.token ∷ c.next.new.self = grind arith in
-    let is : c.args.reader.now ≡ Token.boolean c.in-Bool.truth ∷ c.next.new.self = grind (arith, first) in
+pub read_from-returns-in-Bool-clause-read : goal.read_from-returns-in-Bool-clause-read
+read_from-returns-in-Bool-clause-read t c =
+    let is : token_of c.args.token ∷ c.args.reader.now ≡ Token.boolean c.in-Bool.truth ∷ c.args.reader.now = grind arith in
     let seen : view (Bool c.in-Bool.truth) ≡ boolean c.in-Bool.truth = search (rules, the_lemmas) in
-    ap (converted of_json) (ap (value c.args.depth) is ∙ value_is c.args.depth _) ∙ ap (λ d. Some (d, c.next.new.self)) (sym seen)
+    ap (converted of_json) (ap (value c.args.depth) is ∙ value_is c.args.depth _) ∙ ap (λ d. Some (d, c.args.reader.now)) (sym seen)
 
-pub read_value-returns-in-Null-clause-read : goal.read_value-returns-in-Null-clause-read
-read_value-returns-in-Null-clause-read t c =
-    let first : c.args.reader.now ≡ token_of c.in_ok-token.token ∷ c.next.new.self = grind arith in
-    let is : c.args.reader.now ≡ Token.null ∷ c.next.new.self = grind (arith, first) in
+pub read_from-returns-in-Null-clause-read : goal.read_from-returns-in-Null-clause-read
+read_from-returns-in-Null-clause-read t c =
+    let is : token_of c.args.token ∷ c.args.reader.now ≡ Token.null ∷ c.args.reader.now = grind arith in
     let seen : view (Null) ≡ null = search (rules, the_lemmas) in
-    ap (converted of_json) (ap (value c.args.depth) is ∙ value_is c.args.depth _) ∙ ap (λ d. Some (d, c.next.new.self)) (sym seen)
+    ap (converted of_json) (ap (value c.args.depth) is ∙ value_is c.args.depth _) ∙ ap (λ d. Some (d, c.args.reader.now)) (sym seen)
 
-pub read_value-returns-in-Some-clause-read : goal.read_value-returns-in-Some-clause-read
-read_value-returns-in-Some-clause-read t c =
-    let first : c.args.reader.now ≡ token_of c.in_ok-token.token ∷ c.next.new.self = grind arith in
-    let is : c.args.reader.now ≡ Token.number c.in-Number.text.now ∷ c.next.new.self = grind (arith, first) in
+pub read_from-returns-in-Some-clause-read : goal.read_from-returns-in-Some-clause-read
+read_from-returns-in-Some-clause-read t c =
+    let is : token_of c.args.token ∷ c.args.reader.now ≡ Token.number c.in-Number.text.now ∷ c.args.reader.now = grind arith in
     let seen : view (Number c.in-Some.number) ≡ number (number_view c.in-Some.number) = search (rules, the_lemmas) in
     ap (converted of_json) (ap (value c.args.depth) is ∙ value_is c.args.depth _) ∙ rw (← c.in-Some.ensures, seen)
 
-pub read_value-returns-in_ok-read_items-in-BeginArray-clause-read : goal.read_value-returns-in_ok-read_items-in-BeginArray-clause-read
-read_value-returns-in_ok-read_items-in-BeginArray-clause-read t c =
-    let first : c.args.reader.now ≡ token_of c.in_ok-token.token ∷ c.next.new.self = grind arith in
-    let opened = ap (converted of_json) (ap (value c.args.depth) (first ∙ ap (λ k. token_of k ∷ c.next.new.self) c.in-BeginArray.is) ∙ value-begin_array c.args.depth c.next.new.self (omega arith)) ∙ converted-array (items (value (c.args.depth - 1)) (length c.next.new.self) c.next.new.self) in
+pub read_from-returns-in_ok-read_items-in-BeginArray-clause-read : goal.read_from-returns-in_ok-read_items-in-BeginArray-clause-read
+read_from-returns-in_ok-read_items-in-BeginArray-clause-read t c =
+    let opened = ap (converted of_json) (ap (value c.args.depth) (ap (λ k. token_of k ∷ c.args.reader.now) c.in-BeginArray.is) ∙ value-begin_array c.args.depth c.args.reader.now (omega arith)) ∙ converted-array (items (value (c.args.depth - 1)) (length c.args.reader.now) c.args.reader.now) in
     let found = c.in_ok-read_items-in-BeginArray in
     opened ∙ ap (parse_map array) found.ensures.read ∙ ap (λ d. Some (d, c.read_items.new.reader)) (sym (view-Array found.field-0))
 
-pub read_value-returns-in_ok-read_members-in-BeginObject-clause-read : goal.read_value-returns-in_ok-read_members-in-BeginObject-clause-read
-read_value-returns-in_ok-read_members-in-BeginObject-clause-read t c =
-    let first : c.args.reader.now ≡ token_of c.in_ok-token.token ∷ c.next.new.self = grind arith in
-    let opened = ap (converted of_json) (ap (value c.args.depth) (first ∙ ap (λ k. token_of k ∷ c.next.new.self) c.in-BeginObject.is) ∙ value-begin_object c.args.depth c.next.new.self (omega arith)) ∙ converted-object (members (value (c.args.depth - 1)) (length c.next.new.self) c.next.new.self) in
+pub read_from-returns-in_ok-read_members-in-BeginObject-clause-read : goal.read_from-returns-in_ok-read_members-in-BeginObject-clause-read
+read_from-returns-in_ok-read_members-in-BeginObject-clause-read t c =
+    let opened = ap (converted of_json) (ap (value c.args.depth) (ap (λ k. token_of k ∷ c.args.reader.now) c.in-BeginObject.is) ∙ value-begin_object c.args.depth c.args.reader.now (omega arith)) ∙ converted-object (members (value (c.args.depth - 1)) (length c.args.reader.now) c.args.reader.now) in
     let found = c.in_ok-read_members-in-BeginObject in
     opened ∙ ap (parse_map object) found.ensures.read ∙ ap (λ d. Some (d, c.read_members.new.reader)) (sym (view-Object found.field-0))
 

@@ -3,7 +3,6 @@ use Rattle.json.specs.Json.{read_key, members, value}
 use Rattle.json.proofs.Grammar.{read_key-shorter}
 use Rattle.serde_json.specs.Data.{Members, no_members, put}
 use Rattle.serde_json.specs.Read.{converted, of_members}
-use Rattle.serde_json.specs.View.{view}
 use Rattle.json_texts.proofs.Turns.{member_read, members_over}
 use Rattle.line_shapes.specs.Objects.{AgreeAtKeys, members_in}
 use Rattle.line_shapes.proofs.KeyLemmas.{put_agrees}
@@ -11,7 +10,7 @@ use Rattle.line_shapes.proofs.object.read_contents.Goals as goal
 
 pub members-init : goal.members-init
 members-init c =
-    let same : AgreeAtKeys no_members (members_in c.empty-found.result) = rw c.empty-found.ensures (λ k. refl) in
+    let same : AgreeAtKeys no_members (members_in c.args.found.now) = rw c.requires (λ k. refl) in
     (length c.args.reader.now, omega arith, no_members, refl, same)
 
 pub members-preserved : goal.members-preserved
@@ -23,16 +22,16 @@ members-preserved c =
     let k = c.in-Some.name.now in
     let s = c.next_key.new.self in
     let named : read_key l.reader ≡ Some (Some k, s) = grind arith in
-    let done = c.in_ok-json.ensures in
-    let v = c.in_ok-json.json in
-    let r = c.read_value.new.reader in
+    let done = c.in_ok-read_member.ensures in
+    let d = done.read.0 in
+    let r = c.read_member.new.reader in
     let less = read_key-shorter l.reader (Some k) s named in
     let lesser = done.shorter in (
       n - 1,
       omega (arith, l.invariant.1),
-      put k (view v) before,
-      l.invariant.3 ∙ member_read p before n k l.reader s r (view v) (omega (arith, l.invariant.1)) named done.read,
-      put_agrees k (view v) before (members_in l.found) _ l.invariant.4 c.put.ensures,
+      put k d before,
+      l.invariant.3 ∙ member_read p before n k l.reader s r d (omega (arith, l.invariant.1)) named done.read.1,
+      put_agrees k d before (members_in l.found) _ l.invariant.4 done.read.2,
     )
 
 pub returns : goal.returns

@@ -26,4 +26,4 @@ loop-states-preserved g c =
     c.loop-states.states c.requires.links c.loop-states.invariant.prefix e m shows
     (λ a b. let yes : IsTrue c.is_first-first.result = c.is_first-first.ensures.1 (a, b) in let none : c.is_first-first.result ≡ false = c.if-first.false in grind arith)
     c.loop-states.invariant.back in
-    rw (c.truncate.ensures.items, c.in_ok-push.ensures.ok) (record { prefix = more.prefix; some = more.some; back = more.back })
+    rw (c.keep_first.ensures, c.in_ok-push.ensures.ok) (record { prefix = more.prefix; some = more.some; back = more.back })

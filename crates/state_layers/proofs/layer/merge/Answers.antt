@@ -7,4 +7,4 @@ loop-entry-preserved-then-len-most g c = let lt : c.args.most < length c.loop-en
     merged_skip _ _ _ _ _ _ c.loop-entry.invariant lt
 
 pub loop-entry-preserved : goal.loop-entry-preserved
-loop-entry-preserved g c = merged_step _ _ _ _ _ _ _ c.loop-entry.invariant c.in_ok-add.ensures
+loop-entry-preserved g c = merged_step _ _ _ _ _ _ _ c.loop-entry.invariant (rw c.in_ok-member.ensures at c.in_ok-add.ensures)

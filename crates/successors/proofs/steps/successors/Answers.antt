@@ -12,7 +12,7 @@ use Rattle.state_layers.specs.Gives.{Gives}
 use Rattle.state_layers.specs.declared.steps.StepFault.{StepFault}
 use Rattle.state_sets.specs.Among.{IsAmong}
 use Rattle.successors.specs.Taken.{AddsIf, BothFound, IsStart, MayRest}
-use Rattle.successors.proofs.Answering.{not_so, some_of}
+use Rattle.successors.proofs.Answering.{adds_where, not_so, some_of}
 use Rattle.successors.proofs.Giving.{line_fault, line_listed, line_start, unseen}
 use Rattle.successors.proofs.steps.successors.Goals as goal
 
@@ -44,7 +44,7 @@ event_found-requires-clause-start c =
     let exact = some_of m.field-0 p (λ q. (t : Values) → Completes q t ↔ (IsState (length s) t × Moves line.updates s t)) c.in-Some.is m.ensures.exact in
     let yes : c.agrees.result ≡ true = grind arith in
     let agreed = subst (λ (ss : List See). Agrees ss p) c.items-sees.ensures (c.agrees.ensures.0 yes) in
-    (updated line.updates, subst (λ (q : Places). IsStart g c.items-sees.result.now (act_of line.event) (updated line.updates) q) (sym c.in_ok-first.ensures) (subst (λ (ss : List See). IsStart g ss (act_of line.event) (updated line.updates) p) (sym c.items-sees.ensures) (line_start c.orderly_law.ensures c.whole_law.ensures c.seen_laws.ensures.whole c.seen_laws.ensures.shown g c.requires.ready s c.requires.state c.args.bound c.args.stutter line c.requires.fits p long filled values exact agreed)))
+    (updated line.updates, subst (λ (ss : List See). IsStart g ss (act_of line.event) (updated line.updates) p) (sym c.items-sees.ensures) (line_start c.orderly_law.ensures c.whole_law.ensures c.seen_laws.ensures.whole c.seen_laws.ensures.shown g c.requires.ready s c.requires.state c.args.bound c.args.stutter line c.requires.fits p long filled values exact agreed))
 
 pub returns-in-Ok : goal.returns-in-Ok
 returns-in-Ok c =
@@ -60,8 +60,9 @@ returns-in-Ok c =
     let yes : c.agrees.result ≡ true = grind arith in
     let agreed = subst (λ (ss : List See). Agrees ss p) c.items-sees.ensures (c.agrees.ensures.0 yes) in
     line_listed c.orderly_law.ensures c.whole_law.ensures c.seen_laws.ensures.whole c.seen_laws.ensures.shown g c.requires.ready s c.requires.state c.args.bound c.args.stutter line c.requires.fits p long filled values exact agreed c.in-Ok.found.items c.add_rest.new.found.items
-    (subst (λ (ss : List See). BothFound g s ss (act_of line.event) p (Ok c.in-Ok.found.items)) c.items-sees.ensures (subst (λ (q : Places). BothFound g s c.items-sees.result.now (act_of line.event) q (Ok c.in-Ok.found.items)) c.in_ok-first.ensures c.in-Ok.ensures.found))
-    (subst (λ (q : Places). AddsIf (MayRest c.args.stutter line p q) q c.in-Ok.found.items c.add_rest.new.found.items) c.in_ok-whole.ensures c.in_ok-add_rest-in-Ok.ensures)
+    (subst (λ (ss : List See). BothFound g s ss (act_of line.event) p (Ok c.in-Ok.found.items)) c.items-sees.ensures c.in-Ok.ensures.found)
+    (subst (λ (q : Places). AddsIf (MayRest c.args.stutter line p q) q c.in-Ok.found.items c.add_rest.new.found.items) c.in_ok-whole.ensures
+    (adds_where _ _ _ _ _ c.rests-stays.ensures c.in_ok-add_rest-in-Ok.ensures))
     c.states_of.result (subst (λ (qs : List Places). Gives (IsAmong qs) (λ t f. ⊥) (λ t. Unit {0}) c.args.bound c.states_of.result) c.deref.ensures.value c.states_of.ensures)
 
 pub returns : goal.returns
@@ -78,4 +79,4 @@ returns c =
     let yes : c.agrees.result ≡ true = grind arith in
     let agreed = subst (λ (ss : List See). Agrees ss p) c.items-sees.ensures (c.agrees.ensures.0 yes) in
     subst (λ (f : StepFault). Gives (Step (asks g c.args.stutter line) s) (FaultStep (asks g c.args.stutter line) (updated line.updates) s) (AreSeen line.sees) c.args.bound (Err f)) (sym c.refused.ensures)
-    (line_fault c.orderly_law.ensures c.whole_law.ensures c.seen_laws.ensures.whole c.seen_laws.ensures.shown g c.requires.ready s c.requires.state c.args.bound c.args.stutter line c.requires.fits p long filled values exact agreed c.in-Err.fault (subst (λ (ss : List See). BothFound g s ss (act_of line.event) p (Err c.in-Err.fault)) c.items-sees.ensures (subst (λ (q : Places). BothFound g s c.items-sees.result.now (act_of line.event) q (Err c.in-Err.fault)) c.in_ok-first.ensures c.in-Err.ensures.fault)))
+    (line_fault c.orderly_law.ensures c.whole_law.ensures c.seen_laws.ensures.whole c.seen_laws.ensures.shown g c.requires.ready s c.requires.state c.args.bound c.args.stutter line c.requires.fits p long filled values exact agreed c.in-Err.fault (subst (λ (ss : List See). BothFound g s ss (act_of line.event) p (Err c.in-Err.fault)) c.items-sees.ensures c.in-Err.ensures.fault))

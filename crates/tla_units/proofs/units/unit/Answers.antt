@@ -20,6 +20,26 @@ returns-in-Some-Comma-clause-refused c =
     let q : Some marks.Comma ≡ first_mark (drop c.args.from c.args.laid.now) = search rules in
     other_refused (DeepUnit (drop c.args.from c.args.laid.now)) (drop c.args.from c.args.laid.now) _ (Some marks.Comma) q (λ b. b) c.fault_at-in-Some-Comma.ensures
 
+pub returns-in-Some-OpenParenthesis-clause-refused : goal.returns-in-Some-OpenParenthesis-clause-refused
+returns-in-Some-OpenParenthesis-clause-refused c =
+    let q : Some marks.OpenParenthesis ≡ first_mark (drop c.args.from c.args.laid.now) = search rules in
+    other_refused (DeepUnit (drop c.args.from c.args.laid.now)) (drop c.args.from c.args.laid.now) _ (Some marks.OpenParenthesis) q (λ b. b) c.fault_at-in-Some-OpenParenthesis.ensures
+
+pub returns-in-Some-CloseParenthesis-clause-refused : goal.returns-in-Some-CloseParenthesis-clause-refused
+returns-in-Some-CloseParenthesis-clause-refused c =
+    let q : Some marks.CloseParenthesis ≡ first_mark (drop c.args.from c.args.laid.now) = search rules in
+    other_refused (DeepUnit (drop c.args.from c.args.laid.now)) (drop c.args.from c.args.laid.now) _ (Some marks.CloseParenthesis) q (λ b. b) c.fault_at-in-Some-CloseParenthesis.ensures
+
+pub returns-in-Some-Underscore-clause-refused : goal.returns-in-Some-Underscore-clause-refused
+returns-in-Some-Underscore-clause-refused c =
+    let q : Some marks.Underscore ≡ first_mark (drop c.args.from c.args.laid.now) = search rules in
+    other_refused (DeepUnit (drop c.args.from c.args.laid.now)) (drop c.args.from c.args.laid.now) _ (Some marks.Underscore) q (λ b. b) c.fault_at-in-Some-Underscore.ensures
+
+pub returns-in-Some-Recursive-clause-refused : goal.returns-in-Some-Recursive-clause-refused
+returns-in-Some-Recursive-clause-refused c =
+    let q : Some marks.Recursive ≡ first_mark (drop c.args.from c.args.laid.now) = search rules in
+    other_refused (DeepUnit (drop c.args.from c.args.laid.now)) (drop c.args.from c.args.laid.now) _ (Some marks.Recursive) q (λ b. b) c.fault_at.ensures
+
 pub returns-in-Some-Defined-clause-refused : goal.returns-in-Some-Defined-clause-refused
 returns-in-Some-Defined-clause-refused c =
     let q : Some marks.Defined ≡ first_mark (drop c.args.from c.args.laid.now) = search rules in

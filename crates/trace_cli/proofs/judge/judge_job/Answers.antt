@@ -6,7 +6,7 @@ use Rattle.trace_cli.proofs.CallLemmas.{calls_answered}
 use Rattle.trace_cli.proofs.judge.judge_job.Goals as goal
 
 pub returns-clause-calls : goal.returns-clause-calls
-returns-clause-calls g c = calls_answered _ _ _ _ _ _ _ _ c.answer.result c.in_ok-accepted.ensures.accepted c.answer.ensures.answers
+returns-clause-calls g c = calls_answered _ _ _ _ _ _ _ _ c.answer.result c.in_ok-accepted.ensures.accepted c.held_so.ensures c.answer.ensures.answers
 
 pub returns-clause-stopped : goal.returns-clause-stopped
 returns-clause-stopped g c =

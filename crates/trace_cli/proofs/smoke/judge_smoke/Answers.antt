@@ -27,7 +27,7 @@ answer_smoke-requires-clause-no_near c = ap (λ (job : Job). job.near) c.in_ok-j
 
 pub returns-clause-runs : goal.returns-clause-runs
 returns-clause-runs c =
-    smoke_tested _ _ _ _ _ _ _ c.answer_smoke.result c.in_ok-files.ensures c.in_ok-job.ensures.job c.in_ok-accepted.ensures.accepted c.answer_smoke.ensures.tested
+    smoke_tested _ _ _ _ _ _ _ c.answer_smoke.result c.in_ok-files.ensures c.in_ok-job.ensures.job c.in_ok-accepted.ensures.accepted c.held_so.ensures c.answer_smoke.ensures.tested
 
 pub returns-clause-stopped : goal.returns-clause-stopped
 returns-clause-stopped c =

@@ -7,12 +7,12 @@ returns-clause-valid g c =
     let a = c.args.accepted.now in
     let known : LinesKnown = record { read = c.unchecked_law.ensures; passed = c.passing_laws.ensures.lines } in
     let lines = accepted_lines _ c.args.job.now a.program a.config a.spec a.lined known c.requires.read in
-    prints_valid c.args.job.now a.program a.config a.spec a.lined (c.printed_valid_law.ensures (asked_by c.args.job.now.options)) lines c.known_texts.ensures c.known_places.ensures
+    prints_valid c.args.job.now a.program a.config a.spec a.lined (c.printed_valid_law.ensures (asked_by c.args.job.now.options)) lines c.held_so.ensures.texts c.held_so.ensures.places
 
 pub returns-clause-checked : goal.returns-clause-checked
 returns-clause-checked g c =
     let a = c.args.accepted.now in
     let known : LinesKnown = record { read = c.unchecked_law.ensures; passed = c.passing_laws.ensures.lines } in
     let lines = accepted_lines _ c.args.job.now a.program a.config a.spec a.lined known c.requires.read in
-    let valid = prints_valid c.args.job.now a.program a.config a.spec a.lined (c.printed_valid_law.ensures (asked_by c.args.job.now.options)) lines c.known_texts.ensures c.known_places.ensures in
+    let valid = prints_valid c.args.job.now a.program a.config a.spec a.lined (c.printed_valid_law.ensures (asked_by c.args.job.now.options)) lines c.held_so.ensures.texts c.held_so.ensures.places in
     is_checked_valid c.args.job.now a.program a.config a.spec a.lined valid

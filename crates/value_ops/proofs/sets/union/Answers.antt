@@ -16,7 +16,7 @@ returns c =
     let b = c.args.b.now in
     let k : Keep = record { left = true; both = true; right = true } in
     let lists : c.in_ok-members.members.items ≡ merged k (items_of a) (items_of b) =
-    c.in_ok-members.ensures ∙ ap (λ xs. merged k xs c.members-2.result.now) c.members.ensures ∙ ap (λ ys. merged k (items_of a) ys) c.members-2.ensures in
+    c.in_ok-members.ensures ∙ ap (λ xs. merged k xs c.members-ys.result.now) c.members-xs.ensures ∙ ap (λ ys. merged k (items_of a) ys) c.members-ys.ensures in
     let same = λ (v : Val). subst (λ (zs : List Val). Contains zs v ↔ InUnion a b v) (sym lists)
     (in_union (items_of a) (items_of b) (ordered a c.is_value.ensures c.in_ok-expect_set.ensures).ascending (ordered b c.is_value-2.ensures c.in_ok-expect_set-2.ensures).ascending v) in
     on_sets a b (GivesSet (InUnion a b)) c.set_from.result c.in_ok-expect_set.ensures c.in_ok-expect_set-2.ensures
