@@ -21,7 +21,7 @@ if [ -z "$reports" ]; then
 fi
 mkdir -p "$reports" || exit 2
 
-# What a reader needs first: the answer, the last state that was reached, and the line that does not fit there.
+# What a reader needs first: the answer, the last state that was reached, the line that does not fit there, and with --near what alone is wrong.
 tell_misfit() {
     local answer next
     answer="$(head -n 1 "$1")"
@@ -29,8 +29,9 @@ tell_misfit() {
     case "$answer" in
         'NOT EXPLAINED '*)
             next="${answer#* next=}"
-            echo "    last state: $(tail -n 1 "$1")"
-            echo "    next line:  $(sed -n "${next##*:}p" "${next%:*}")" ;;
+            echo "    last state: $(grep '^{' "$1" | tail -n 1)"
+            echo "    next line:  $(sed -n "${next##*:}p" "${next%:*}")"
+            grep -E '^(NEAR|WITHIN) ' "$1" | sed 's/^/    /' ;;
     esac
 }
 
