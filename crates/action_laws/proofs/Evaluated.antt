@@ -15,6 +15,8 @@ use Rattle.tla_ast.specs.declared.operators.InfixOperator.TheVariants as infix_o
 use Rattle.tla_terms.specs.declared.level.Level.{Level}
 use Rattle.tla_terms.specs.declared.level.Level.TheVariants as levels
 use Rattle.tla_terms.specs.declared.operator.Operator.{Operator}
+use Rattle.tla_terms.specs.declared.operator.Own.{Own}
+use Rattle.tla_terms.specs.declared.operator.Own.TheVariants as owns
 use Rattle.tla_terms.specs.declared.standard.StandardOperator.{StandardOperator}
 use Rattle.tla_terms.specs.declared.standard.StandardOperator.TheVariants as standard
 use Rattle.tla_terms.specs.Levels.{joined, of_operands, of_prefix, of_infix}
@@ -25,9 +27,10 @@ use Rattle.term_parts.specs.Limits.{is_above, limits}
 use Rattle.term_parts.specs.Parts.{part, parts_of, listed, operand_list, set_list, value_list, arm_list, is_prime, has_prime, primes, steps_parts, change_parts}
 use Rattle.tla_eval.specs.Answers.{arity}
 use Rattle.tla_eval.specs.Contexts.{Context, Places, Table, bind, enter, primed, within}
+use Rattle.tla_eval.specs.Recursion.{applied_by, marked_so, recursion_at, recursion_of}
 use Rattle.tla_eval.specs.Sets.{first_operand, other_operands}
 use Rattle.tla_eval.specs.Unchanged.{behind, changed_of, prime_of, unchanged_of}
-use Rattle.eval_reads.specs.Reads.{Reading, Reads, ReadsEach, ReadsUnder, Knows, UseReads, StepsRead, PathReads, ChangesRead, ArmsRead, BoundsRead, SameReads, MeansUnchangedReads, UnchangedReads, PrefixReads, InfixReads, MeaningReads, has_value, is_chained}
+use Rattle.eval_reads.specs.Reads.{Reading, Reads, ReadsEach, ReadsUnder, Knows, UseReads, RecursionReads, StepsRead, PathReads, ChangesRead, ArmsRead, BoundsRead, SameReads, MeansUnchangedReads, UnchangedReads, PrefixReads, InfixReads, MeaningReads, has_value, is_chained}
 use Rattle.tla_actions.specs.declared.which.Which.TheVariants as which
 use Rattle.tla_actions.specs.Reads.{parts_in, body_of, reads}
 use Rattle.tla_names.specs.Means.{is_junction}
@@ -246,16 +249,57 @@ module _ (variables : ℕ) (ops : Table) (Q : ℕ → Type 0) (bodies : Bodies v
       read_mapped reading c (λ e. e.1) (other_operands (term.Next os q s)) (at, e) (others_read b n c a (term.Next os q s) h f) (ih b n c e a k g),
     )
 
+    bound_read : (b : Bool) (n : ℕ) (c : Context) → At b n c → (k : ℕ) (e : Term) → Here (n + k) e → Fit b e → ReadsUnder reading c k e
+    bound_read b n c a k e h f vs q = ih b (n + k) (bind c vs) e (bind_at b n k c vs a q) h f
+
+    over_read : (b : Bool) (n : ℕ) (c : Context) → At b n c → (bs : Bounds) (e : Term) → InBounds Good n bs → Here (n + width bs) e → PartsAre Fit (parts_of b (set_list bs) ++ part b e ∷ []) → BoundsRead reading c bs × ReadsUnder reading c (width bs) e
+    over_read b n c a bs e h k f =
+        let own : PartsAre Fit (part b e ∷ []) = right Fit (parts_of b (set_list bs)) (part b e ∷ []) f in
+        (bounds_read b n c a bs h (left Fit (parts_of b (set_list bs)) (part b e ∷ []) f), bound_read b n c a (width bs) e k own.0)
+
+    -- a function that uses itself
+
+    marked_read : (b : Bool) (n : ℕ) (c : Context) → At b n c → (own : Own) (m : ℕ) (body : Term) → m ≤ n → Here m body → Fit b body → RecursionReads reading c (marked_so own m body)
+    marked_read b n c a owns.Function m (Placed at l (term.Function bs e)) le h f =
+        let s : length c.slots ≡ n = a.0 in
+        let r : BoundsRead reading (within m c) bs × ReadsUnder reading (within m c) (width bs) e = over_read b m (within m c) (within_at b n m c a le) bs e h.1.0 h.1.1 (fit_parts b m at l (term.Function bs e) h.0 f) in
+        ((omega arith), r.0, r.1)
+    marked_read b n c a own m (Placed at l p) le h f = tt
+
+    named_read : (b : Bool) (n : ℕ) (c : Context) → At b n c → (e : Term) → Here n e → Fit b e → RecursionReads reading c (recursion_of ops e)
+    named_read b n c a (Placed at l (term.Use k term.NoTerms)) h f = by_row (slice_get ops k) row
+      where
+        row : (o : Operator) → slice_get ops k ≡ Some o → RecursionReads reading c (recursion_at (Some o))
+        row o q =
+            let u : IsUse ops n k term.NoTerms = h.0.0.0 in
+            let s : o ≡ u.operator = same_some o u.operator (sym q ∙ u.is) in
+            let around : o.outer ≤ n = subst (λ (x : Operator). x.outer ≤ n) (sym s) u.around in
+            let alone : 0 ≡ o.params = subst (λ (x : Operator). 0 ≡ x.params) (sym s) u.arguments in
+            let i : o.outer + o.params ≡ o.outer = omega arith in
+            let own : PartsAre Fit (part b o.body ∷ []) = subst (λ (r : Option Operator). PartsAre Fit (map (part b) (body_of r))) q (fit_parts b n at l (term.Use k term.NoTerms) h.0 f) in
+            marked_read b n c a o.own o.outer o.body around (subst (λ (x : ℕ). Here x o.body) i (bodies k o h.0.1.1 q).0) own.0
+
+        by_row : (found : Option Operator) → ((o : Operator) → found ≡ Some o → RecursionReads reading c (recursion_at (Some o))) → RecursionReads reading c (recursion_at found)
+        by_row None g = tt
+        by_row (Some o) g = g o refl
+    named_read b n c a (Placed at l m) h f = tt
+
+    applied_read : (b : Bool) (n : ℕ) (c : Context) → At b n c → (e : Term) → Here n e → (ss : Steps) (ts : Terms) → Fit (b || has_prime ss) e → RecursionReads reading c (applied_by ops e ss (term.Index ts))
+    applied_read b n c a e r term.NoSteps ts g = named_read b n c a e r (subst (λ (p : Bool). Fit p e) (sym (or_none b)) g)
+    applied_read b n c a e r (term.MoreSteps ss at s) ts g = tt
+
     -- steps
 
-    steps_read : (b : Bool) (n : ℕ) (c : Context) → At b n c → (e : Term) → Here n e → (ss : Steps) → InSteps Good n ss → PartsAre Fit (steps_parts b ss) → Fit (b || has_prime ss) e → StepsRead reading c e ss
+    steps_read : (b : Bool) (n : ℕ) (c : Context) → At b n c → (e : Term) → Here n e → (ss : Steps) → InSteps Good n ss → PartsAre Fit (steps_parts b ss) → Fit (b || has_prime ss) e → StepsRead ops reading c e ss
     steps_read b n c a e r term.NoSteps h f g = ih b n c e a r (subst (λ (p : Bool). Fit p e) (sym (or_none b)) g)
     steps_read b n c a e r (term.MoreSteps ss at term.Prime) h f g =
         steps_read (b || true) n (primed c) (primed_at b n c a) e r ss h.0 f (subst (λ (p : Bool). Fit p e) (swapped b (has_prime ss) true) g)
-    steps_read b n c a e r (term.MoreSteps ss at (term.Index ts)) h f g = (
-      steps_read (b || false) n c (at_same b n c a) e r ss h.0 (right Fit (parts_of b (listed ts)) (steps_parts (b || false) ss) f) (subst (λ (p : Bool). Fit p e) (swapped b (has_prime ss) false) g),
-      terms_read b n c a ts h.1 (left Fit (parts_of b (listed ts)) (steps_parts (b || false) ss) f),
-    )
+    steps_read b n c a e r (term.MoreSteps ss at (term.Index ts)) h f g =
+        let fit : Fit ((b || false) || has_prime ss) e = subst (λ (p : Bool). Fit p e) (swapped b (has_prime ss) false) g in (
+          steps_read (b || false) n c (at_same b n c a) e r ss h.0 (right Fit (parts_of b (listed ts)) (steps_parts (b || false) ss) f) fit,
+          terms_read b n c a ts h.1 (left Fit (parts_of b (listed ts)) (steps_parts (b || false) ss) f),
+          applied_read (b || false) n c (at_same b n c a) e r ss ts fit,
+        )
     steps_read b n c a e r (term.MoreSteps ss at (term.Field k)) h f g =
         steps_read (b || false) n c (at_same b n c a) e r ss h.0 f (subst (λ (p : Bool). Fit p e) (swapped b (has_prime ss) false) g)
 
@@ -381,16 +425,8 @@ module _ (variables : ℕ) (ops : Table) (Q : ℕ → Type 0) (bodies : Bodies v
     prefix_read b n c a prefix.Eventually at e k l h f = absurd (cc)
     prefix_read b n c a o at e k l h f = ih b n c e a h (subst (λ (p : Bool). Fit p e) (sym (or_none b)) f)
 
-    bound_read : (b : Bool) (n : ℕ) (c : Context) → At b n c → (k : ℕ) (e : Term) → Here (n + k) e → Fit b e → ReadsUnder reading c k e
-    bound_read b n c a k e h f vs q = ih b (n + k) (bind c vs) e (bind_at b n k c vs a q) h f
-
     bound_one_read : (b : Bool) (n : ℕ) (c : Context) → At b n c → (e : Term) → Here (suc n) e → Fit b e → ReadsUnder reading c 1 e
     bound_one_read b n c a e h f vs q = ih b (suc n) (bind c vs) e (bind_one_at b n c vs a q) h f
-
-    over_read : (b : Bool) (n : ℕ) (c : Context) → At b n c → (bs : Bounds) (e : Term) → InBounds Good n bs → Here (n + width bs) e → PartsAre Fit (parts_of b (set_list bs) ++ part b e ∷ []) → BoundsRead reading c bs × ReadsUnder reading c (width bs) e
-    over_read b n c a bs e h k f =
-        let own : PartsAre Fit (part b e ∷ []) = right Fit (parts_of b (set_list bs)) (part b e ∷ []) f in
-        (bounds_read b n c a bs h (left Fit (parts_of b (set_list bs)) (part b e ∷ []) f), bound_read b n c a (width bs) e k own.0)
 
     fields_differ : (fs : Fields) → AreFields fs → AreDifferent (map (λ f. f.0) (fields_list fs))
     fields_differ fs h = names_differ (fields_list fs) h.1

@@ -1,11 +1,11 @@
 -- Where the parts of alike terms have the same outcomes, the terms do: row by row.
 use Rattle.std.proofs.Common.{◌≡◌, refl, subst, inl, inr, List, [], ◌∷◌, ◌++◌, map, take}
-use Rattle.std.specs.Prelude.{ℕ, Bool, true, not, Some, Ok, Result, length, slice_get}
+use Rattle.std.specs.Prelude.{ℕ, Bool, true, not, Option, Some, None, Ok, Result, length, slice_get}
 use Rattle.std.specs.List.{AllZip}
 use Rattle.trace_base.specs.declared.place.Place.{Place}
 use Rattle.tla_values.specs.Data.{Val, string}
 use Rattle.tla_values.specs.FunctionOperations.{GivesSequence, AppliesAt}
-use Rattle.tla_values.specs.declared.fault.EvalKind.TheVariants.{NoCase}
+use Rattle.tla_values.specs.declared.fault.EvalKind.TheVariants.{NoCase, OutsideDomain}
 use Rattle.tla_core.specs.declared.fault.Fault.{Fault}
 use Rattle.tla_ast.specs.declared.operators.PrefixOperator.{PrefixOperator}
 use Rattle.tla_ast.specs.declared.operators.PrefixOperator.TheVariants as prefix
@@ -16,6 +16,8 @@ use Rattle.tla_ast.specs.declared.operators.Quantifier.TheVariants as quantifier
 use Rattle.tla_terms.specs.declared.level.Level.{Level}
 use Rattle.tla_terms.specs.declared.level.Level.TheVariants as levels
 use Rattle.tla_terms.specs.declared.operator.Operator.{Operator}
+use Rattle.tla_terms.specs.declared.operator.Own.{Own}
+use Rattle.tla_terms.specs.declared.operator.Own.TheVariants as owns
 use Rattle.tla_terms.specs.declared.standard.StandardOperator.{StandardOperator}
 use Rattle.tla_terms.specs.declared.standard.StandardOperator.TheVariants as standard
 use Rattle.tla_terms.specs.Lists.{terms_list, steps_list, bounds_list, fields_list, changes_list, arms_list}
@@ -28,14 +30,16 @@ use Rattle.eval_sets.specs.DescribedSets.{Described, SeqOf}
 use Rattle.tla_eval.specs.Outcomes.{Outcome, Gives, Fails, Then, Each, AllTrue, Operated, place_in, truth_at}
 use Rattle.tla_eval.specs.Contexts.{Context, Table, Evaluate, Describe, IsKnown, WithDefinition, bind, within, primed, enter}
 use Rattle.tla_eval.specs.Operations.{InfixAnswers, PrefixAnswers, StandardAnswers}
-use Rattle.tla_eval.specs.Sets.{set_at, MeansSet, ListedAt, first_operand, other_operands, PartDescribed, ProductDescribed, FieldDescribed, RecordsDescribed, IntervalDescribed, Joined, ChainDescribed}
+use Rattle.tla_eval.specs.Sets.{IsIn, set_at, MeansSet, ListedAt, first_operand, other_operands, PartDescribed, ProductDescribed, FieldDescribed, RecordsDescribed, IntervalDescribed, Joined, ChainDescribed}
 use Rattle.tla_eval.specs.Binders.{members_at, MembersOf, BoundValues, FirstThat, Passing}
-use Rattle.tla_eval.specs.Functions.{KeyOf, StepKey, steps_place, StepsEvaluate, AtKey, Changed, AllChanged}
+use Rattle.tla_eval.specs.Functions.{KeyOf, StepKey, AtStep, steps_place, StepsEvaluate, AtKey, Changed, AllChanged}
+use Rattle.tla_eval.specs.Recursion.{Recursion, KeysDescribed, RecursionEvaluates, applied_by, names_at, sets_of_names}
 use Rattle.tla_eval.specs.Unchanged.{TruthOf, prime_of, unchanged_of, changed_of, behind, StaysSame, MeansUnchanged, IsUnchanged}
-use Rattle.tla_eval.specs.Meanings.{ChainEvaluates, ImplicationHolds, AreEquivalent, IsMemberOf, IsSubsetOf, FunctionsDescribed, SequencesDescribed, SubsetsDescribed, InfixDescribed, InfixEvaluates, PrefixEvaluates, StandardEvaluates, UseDescribed, UseEvaluates, FirstArm, PairOf, QuantifiedEvaluates, FieldEvaluates, MeaningEvaluates, MeaningDescribes, IsValueOf, SetOfAll, FunctionOfAll}
+use Rattle.tla_eval.specs.Meanings.{ChainEvaluates, ImplicationHolds, AreEquivalent, IsMemberOf, IsSubsetOf, FunctionsDescribed, SequencesDescribed, SubsetsDescribed, InfixDescribed, InfixEvaluates, PrefixEvaluates, StandardEvaluates, BodyDescribed, UseDescribed, UseEvaluates, FirstArm, PairOf, QuantifiedEvaluates, FieldEvaluates, MeaningEvaluates, MeaningDescribes, IsValueOf, SetOfAll, FunctionOfAll}
 use Rattle.eval_laws.proofs.Keeping.{Keeps, keeps_itself, keeps_then, keeps_first, keeps_either, keeps_each, keeps_all_true, keeps_some_true, keeps_truth}
 use Rattle.alike_outcomes.specs.Alikes.{AreAlikeTerms, AreAlikeLists, AreAlikeBeside, AreAlikeArms, AreAlikeChanges, AreFoundAlike}
 use Rattle.alike_outcomes.proofs.AlikeLists.{terms_zip, bounds_zip, fields_zip, changes_zip, arms_zip, path_zip, others_zip, firsts_alike, beside_zip, places_same}
+use Rattle.alike_outcomes.proofs.Recursions.{AreAlikeRecursions, applied_alike, both_recursions, names_same, no_recursion, sets_alike}
 use Rattle.alike_outcomes.proofs.Spelled.{prime_alike_of, unchanged_alike_of, changed_alike_of}
 use Rattle.alike_outcomes.proofs.Zipping.{zips_each, zips_all_true, zips_some_true}
 
@@ -246,10 +250,16 @@ module _ (ops all : Table) (found_alike : FindsAlike ops all) (ev ew : Evaluate)
   entered_same : {A : Type 0} (P : Context → Term → Outcome A) (c : Context) (vs : List Val) (o p : Operator) → o.outer ≡ p.outer → (r : Result A Fault) → P (enter o vs c) p.body r → P (enter p vs c) p.body r
   entered_same P c vs o p q r h = subst (λ (n : ℕ). P (record { slots = take n c.slots ++ vs; now = c.now; next = c.next }) p.body r) q h
 
-  use_described_same : (c : Context) (k j : ℕ) → AlikeRows AreOne ops all k j → Keeps (UseDescribed ops de c k) (UseDescribed all dw c j)
+  body_same : (c : Context) (own : Own) (e f : Term) → AreAlikeTerms ops all e f → Keeps (BodyDescribed own ev de c e) (BodyDescribed own ew dw c f)
+  body_same c owns.Apart e f a = de_same c e f a
+  body_same c owns.Itself e f a = keeps_first (ev c e) (ew c f) _ (ev_same c e f a)
+  body_same c owns.Function e f a = keeps_first (ev c e) (ew c f) _ (ev_same c e f a)
+
+  use_described_same : (c : Context) (k j : ℕ) → AlikeRows AreOne ops all k j → Keeps (UseDescribed ops ev de c k) (UseDescribed all ew dw c j)
   use_described_same c k j row r h =
       let w : (p : Operator) × (slice_get all j ≡ Some p) × AlikeOperators AreOne ops all h.0 p = row_is AreOne ops all k j h.0 row h.1 in
-      (w.0, w.1, entered_same dw c [] h.0 w.0 w.2.outer r (de_same (enter h.0 [] c) h.0.body w.0.body w.2.body r h.2))
+      let same : BodyDescribed h.0.own ew dw (enter h.0 [] c) w.0.body r = body_same (enter h.0 [] c) h.0.own h.0.body w.0.body w.2.body r h.2 in
+      (w.0, w.1, entered_same (BodyDescribed w.0.own ew dw) c [] h.0 w.0 w.2.outer r (subst (λ (own : Own). BodyDescribed own ew dw (enter h.0 [] c) w.0.body r) w.2.own same))
 
   use_same : (c : Context) (k j : ℕ) → AlikeRows AreOne ops all k j → (ts us : Terms) → AlikeTerms AreOne ops all ts us → (at : Place)
       → Keeps (UseEvaluates ops ev de c k ts at) (UseEvaluates all ew dw c j us at)
@@ -314,22 +324,45 @@ module _ (ops all : Table) (found_alike : FindsAlike ops all) (ev ew : Evaluate)
   steps_place_same e f a _ _ no_steps_alike = same_place AreOne ops all e f a
   steps_place_same e f a _ _ (more_steps_alike ss rs at s r t u) = refl
 
-  applied_same : (c : Context) (e f : Term) → AreAlikeTerms ops all e f → (ss rs : Steps) → AlikeSteps AreOne ops all ss rs → Keeps (StepsEvaluate ev c e ss) (StepsEvaluate ew c f rs) → (at : Place) (s r : Step)
-      → AlikeStep AreOne ops all s r
-      → Keeps (Then (StepsEvaluate ev c e ss) (λ g. Then (StepKey ev c at s) (λ key. Operated (AppliesAt g key) (place_in at (steps_place (place_of e) ss ∷ [])))))
-      (Then (StepsEvaluate ew c f rs) (λ g. Then (StepKey ew c at r) (λ key. Operated (AppliesAt g key) (place_in at (steps_place (place_of f) rs ∷ [])))))
-  applied_same c e f a ss rs t h at s r u =
-      subst (λ (p : Place). Keeps (Then (StepsEvaluate ev c e ss) (λ g. Then (StepKey ev c at s) (λ key. Operated (AppliesAt g key) (place_in at (steps_place (place_of e) ss ∷ [])))))
-      (Then (StepsEvaluate ew c f rs) (λ g. Then (StepKey ew c at r) (λ key. Operated (AppliesAt g key) (place_in at (p ∷ [])))))) (steps_place_same e f a ss rs t)
-      (keeps_then (StepsEvaluate ev c e ss) (StepsEvaluate ew c f rs) _ _ h (λ g. keeps_first (StepKey ev c at s) (StepKey ew c at r) _ (key_same c at s r u)))
+  keys_same : (c : Context) (es fs : List Term) → AreAlikeLists ops all es fs → Keeps (KeysDescribed de c es) (KeysDescribed dw c fs)
+  keys_same c [] [] z = product_same c [] [] z
+  keys_same c [] (f ∷ fs) z = absurd z
+  keys_same c (e ∷ es) [] z = absurd z
+  keys_same c (e ∷ []) (f ∷ []) z = set_same c e f z.0
+  keys_same c (e ∷ []) (f ∷ g ∷ fs) z = absurd z.1
+  keys_same c (e ∷ x ∷ es) (f ∷ []) z = absurd z.1
+  keys_same c (e ∷ x ∷ es) (f ∷ g ∷ fs) z = product_same c (e ∷ x ∷ es) (f ∷ g ∷ fs) z
 
-  step_same : (c : Context) (e f : Term) → AreAlikeTerms ops all e f → (ss rs : Steps) → AlikeSteps AreOne ops all ss rs → ((b : Context) → Keeps (StepsEvaluate ev b e ss) (StepsEvaluate ew b f rs)) → (at : Place) (s r : Step)
-      → AlikeStep AreOne ops all s r → Keeps (StepsEvaluate ev c e (term.MoreSteps ss at s)) (StepsEvaluate ew c f (term.MoreSteps rs at r))
+  recursion_same : (c : Context) (at : Place) (n : ℕ) (bs ds : Bounds) → AlikeBounds AreOne ops all bs ds → (e f : Term) → AreAlikeTerms ops all e f → (key : Val)
+      → Keeps (RecursionEvaluates ev de c at (record { around = n; bounds = bs; value = e }) key) (RecursionEvaluates ew dw c at (record { around = n; bounds = ds; value = f }) key)
+  recursion_same c at n bs ds t e f a key =
+      let es : List Term = sets_of_names (bounds_list bs) in
+      let fs : List Term = sets_of_names (bounds_list ds) in
+      let z : AreAlikeLists ops all es fs = sets_alike ops all bs ds t in
+      let vs : List Val = names_at es key in
+      let here : Keeps (ev (bind c vs) e) (ew (bind c (names_at fs key)) f) = subst (λ (ws : List Val). Keeps (ev (bind c vs) e) (ew (bind c ws) f)) (names_same ops all es fs z key) (ev_same (bind c vs) e f a) in
+      keeps_then (KeysDescribed de c es) (KeysDescribed dw c fs) _ _ (keys_same c es fs z)
+      (λ d. keeps_then (IsIn d key) (IsIn d key) _ _ (keeps_itself (IsIn d key))
+      (λ b. keeps_either b (ev (bind c vs) e) (Fails OutsideDomain at) (ew (bind c (names_at fs key)) f) (Fails OutsideDomain at) here (keeps_itself (Fails OutsideDomain at))))
+
+  at_step_same : (c : Context) (at p q : Place) → p ≡ q → (s r : Step) → AlikeStep AreOne ops all s r → (x y : Option Recursion) → AreAlikeRecursions ops all x y → (P Q : Outcome Val) → Keeps P Q
+      → Keeps (AtStep ev de c at p s x P) (AtStep ew dw c at q r y Q)
+  at_step_same c at p q e s r u _ _ no_recursion P Q k =
+      subst (λ (o : Place). Keeps (AtStep ev de c at p s None P) (AtStep ew dw c at o r None Q)) e (keeps_then P Q _ _ k (λ g. keeps_first (StepKey ev c at s) (StepKey ew c at r) _ (key_same c at s r u)))
+  at_step_same c at p q e s r u _ _ (both_recursions n bs ds f g t a) P Q k =
+      keeps_then (StepKey ev c at s) (StepKey ew c at r) _ _ (key_same c at s r u) (recursion_same (within n c) at n bs ds t f g a)
+
+  step_same : (c : Context) (e f : Term) → AreAlikeTerms ops all e f → (ss rs : Steps) → AlikeSteps AreOne ops all ss rs → ((b : Context) → Keeps (StepsEvaluate ops ev de b e ss) (StepsEvaluate all ew dw b f rs)) → (at : Place) (s r : Step)
+      → AlikeStep AreOne ops all s r → Keeps (StepsEvaluate ops ev de c e (term.MoreSteps ss at s)) (StepsEvaluate all ew dw c f (term.MoreSteps rs at r))
   step_same c e f a ss rs t h at _ _ prime_alike = h (primed c)
-  step_same c e f a ss rs t h at _ _ (index_alike ts us u) = applied_same c e f a ss rs t (h c) at (term.Index ts) (term.Index us) (index_alike ts us u)
-  step_same c e f a ss rs t h at _ _ (field_alike n) = applied_same c e f a ss rs t (h c) at (term.Field n) (term.Field n) (field_alike n)
+  step_same c e f a ss rs t h at _ _ (index_alike ts us u) =
+      at_step_same c at (steps_place (place_of e) ss) (steps_place (place_of f) rs) (steps_place_same e f a ss rs t) (term.Index ts) (term.Index us) (index_alike ts us u)
+      (applied_by ops e ss (term.Index ts)) (applied_by all f rs (term.Index us)) (applied_alike ops all e f a ss rs t (term.Index ts) (term.Index us) (index_alike ts us u)) (StepsEvaluate ops ev de c e ss) (StepsEvaluate all ew dw c f rs) (h c)
+  step_same c e f a ss rs t h at _ _ (field_alike n) =
+      at_step_same c at (steps_place (place_of e) ss) (steps_place (place_of f) rs) (steps_place_same e f a ss rs t) (term.Field n) (term.Field n) (field_alike n)
+      (applied_by ops e ss (term.Field n)) (applied_by all f rs (term.Field n)) (applied_alike ops all e f a ss rs t (term.Field n) (term.Field n) (field_alike n)) (StepsEvaluate ops ev de c e ss) (StepsEvaluate all ew dw c f rs) (h c)
 
-  steps_same : (e f : Term) → AreAlikeTerms ops all e f → (ss rs : Steps) → AlikeSteps AreOne ops all ss rs → (c : Context) → Keeps (StepsEvaluate ev c e ss) (StepsEvaluate ew c f rs)
+  steps_same : (e f : Term) → AreAlikeTerms ops all e f → (ss rs : Steps) → AlikeSteps AreOne ops all ss rs → (c : Context) → Keeps (StepsEvaluate ops ev de c e ss) (StepsEvaluate all ew dw c f rs)
   steps_same e f a _ _ no_steps_alike c = ev_same c e f a
   steps_same e f a _ _ (more_steps_alike ss rs at s r t u) c = step_same c e f a ss rs t (steps_same e f a ss rs t) at s r u
 

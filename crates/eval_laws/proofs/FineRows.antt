@@ -1,18 +1,18 @@
 -- Where the parts of a term have at most one outcome each, and what they have are values, so it is with the term: row by row.
-use Rattle.std.proofs.Common.{◌≡◌, inl, inr, ap, sym, ◌∙◌, subst, List, [], ◌∷◌}
-use Rattle.std.specs.Prelude.{ℕ, ℤ, Bool, true, false, not, length, map, if◌then◌else◌, Option, Some, Result, Ok, Err, MatchBool, Contains, slice_get}
+use Rattle.std.proofs.Common.{◌≡◌, inl, inr, ap, refl, sym, ◌∙◌, subst, List, [], ◌∷◌, ◌++◌}
+use Rattle.std.specs.Prelude.{ℕ, ℤ, zero, suc, Bool, true, false, not, length, map, replicate, if◌then◌else◌, Option, Some, None, Result, Ok, Err, MatchBool, Contains, slice_get}
 use Rattle.std.specs.List.{AllByRecursion}
 use Rattle.trace_base.specs.declared.place.Place.{Place}
 use Rattle.tla_core.specs.declared.fault.Fault.{Fault}
 use Rattle.tla_values.specs.Data.{Val, model, truth, integer, string, set, function, members}
 use Rattle.tla_values.specs.IsValue.{IsValue}
 use Rattle.tla_values.specs.Integers.{int_operands}
-use Rattle.tla_values.specs.Ascending.{none_in}
-use Rattle.tla_values.specs.Functions.{IsFunction, HasPair, pairs_in}
+use Rattle.tla_values.specs.Ascending.{head_in, none_in, tail_in}
+use Rattle.tla_values.specs.Functions.{IsFunction, HasPair, pairs_in, values_in}
 use Rattle.tla_values.specs.FunctionLaws.{one_value_at_key, in_keys}
 use Rattle.tla_values.specs.SetOperations.{GivesSet}
 use Rattle.tla_values.specs.FunctionOperations.{GivesFunction, GivesSequence, AppliesAt, Excepts}
-use Rattle.tla_values.specs.declared.fault.EvalKind.TheVariants.{NoCase, NoChoice, NotSet, NotFinite}
+use Rattle.tla_values.specs.declared.fault.EvalKind.TheVariants.{NoCase, NoChoice, NotSet, NotFinite, OutsideDomain}
 use Rattle.tla_values.specs.declared.fault.OpFault.{OpFault}
 use Rattle.tla_values.specs.declared.fault.OpFault.TheVariants.{Refused}
 use Rattle.tla_ast.specs.declared.operators.PrefixOperator.{PrefixOperator}
@@ -27,11 +27,14 @@ use Rattle.tla_terms.specs.declared.standard.NamedSet.TheVariants as sets
 use Rattle.tla_terms.specs.declared.standard.StandardOperator.{StandardOperator}
 use Rattle.tla_terms.specs.declared.standard.StandardOperator.TheVariants as standard
 use Rattle.tla_terms.specs.declared.operator.Operator.{Operator}
+use Rattle.tla_terms.specs.declared.operator.Own.{Own}
+use Rattle.tla_terms.specs.declared.operator.Own.TheVariants as owns
 use Rattle.tla_terms.specs.Lists.{terms_list, steps_list, bounds_list, fields_list, changes_list, arms_list}
 use Rattle.tla_terms.specs.Terms as term
 use Rattle.tla_terms.specs.Terms.{Term, Meaning, Terms, Operands, Step, Steps, Bounds, Fields, Placed, place_of}
 use Rattle.eval_sets.specs.DescribedSets as described
 use Rattle.eval_sets.specs.DescribedSets.{Described, Listed}
+use Rattle.eval_sets.specs.Membership.{Belongs}
 use Rattle.eval_sets.specs.Listings.{Lists, Listing, IsListed, is_finite}
 use Rattle.eval_sets.proofs.Collecting.{listed_is, pair_value}
 use Rattle.eval_sets.proofs.Outcomes.{lists_one_way}
@@ -39,18 +42,19 @@ use Rattle.eval_sets.proofs.Loops.{is_in}
 use Rattle.tla_eval.specs.Outcomes.{Outcome, Gives, Fails, Then, Either, Each, truth_at, Operated, place_in}
 use Rattle.tla_eval.specs.Contexts.{Context, Table, Places, Evaluate, Describe, IsAt, IsKnown, WithDefinition, bind, within, primed, enter}
 use Rattle.tla_eval.specs.Operations.{InfixAnswers, PrefixAnswers, StandardAnswers}
-use Rattle.tla_eval.specs.Sets.{named_set, set_at, MeansSet, list_at, ListedAt, first_operand, other_operands, PartDescribed, ProductDescribed, FieldDescribed, RecordsDescribed, parts_of, fields_of, Between, IntervalDescribed, paired, Joined, ChainDescribed}
+use Rattle.tla_eval.specs.Sets.{named_set, IsIn, set_at, MeansSet, list_at, ListedAt, first_operand, other_operands, PartDescribed, ProductDescribed, FieldDescribed, RecordsDescribed, parts_of, fields_of, Between, IntervalDescribed, paired, Joined, ChainDescribed}
 use Rattle.tla_eval.specs.Binders.{members_at, MembersOf, combinations, ranges, BoundValues, FirstThat, Passing}
-use Rattle.tla_eval.specs.Functions.{KeyOf, StepKey, steps_place, StepsEvaluate, AtKey, Changed, AllChanged}
+use Rattle.tla_eval.specs.Functions.{KeyOf, StepKey, AtStep, steps_place, StepsEvaluate, AtKey, Changed, AllChanged}
+use Rattle.tla_eval.specs.Recursion.{Recursion, KeysDescribed, RecursionEvaluates, applied_by, marked_so, names_at, recursion_at, recursion_of, sets_of_names}
 use Rattle.tla_eval.specs.Unchanged.{TruthOf, prime_of, unchanged_of, changed_of, behind, StaysSame, MeansUnchanged, IsUnchanged}
-use Rattle.tla_eval.specs.Meanings.{ChainEvaluates, both_or_neither, ImplicationHolds, AreEquivalent, IsMemberOf, IsSubsetOf, FunctionsDescribed, SequencesDescribed, SubsetsDescribed, InfixDescribed, InfixEvaluates, PrefixEvaluates, StandardEvaluates, UseDescribed, UseEvaluates, FirstArm, SetOfAll, FunctionOfAll, PairOf, QuantifiedEvaluates, FieldEvaluates, MeaningEvaluates, MeaningDescribes, IsValueOf}
+use Rattle.tla_eval.specs.Meanings.{ChainEvaluates, both_or_neither, ImplicationHolds, AreEquivalent, IsMemberOf, IsSubsetOf, FunctionsDescribed, SequencesDescribed, SubsetsDescribed, InfixDescribed, InfixEvaluates, PrefixEvaluates, StandardEvaluates, BodyDescribed, UseDescribed, UseEvaluates, FirstArm, SetOfAll, FunctionOfAll, PairOf, QuantifiedEvaluates, FieldEvaluates, MeaningEvaluates, MeaningDescribes, IsValueOf}
 use Rattle.tla_eval.specs.Everywhere.{InParts, InTerms, InOperands, InStep, InSteps, InBounds, InFields}
 use Rattle.tla_eval.specs.Laws.{AreValues, HoldValues, KnowsValue, KnowsValues}
 use Rattle.tla_eval.proofs.AtMostOne.{One}
 use Rattle.eval_laws.proofs.OneAnswer.{HasOneAnswer, IsSure, sure_set, sure_function, sure_sequence}
 use Rattle.eval_laws.proofs.SureOperations.{sure_infix, sure_prefix, sure_standard, sure_applies, sure_excepts}
 use Rattle.eval_laws.proofs.Fine.{IsFine, Any, fine_any, fine_gives, fine_fails, fine_none, fine_then, fine_either, fine_decides, fine_each, fine_all_true, fine_some_true, fine_truth_at, fine_is_truth, one_operated, fine_operated}
-use Rattle.eval_laws.proofs.FineContexts.{HoldsValues, all_map, bind_holds, within_holds, primed_holds, enter_holds, members_are, AreAllValues, combinations_are, ranges_are, know_terms, know_bounds, know_fields, KnowsChange, know_changes, KnowsArm, know_arms, know_path, know_first, know_others, BodiesKnow, know_behind}
+use Rattle.eval_laws.proofs.FineContexts.{HoldsValues, all_append, all_map, bind_holds, within_holds, primed_holds, enter_holds, members_are, AreAllValues, combinations_are, ranges_are, know_terms, know_bounds, know_fields, KnowsChange, know_changes, KnowsArm, know_arms, know_path, know_first, know_others, BodiesKnow, know_behind}
 
 -- sets
 
@@ -154,10 +158,62 @@ fine_function_of at ps = fine_operated (GivesFunction (λ key v. Contains ps (ke
 fine_sequence_of : (at : Place) (vs : List Val) → IsFine IsValue (Operated (GivesSequence vs) (λ n. at))
 fine_sequence_of at vs = fine_operated (GivesSequence vs) (λ n. at) (sure_sequence vs)
 
-fine_key : (at : Place) (vs : List Val) → IsFine Any (KeyOf at vs)
-fine_key at [] = fine_any IsValue _ (fine_sequence_of at [])
-fine_key at (v ∷ []) = fine_gives Any v tt
-fine_key at (v ∷ w ∷ vs) = fine_any IsValue _ (fine_sequence_of at (v ∷ w ∷ vs))
+fine_key : (at : Place) (vs : List Val) → AreAllValues vs → IsFine IsValue (KeyOf at vs)
+fine_key at [] a = fine_sequence_of at []
+fine_key at (v ∷ []) a = fine_gives IsValue v a.0
+fine_key at (v ∷ w ∷ vs) a = fine_sequence_of at (v ∷ w ∷ vs)
+
+-- what stands in a value is a value
+values_are : (v : Val) → IsValue v → AreAllValues (values_in v)
+values_are v p = each (pairs_in v) (λ key w h. pair_value v key w p h)
+  where
+    each : (ps : List (Val × Val)) → ((key w : Val) → Contains ps (key, w) → IsValue w) → AreAllValues (map (λ x. x.1) ps)
+    each [] f = tt
+    each (x ∷ ps) f = (f x.0 x.1 (head_in x ps), each ps (λ key w h. f key w (tail_in x ps (key, w) h)))
+
+names_are : (es : List Term) (key : Val) → IsValue key → AreAllValues (names_at es key)
+names_are [] key p = values_are key p
+names_are (e ∷ []) key p = (p, tt)
+names_are (e ∷ f ∷ es) key p = values_are key p
+
+replicated : (n : ℕ) (e : Term) → KnowsValues e → AllByRecursion KnowsValues (replicate n e)
+replicated zero e k = tt
+replicated (suc n) e k = (k, replicated n e k)
+
+know_sets : (bs : List (ℕ × Term)) → AllByRecursion (λ b. KnowsValues b.1) bs → AllByRecursion KnowsValues (sets_of_names bs)
+know_sets [] k = tt
+know_sets (b ∷ bs) k = all_append KnowsValues (replicate b.0 b.1) (sets_of_names bs) (replicated b.0 b.1 k.0) (know_sets bs k.1)
+
+-- what a function that uses itself is made of
+abbrev KnowsRecursion : Option Recursion → Type 0
+KnowsRecursion None = Unit {0}
+KnowsRecursion (Some g) = InBounds KnowsValue g.bounds × KnowsValues g.value
+
+-- and the step that gives it a key
+abbrev KnowsApplied : Step → Option Recursion → Type 0
+KnowsApplied (term.Index ts) x = KnowsRecursion x
+KnowsApplied s None = Unit {0}
+KnowsApplied s (Some g) = ⊥
+
+know_marked : (own : Own) (n : ℕ) (body : Term) → KnowsValues body → KnowsRecursion (marked_so own n body)
+know_marked owns.Function n (Placed at l (term.Function bs e)) k = k.1
+know_marked own n (Placed at l m) k = tt
+
+know_named : (ops : Table) → BodiesKnow ops → (e : Term) → KnowsRecursion (recursion_of ops e)
+know_named ops bodies (Placed at l (term.Use n term.NoTerms)) = by_row (slice_get ops n) (bodies n)
+  where
+    by_row : (found : Option Operator) → ((o : Operator) → found ≡ Some o → KnowsValues o.body) → KnowsRecursion (recursion_at found)
+    by_row None f = tt
+    by_row (Some o) f = know_marked o.own o.outer o.body (f o refl)
+know_named ops bodies (Placed at l m) = tt
+
+know_applied : (ops : Table) → BodiesKnow ops → (e : Term) (ss : Steps) (s : Step) → KnowsApplied s (applied_by ops e ss s)
+know_applied ops bodies e term.NoSteps (term.Index ts) = know_named ops bodies e
+know_applied ops bodies e term.NoSteps term.Prime = tt
+know_applied ops bodies e term.NoSteps (term.Field h) = tt
+know_applied ops bodies e (term.MoreSteps ss p r) term.Prime = tt
+know_applied ops bodies e (term.MoreSteps ss p r) (term.Index ts) = tt
+know_applied ops bodies e (term.MoreSteps ss p r) (term.Field h) = tt
 
 some_same : (v w : Val) → ◌≡◌ {A = Option (Option Val)} (Some (Some v)) (Some (Some w)) → v ≡ w
 some_same v w e = cc
@@ -382,8 +438,16 @@ module _ (ops : Table) (bodies : BodiesKnow ops) (ev : Evaluate) (de : Describe)
 
   -- uses
 
-  fine_use_described : (c : Context) → HoldsValues c → (n : ℕ) → IsFine IsDescription (UseDescribed ops de c n)
-  fine_use_described c h n = fine_definition IsDescription ops n (λ o. de (enter o [] c) o.body) (λ o e. de_fine (enter o [] c) (enter_holds c o [] h tt) o.body (bodies n o e))
+  fine_value_of : (c : Context) → HoldsValues c → (e : Term) → KnowsValues e → IsFine IsDescription (IsValueOf (ev c e))
+  fine_value_of c h e k = fine_then IsValue IsDescription (ev c e) _ (ev_fine c h e k) (λ v p. fine_gives IsDescription (Listed v) p)
+
+  fine_body : (c : Context) → HoldsValues c → (own : Own) (body : Term) → KnowsValues body → IsFine IsDescription (BodyDescribed own ev de c body)
+  fine_body c h owns.Apart body k = de_fine c h body k
+  fine_body c h owns.Itself body k = fine_value_of c h body k
+  fine_body c h owns.Function body k = fine_value_of c h body k
+
+  fine_use_described : (c : Context) → HoldsValues c → (n : ℕ) → IsFine IsDescription (UseDescribed ops ev de c n)
+  fine_use_described c h n = fine_definition IsDescription ops n (λ o. BodyDescribed o.own ev de (enter o [] c) o.body) (λ o e. fine_body (enter o [] c) (enter_holds c o [] h tt) o.own o.body (bodies n o e))
 
   fine_use : (c : Context) → HoldsValues c → (n : ℕ) (ts : Terms) (at : Place) → InTerms KnowsValue ts → IsFine IsValue (UseEvaluates ops ev de c n ts at)
   fine_use c h n term.NoTerms at k = fine_listed at _ (fine_use_described c h n)
@@ -419,21 +483,41 @@ module _ (ops : Table) (bodies : BodiesKnow ops) (ev : Evaluate) (de : Describe)
 
   -- functions
 
+  fine_index : (c : Context) → HoldsValues c → (at : Place) (ts : Terms) → InTerms KnowsValue ts → IsFine IsValue (StepKey ev c at (term.Index ts))
+  fine_index c h at ts k = fine_then AreAllValues IsValue (Each (ev c) (terms_list ts)) (KeyOf at) (fine_terms c h (terms_list ts) (know_terms ts k)) (fine_key at)
+
   fine_step_key : (c : Context) → HoldsValues c → (at : Place) (s : Step) → InStep KnowsValue s → IsFine Any (StepKey ev c at s)
   fine_step_key c h at term.Prime k = fine_none Any
-  fine_step_key c h at (term.Index ts) k = fine_then AreAllValues Any (Each (ev c) (terms_list ts)) (KeyOf at) (fine_terms c h (terms_list ts) (know_terms ts k)) (λ vs a. fine_key at vs)
+  fine_step_key c h at (term.Index ts) k = fine_any IsValue _ (fine_index c h at ts k)
   fine_step_key c h at (term.Field n) k = fine_gives Any (string n) tt
 
-  fine_step : (c : Context) → HoldsValues c → (p q : Place) (s : Step) → InStep KnowsValue s → (P : Outcome Val) → IsFine IsValue P
-      → IsFine IsValue (Then P (λ f. Then (StepKey ev c p s) (λ key. Operated (AppliesAt f key) (place_in p (q ∷ [])))))
-  fine_step c h p q s k P f =
+  fine_keys : (c : Context) → HoldsValues c → (es : List Term) → AllByRecursion KnowsValues es → IsFine IsDescription (KeysDescribed de c es)
+  fine_keys c h [] k = fine_product c h [] k
+  fine_keys c h (e ∷ []) k = fine_set c h e k.0
+  fine_keys c h (e ∷ f ∷ es) k = fine_product c h (e ∷ f ∷ es) k
+
+  fine_recursion : (c : Context) → HoldsValues c → (at : Place) (g : Recursion) → KnowsRecursion (Some g) → (key : Val) → IsValue key → IsFine IsValue (RecursionEvaluates ev de c at g key)
+  fine_recursion c h at g k key p =
+      let es : List Term = sets_of_names (bounds_list g.bounds) in
+      let vs : List Val = names_at es key in
+      fine_then IsDescription IsValue (KeysDescribed de c es) _ (fine_keys c h es (know_sets (bounds_list g.bounds) (know_bounds g.bounds k.0)))
+      (λ d q. fine_then Any IsValue (IsIn d key) _ (fine_decides (Belongs d key))
+      (λ b r. fine_either IsValue b (ev (bind c vs) g.value) (Fails OutsideDomain at) (ev_fine (bind c vs) (bind_holds c vs h (names_are es key p)) g.value k.1) (fine_fails IsValue OutsideDomain at)))
+
+  fine_step : (c : Context) → HoldsValues c → (p q : Place) (s : Step) → InStep KnowsValue s → (x : Option Recursion) → KnowsApplied s x → (P : Outcome Val) → IsFine IsValue P
+      → IsFine IsValue (AtStep ev de c p q s x P)
+  fine_step c h p q s k None r P f =
       fine_then IsValue IsValue P _ f
       (λ v g. fine_then Any IsValue (StepKey ev c p s) _ (fine_step_key c h p s k) (λ key i. fine_operated (AppliesAt v key) (place_in p (q ∷ [])) (sure_applies v key g)))
+  fine_step c h p q (term.Index ts) k (Some g) r P f =
+      fine_then IsValue IsValue (StepKey ev c p (term.Index ts)) _ (fine_index c h p ts k) (λ key i. fine_recursion (within g.around c) (within_holds c g.around h) p g r key i)
+  fine_step c h p q s k (Some g) r P f = absurd r
 
-  fine_steps : (c : Context) → HoldsValues c → (e : Term) (ss : Steps) → KnowsValues e → InSteps KnowsValue ss → IsFine IsValue (StepsEvaluate ev c e ss)
+  fine_steps : (c : Context) → HoldsValues c → (e : Term) (ss : Steps) → KnowsValues e → InSteps KnowsValue ss → IsFine IsValue (StepsEvaluate ops ev de c e ss)
   fine_steps c h e term.NoSteps k l = ev_fine c h e k
   fine_steps c h e (term.MoreSteps ss p term.Prime) k l = fine_steps (primed c) (primed_holds c h) e ss k l.0
-  fine_steps c h e (term.MoreSteps ss p s) k l = fine_step c h p (steps_place (place_of e) ss) s l.1 (StepsEvaluate ev c e ss) (fine_steps c h e ss k l.0)
+  fine_steps c h e (term.MoreSteps ss p s) k l =
+      fine_step c h p (steps_place (place_of e) ss) s l.1 (applied_by ops e ss s) (know_applied ops bodies e ss s) (StepsEvaluate ops ev de c e ss) (fine_steps c h e ss k l.0)
 
   fine_changed : (c : Context) → HoldsValues c → (at base : Place) (path : List Step) (new : Term) (f : Val) → AllByRecursion (InStep KnowsValue) path → KnowsValues new → IsValue f
       → IsFine IsValue (Changed ev c at base path new f)
@@ -475,7 +559,7 @@ module _ (ops : Table) (bodies : BodiesKnow ops) (ev : Evaluate) (de : Describe)
 
   fine_pair_of : (c : Context) → HoldsValues c → (at : Place) (e : Term) → KnowsValues e → (vs : List Val) → AreAllValues vs → IsFine Any (PairOf ev c at e vs)
   fine_pair_of c h at e k vs a =
-      fine_then IsValue Any (ev (bind c vs) e) _ (ev_fine (bind c vs) (bind_holds c vs h a) e k) (λ v p. fine_then Any Any (KeyOf at vs) _ (fine_key at vs) (λ key q. fine_gives Any (key, v) tt))
+      fine_then IsValue Any (ev (bind c vs) e) _ (ev_fine (bind c vs) (bind_holds c vs h a) e k) (λ v p. fine_then IsValue Any (KeyOf at vs) _ (fine_key at vs a) (λ key q. fine_gives Any (key, v) tt))
 
   -- CASE
 

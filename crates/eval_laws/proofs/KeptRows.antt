@@ -1,9 +1,9 @@
 -- Where the parts of a term keep their outcomes, the term does: row by row.
 use Rattle.std.proofs.Common.{ap, subst, inl, inr, List, [], ◌∷◌}
-use Rattle.std.specs.Prelude.{ℕ, Bool, true, not, length, map}
+use Rattle.std.specs.Prelude.{ℕ, Bool, true, not, length, map, Option, Some, None}
 use Rattle.trace_base.specs.declared.place.Place.{Place}
 use Rattle.tla_values.specs.Data.{Val}
-use Rattle.tla_values.specs.declared.fault.EvalKind.TheVariants.{NoCase}
+use Rattle.tla_values.specs.declared.fault.EvalKind.TheVariants.{NoCase, OutsideDomain}
 use Rattle.tla_ast.specs.declared.operators.PrefixOperator.{PrefixOperator}
 use Rattle.tla_ast.specs.declared.operators.PrefixOperator.TheVariants as prefix
 use Rattle.tla_ast.specs.declared.operators.InfixOperator.{InfixOperator}
@@ -11,6 +11,8 @@ use Rattle.tla_ast.specs.declared.operators.InfixOperator.TheVariants as infix_o
 use Rattle.tla_ast.specs.declared.operators.Quantifier.{Quantifier}
 use Rattle.tla_ast.specs.declared.operators.Quantifier.TheVariants as quantifier
 use Rattle.tla_terms.specs.declared.level.Level.TheVariants as levels
+use Rattle.tla_terms.specs.declared.operator.Own.{Own}
+use Rattle.tla_terms.specs.declared.operator.Own.TheVariants as owns
 use Rattle.tla_terms.specs.declared.standard.StandardOperator.{StandardOperator}
 use Rattle.tla_terms.specs.declared.standard.StandardOperator.TheVariants as standard
 use Rattle.tla_terms.specs.Lists.{terms_list, steps_list, bounds_list, fields_list, changes_list, arms_list}
@@ -20,11 +22,12 @@ use Rattle.eval_sets.specs.DescribedSets.{Described, SeqOf}
 use Rattle.tla_eval.specs.Outcomes.{Outcome, Gives, Fails, Then, Each, Operated, place_in}
 use Rattle.tla_eval.specs.Contexts.{Context, Table, Evaluate, Describe, WithDefinition, bind, within, primed, enter}
 use Rattle.tla_eval.specs.Operations.{InfixAnswers, PrefixAnswers}
-use Rattle.tla_eval.specs.Sets.{MeansSet, ListedAt, first_operand, other_operands, PartDescribed, ProductDescribed, FieldDescribed, RecordsDescribed, IntervalDescribed, Joined, ChainDescribed}
+use Rattle.tla_eval.specs.Sets.{IsIn, MeansSet, ListedAt, first_operand, other_operands, PartDescribed, ProductDescribed, FieldDescribed, RecordsDescribed, IntervalDescribed, Joined, ChainDescribed}
 use Rattle.tla_eval.specs.Binders.{MembersOf, BoundValues, FirstThat, Passing}
-use Rattle.tla_eval.specs.Functions.{KeyOf, StepKey, StepsEvaluate, AtKey, Changed, AllChanged}
+use Rattle.tla_eval.specs.Functions.{KeyOf, StepKey, AtStep, steps_place, StepsEvaluate, AtKey, Changed, AllChanged}
+use Rattle.tla_eval.specs.Recursion.{Recursion, KeysDescribed, RecursionEvaluates, applied_by, names_at, sets_of_names}
 use Rattle.tla_eval.specs.Unchanged.{TruthOf, prime_of, unchanged_of, changed_of, behind, StaysSame, MeansUnchanged, IsUnchanged}
-use Rattle.tla_eval.specs.Meanings.{ChainEvaluates, ImplicationHolds, AreEquivalent, IsMemberOf, IsSubsetOf, FunctionsDescribed, SequencesDescribed, SubsetsDescribed, InfixDescribed, InfixEvaluates, PrefixEvaluates, StandardEvaluates, UseDescribed, UseEvaluates, FirstArm, PairOf, QuantifiedEvaluates, FieldEvaluates, MeaningEvaluates, MeaningDescribes, IsValueOf}
+use Rattle.tla_eval.specs.Meanings.{ChainEvaluates, ImplicationHolds, AreEquivalent, IsMemberOf, IsSubsetOf, FunctionsDescribed, SequencesDescribed, SubsetsDescribed, InfixDescribed, InfixEvaluates, PrefixEvaluates, StandardEvaluates, BodyDescribed, UseDescribed, UseEvaluates, FirstArm, PairOf, QuantifiedEvaluates, FieldEvaluates, MeaningEvaluates, MeaningDescribes, IsValueOf}
 use Rattle.eval_laws.proofs.Keeping.{Keeps, keeps_itself, keeps_then, keeps_first, keeps_either, keeps_each, keeps_all_true, keeps_some_true, keeps_truth}
 use Rattle.eval_laws.proofs.KeptContexts.{KnowsMore, bind_more, within_more, primed_more, enter_more, keeps_known, keeps_slot}
 
@@ -127,8 +130,13 @@ module _ (ev : Evaluate) (de : Describe) (ev_more : (c b : Context) → KnowsMor
 
   -- uses
 
-  use_described_more : (ops : Table) (c b : Context) → KnowsMore c b → (n : ℕ) → Keeps (UseDescribed ops de c n) (UseDescribed ops de b n)
-  use_described_more ops c b h n r k = (k.0, k.1, de_more (enter k.0 [] c) (enter k.0 [] b) (enter_more c b k.0 [] h) k.0.body r k.2)
+  body_more : (c b : Context) → KnowsMore c b → (own : Own) (body : Term) → Keeps (BodyDescribed own ev de c body) (BodyDescribed own ev de b body)
+  body_more c b h owns.Apart body = de_more c b h body
+  body_more c b h owns.Itself body = keeps_first (ev c body) (ev b body) _ (ev_more c b h body)
+  body_more c b h owns.Function body = keeps_first (ev c body) (ev b body) _ (ev_more c b h body)
+
+  use_described_more : (ops : Table) (c b : Context) → KnowsMore c b → (n : ℕ) → Keeps (UseDescribed ops ev de c n) (UseDescribed ops ev de b n)
+  use_described_more ops c b h n r k = (k.0, k.1, body_more (enter k.0 [] c) (enter k.0 [] b) (enter_more c b k.0 [] h) k.0.own k.0.body r k.2)
 
   use_more : (ops : Table) (c b : Context) → KnowsMore c b → (n : ℕ) (ts : Terms) (at : Place) → Keeps (UseEvaluates ops ev de c n ts at) (UseEvaluates ops ev de b n ts at)
   use_more ops c b h n term.NoTerms at r k = listed_more at _ _ (use_described_more ops c b h n) r k
@@ -173,11 +181,29 @@ module _ (ev : Evaluate) (de : Describe) (ev_more : (c b : Context) → KnowsMor
   key_more c b h at (term.Index ts) r k = keeps_first (Each (ev c) (terms_list ts)) (Each (ev b) (terms_list ts)) (KeyOf at) (terms_more c b h (terms_list ts)) r k
   key_more c b h at (term.Field n) r k = k
 
-  steps_more : (c b : Context) → KnowsMore c b → (e : Term) (ss : Steps) → Keeps (StepsEvaluate ev c e ss) (StepsEvaluate ev b e ss)
-  steps_more c b h e term.NoSteps = ev_more c b h e
-  steps_more c b h e (term.MoreSteps ss p term.Prime) = steps_more (primed c) (primed b) (primed_more c b h) e ss
-  steps_more c b h e (term.MoreSteps ss p s) =
-      keeps_then (StepsEvaluate ev c e ss) (StepsEvaluate ev b e ss) _ _ (steps_more c b h e ss) (λ f. keeps_first (StepKey ev c p s) (StepKey ev b p s) _ (key_more c b h p s))
+  keys_more : (c b : Context) → KnowsMore c b → (es : List Term) → Keeps (KeysDescribed de c es) (KeysDescribed de b es)
+  keys_more c b h [] = product_more c b h []
+  keys_more c b h (e ∷ []) = set_more c b h e
+  keys_more c b h (e ∷ f ∷ es) = product_more c b h (e ∷ f ∷ es)
+
+  recursion_more : (c b : Context) → KnowsMore c b → (at : Place) (g : Recursion) (key : Val) → Keeps (RecursionEvaluates ev de c at g key) (RecursionEvaluates ev de b at g key)
+  recursion_more c b h at g key =
+      let es : List Term = sets_of_names (bounds_list g.bounds) in
+      let vs : List Val = names_at es key in
+      keeps_then (KeysDescribed de c es) (KeysDescribed de b es) _ _ (keys_more c b h es)
+      (λ d. keeps_then (IsIn d key) (IsIn d key) _ _ (keeps_itself (IsIn d key))
+      (λ t. keeps_either t (ev (bind c vs) g.value) (Fails OutsideDomain at) (ev (bind b vs) g.value) (Fails OutsideDomain at) (ev_more (bind c vs) (bind b vs) (bind_more c b vs h) g.value) (keeps_itself (Fails OutsideDomain at))))
+
+  at_step_more : (c b : Context) → KnowsMore c b → (p q : Place) (s : Step) (x : Option Recursion) (P Q : Outcome Val) → Keeps P Q → Keeps (AtStep ev de c p q s x P) (AtStep ev de b p q s x Q)
+  at_step_more c b h p q s None P Q k = keeps_then P Q _ _ k (λ f. keeps_first (StepKey ev c p s) (StepKey ev b p s) _ (key_more c b h p s))
+  at_step_more c b h p q s (Some g) P Q k =
+      keeps_then (StepKey ev c p s) (StepKey ev b p s) _ _ (key_more c b h p s) (recursion_more (within g.around c) (within g.around b) (within_more c b g.around h) p g)
+
+  steps_more : (ops : Table) (c b : Context) → KnowsMore c b → (e : Term) (ss : Steps) → Keeps (StepsEvaluate ops ev de c e ss) (StepsEvaluate ops ev de b e ss)
+  steps_more ops c b h e term.NoSteps = ev_more c b h e
+  steps_more ops c b h e (term.MoreSteps ss p term.Prime) = steps_more ops (primed c) (primed b) (primed_more c b h) e ss
+  steps_more ops c b h e (term.MoreSteps ss p s) =
+      at_step_more c b h p (steps_place (place_of e) ss) s (applied_by ops e ss s) (StepsEvaluate ops ev de c e ss) (StepsEvaluate ops ev de b e ss) (steps_more ops c b h e ss)
 
   at_key_more : (base : Place) (f key : Val) (P Q : Val → Outcome Val) → ((v : Val) → Keeps (P v) (Q v)) → Keeps (AtKey base f key P) (AtKey base f key Q)
   at_key_more base f key P Q p r (inl k) = inl k
@@ -252,7 +278,7 @@ module _ (ev : Evaluate) (de : Describe) (ev_more : (c b : Context) → KnowsMor
   meaning_more ops c b h at (term.Any ts) = keeps_truth _ _ (keeps_some_true (TruthOf ev c) (TruthOf ev b) (truth_more c b h) (terms_list ts))
   meaning_more ops c b h at (term.Prefix o e) = prefix_more ops c b h o e at
   meaning_more ops c b h at (term.Infix o os e) = infix_more c b h o os e at
-  meaning_more ops c b h at (term.Postfix e ss s) = steps_more c b h e (term.MoreSteps ss at s)
+  meaning_more ops c b h at (term.Postfix e ss s) = steps_more ops c b h e (term.MoreSteps ss at s)
   meaning_more ops c b h at (term.SetOf ts) = keeps_first _ _ _ (terms_more c b h (terms_list ts))
   meaning_more ops c b h at (term.Filter a p) =
       keeps_then (MembersOf ev c a) (MembersOf ev b a) _ _ (members_more c b h a)

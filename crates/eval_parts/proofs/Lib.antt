@@ -8,3 +8,4 @@ pub mod ChangeWalk
 pub mod RecordSets
 pub mod ProductLemmas
 pub mod FollowingLemmas
+pub mod RecursionLemmas

@@ -15,6 +15,7 @@ use Rattle.tla_terms.specs.Terms as term
 use Rattle.tla_terms.specs.Terms.{Term, Placed, Meaning, Terms, Operands, Step, Steps, Bounds, width}
 use Rattle.tla_eval.specs.Answers.{arity}
 use Rattle.tla_eval.specs.Contexts.{Context, Places, Table, bind, enter, primed, within}
+use Rattle.tla_eval.specs.Recursion.{Recursion, applied_by}
 use Rattle.tla_eval.specs.Sets.{first_operand, other_operands}
 use Rattle.tla_eval.specs.Unchanged.{behind, changed_of, prime_of, unchanged_of}
 
@@ -43,12 +44,17 @@ UseReads ops part c k es =
 abbrev pub BodyReads : Table → Reading → Context → ℕ → List Val → Type 0
 BodyReads ops part c k vs = (o : Operator) × (slice_get ops k ≡ Some o) × (o.outer ≤ length c.slots) × part (enter o vs c) o.body
 
+-- a function that uses itself, at any of its keys
+abbrev pub RecursionReads : Reading → Context → Option Recursion → Type 0
+RecursionReads part c None = Unit {0}
+RecursionReads part c (Some g) = (g.around ≤ length c.slots) × ReadsEach part (within g.around c) (map (λ b. b.1) (bounds_list g.bounds)) × ReadsUnder part (within g.around c) (width g.bounds) g.value
+
 -- a primary with steps behind it
-abbrev pub StepsRead : Reading → Context → Term → Steps → Type 0
-StepsRead part c e term.NoSteps = part c e
-StepsRead part c e (term.MoreSteps ss at term.Prime) = StepsRead part (primed c) e ss
-StepsRead part c e (term.MoreSteps ss at (term.Index ts)) = StepsRead part c e ss × ReadsEach part c (terms_list ts)
-StepsRead part c e (term.MoreSteps ss at (term.Field h)) = StepsRead part c e ss
+abbrev pub StepsRead : Table → Reading → Context → Term → Steps → Type 0
+StepsRead ops part c e term.NoSteps = part c e
+StepsRead ops part c e (term.MoreSteps ss at term.Prime) = StepsRead ops part (primed c) e ss
+StepsRead ops part c e (term.MoreSteps ss at (term.Index ts)) = StepsRead ops part c e ss × ReadsEach part c (terms_list ts) × RecursionReads part c (applied_by ops e ss (term.Index ts))
+StepsRead ops part c e (term.MoreSteps ss at (term.Field h)) = StepsRead ops part c e ss
 
 -- the path of a change, in which no step is a prime
 abbrev pub PathReads : Reading → Context → List Step → Type 0
@@ -130,7 +136,7 @@ MeaningReads ops part c at (term.All ts) = ReadsEach part c (terms_list ts)
 MeaningReads ops part c at (term.Any ts) = ReadsEach part c (terms_list ts)
 MeaningReads ops part c at (term.Prefix o e) = PrefixReads ops part c o at e
 MeaningReads ops part c at (term.Infix o os e) = InfixReads part c o os at e
-MeaningReads ops part c at (term.Postfix e ss s) = StepsRead part c e (term.MoreSteps ss at s)
+MeaningReads ops part c at (term.Postfix e ss s) = StepsRead ops part c e (term.MoreSteps ss at s)
 MeaningReads ops part c at (term.SetOf ts) = ReadsEach part c (terms_list ts)
 MeaningReads ops part c at (term.Filter a p) = part c a × ReadsUnder part c 1 p
 MeaningReads ops part c at (term.Map e bs) = BoundsRead part c bs × ReadsUnder part c (width bs) e

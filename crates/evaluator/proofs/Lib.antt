@@ -4,3 +4,4 @@ pub mod JoinedLoops
 pub mod BoundLoops
 pub mod KeysDiffer
 pub mod PrefixRows
+pub mod Recursions

@@ -543,7 +543,7 @@ pub(crate) fn describe_product(
 
 /// What each term describes, beside its place.
 #[cycle(evaluate)]
-fn describe_parts(
+pub(crate) fn describe_parts(
     alloc: Global,
     scene: Scene<'_>,
     depth: u32,

@@ -5,7 +5,7 @@ ghost use Rattle.eval_sets.specs.Soundness.{IsSound};
 ghost use Rattle.tla_eval.specs.Answers.{IsReady, Tells, arity, is_operation_on_one, is_standard_operation};
 ghost use Rattle.tla_eval.specs.Contexts.{WithDefinition, enter};
 ghost use Rattle.tla_eval.specs.Evaluates.{Evaluates, Describes};
-ghost use Rattle.tla_eval.specs.Meanings.{FieldEvaluates, FirstArm, FunctionOfAll, IsValueOf, MeaningDescribes, MeaningEvaluates, PrefixEvaluates, StandardEvaluates, UseDescribed, UseEvaluates};
+ghost use Rattle.tla_eval.specs.Meanings.{BodyDescribed, FieldEvaluates, FirstArm, FunctionOfAll, IsValueOf, MeaningDescribes, MeaningEvaluates, PrefixEvaluates, StandardEvaluates, UseDescribed, UseEvaluates};
 ghost use Rattle.tla_eval.specs.Operations.{PrefixAnswers, StandardAnswers};
 ghost use Rattle.tla_eval.specs.Outcomes.{AllTrue, Each, Operated, SomeTrue, Then, place_in};
 ghost use Rattle.tla_eval.specs.Sets.{MeansSet};
@@ -37,7 +37,7 @@ use tla_eval::{
     EvalFault, function_of, list_at, named_set, prefix, sequence_of, set_at, set_of, standard,
     truth_at,
 };
-use tla_terms::{Arms, DefId, Field, Fields, StandardOperator, Term, TermNode, Terms};
+use tla_terms::{Arms, DefId, Field, Fields, Own, StandardOperator, Term, TermNode, Terms};
 use tla_values::{EvalKind, Value};
 use trace_base::Place;
 
@@ -375,12 +375,58 @@ fn describe_use(
     number: DefId,
 ) -> Result<Described, EvalFault>
     requires { BodyReads (table scene) (Reads (table scene) depth) (context scene) number.0 [] }
-    ensures fine { Tells result (UseDescribed (table scene.entry) (Describes (table scene.entry) depth) (context scene.entry) number.0) }
+    ensures fine { Tells result (UseDescribed (table scene.entry) (Evaluates (table scene.entry) depth) (Describes (table scene.entry) depth) (context scene.entry) number.0) }
     ensures ready { IfOk result IsReady }
 {
     let operator = definition(scene.operators, number);
     let slots = slots_and(alloc, scene.slots, operator.outer, &[])?;
-    describe(alloc, with_slots(scene, &slots), depth, &operator.body)
+    describe_body(
+        alloc,
+        with_slots(scene, &slots),
+        depth,
+        operator.own,
+        &operator.body,
+    )
+}
+
+/// The set that the body of a definition describes, or the value that it has where the definition uses itself.
+#[cycle(evaluate)]
+fn describe_body(
+    alloc: Global,
+    scene: Scene<'_>,
+    depth: u32,
+    own: Own,
+    body: &Term,
+) -> Result<Described, EvalFault>
+    requires { Reads (table scene) depth (context scene) body.now }
+    ensures fine { Tells result (BodyDescribed own (Evaluates (table scene.entry) depth) (Describes (table scene.entry) depth) (context scene.entry) body.now) }
+    ensures ready { IfOk result IsReady }
+{
+    match own {
+        Own::Apart => describe(alloc, scene, depth, body),
+        Own::Itself => describe_listed(alloc, scene, depth, body),
+        Own::Function => describe_listed(alloc, scene, depth, body),
+    }
+}
+
+/// The value of a term, as a set that is listed.
+#[cycle(evaluate)]
+fn describe_listed(
+    alloc: Global,
+    scene: Scene<'_>,
+    depth: u32,
+    term: &Term,
+) -> Result<Described, EvalFault>
+    requires { Reads (table scene) depth (context scene) term.now }
+    ensures fine { Tells result (IsValueOf (Evaluates (table scene.entry) depth (context scene.entry) term.now)) }
+    ensures ready { IfOk result IsReady }
+{
+    match eval(alloc, scene, depth, term) {
+        Ok(value) => Ok(Described {
+            node: DescribedNode::Listed(value),
+        }),
+        Err(fault) => Err(fault),
+    }
 }
 
 #[cycle(evaluate)]

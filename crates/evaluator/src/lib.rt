@@ -5,6 +5,7 @@ mod binding;
 mod describing;
 mod evaluate;
 mod operations;
+mod recursion;
 mod stepping;
 
 pub use binding::eval_bounds;

@@ -3,31 +3,33 @@
 ghost use Rattle.std.specs.Prelude.{◌≡◌, [], ◌∷◌, length, map, ◌≤◌};
 ghost use Rattle.tla_eval.specs.Answers.{Tells};
 ghost use Rattle.tla_eval.specs.Contexts.{bind, within};
-ghost use Rattle.tla_eval.specs.Evaluates.{Evaluates};
+ghost use Rattle.tla_eval.specs.Evaluates.{Describes, Evaluates};
 ghost use Rattle.tla_eval.specs.Meanings.{ChainEvaluates};
 ghost use Rattle.tla_eval.specs.Outcomes.{AllTrue, Each, Operated, Then, place_in, Decides};
 ghost use Rattle.tla_eval.specs.Unchanged.{HoldsAndChanges, TruthOf, changed_of, prime_of, HoldsOrStutters, IsUnchanged, MeansUnchanged, StaysSame, unchanged_of};
 ghost use Rattle.tla_ast.specs.declared.operators.InfixOperator.TheVariants.{NotEqual};
 ghost use Rattle.tla_terms.specs.Lists.{terms_list, changes_list, steps_list};
 ghost use Rattle.tla_terms.specs.Terms.{place_of, MoreSteps};
-ghost use Rattle.tla_terms.specs.TermViews.{step_view};
-ghost use Rattle.eval_reads.specs.Reads.{Reads, ReadsEach, ReadsUnder, ChangesRead, PathReads, StepsRead, MeansUnchangedReads, SameReads, UnchangedReads};
+ghost use Rattle.tla_terms.specs.TermViews.{step_item, step_view};
+ghost use Rattle.eval_reads.specs.Reads.{Reads, ReadsEach, ReadsUnder, ChangesRead, PathReads, RecursionReads, StepsRead, MeansUnchangedReads, SameReads, UnchangedReads};
 ghost use Rattle.eval_parts.specs.Scenes.{context, table};
-ghost use Rattle.tla_eval.specs.Functions.{AllChanged, Changed, KeyOf, StepKey, StepsEvaluate, steps_place};
+ghost use Rattle.tla_eval.specs.Functions.{AllChanged, AtStep, Changed, KeyOf, StepKey, StepsEvaluate, steps_place};
+ghost use Rattle.tla_eval.specs.Recursion.{applied_by};
 ghost use Rattle.tla_values.specs.FunctionOperations.{AppliesAt};
-ghost use Rattle.eval_parts.specs.ChangePaths.{HasKey, StepMakes, StepReads, StepsMake, StepsMakeReads, primes_in};
+ghost use Rattle.eval_parts.specs.ChangePaths.{HasKey, StepMakes, StepReads, StepsMake, StepsMakeReads, primes_in, under};
 
 use crate::evaluate::{eval, eval_each, eval_truth};
 use crate::operations::eval_next;
+use crate::recursion::{eval_first, eval_recursion};
 use eval_parts::{
-    Layer, Scene, applied, before_primes, behind, inside_at, one_more, place_at, place_behind,
-    prime_count, primed, primes_among, push, rebuilt, rebuilt_same, text_key, variable_stays,
-    with_slots, within,
+    Layer, Scene, applied, applied_by, before_primes, behind, first_applied, inside_at, one_more,
+    place_at, place_behind, prime_count, primed, primes_among, push, rebuilt, rebuilt_same,
+    text_key, variable_stays, with_slots, within,
 };
 use std::alloc::Global;
 use tla_ast::InfixOperator;
 use tla_eval::{EvalFault, key_of, truth_at};
-use tla_terms::{Changes, Field, Step, Steps, Term, TermNode, Terms};
+use tla_terms::{Changes, Field, Step, StepAt, Steps, Term, TermNode, Terms};
 use tla_values::{EvalKind, Value};
 use trace_base::Place;
 
@@ -248,7 +250,7 @@ fn eval_new(
 
 /// The key that a step asks for.
 #[cycle(evaluate)]
-fn step_key(
+pub(crate) fn step_key(
     alloc: Global,
     scene: Scene<'_>,
     depth: u32,
@@ -295,8 +297,8 @@ pub(crate) fn eval_postfix(
     steps: &Steps,
     last: &Step,
 ) -> Result<Value, EvalFault>
-    requires { StepsRead (Reads (table scene) depth) (context scene) base.now (MoreSteps steps.now at (step_view last.now)) }
-    ensures { Tells result (StepsEvaluate (Evaluates (table scene.entry) depth) (context scene.entry) base.now (MoreSteps steps.now at (step_view last.now))) }
+    requires { StepsRead (table scene) (Reads (table scene) depth) (context scene) base.now (MoreSteps steps.now at (step_view last.now)) }
+    ensures { Tells result (StepsEvaluate (table scene.entry) (Evaluates (table scene.entry) depth) (Describes (table scene.entry) depth) (context scene.entry) base.now (MoreSteps steps.now at (step_view last.now))) }
 {
     match last {
         Step::Prime => eval_steps(alloc, primed(scene), depth, base, steps),
@@ -305,7 +307,7 @@ pub(crate) fn eval_postfix(
     }
 }
 
-/// What stands before the last step, which is no prime, applied to the key of the step.
+/// What the last step, which is no prime, makes of what stands before it: a function that uses itself is not listed.
 #[cycle(evaluate)]
 fn eval_last(
     alloc: Global,
@@ -317,9 +319,32 @@ fn eval_last(
     last: &Step,
 ) -> Result<Value, EvalFault>
     requires key { HasKey (step_view last.now) }
-    requires steps { StepsRead (Reads (table scene) depth) (context scene) base.now steps.now }
+    requires steps { StepsRead (table scene) (Reads (table scene) depth) (context scene) base.now steps.now }
     requires last { StepReads (Reads (table scene) depth) (context scene) (step_view last.now) }
-    ensures { Tells result (Then (StepsEvaluate (Evaluates (table scene.entry) depth) (context scene.entry) base.now steps.now) (λ f. Then (StepKey (Evaluates (table scene.entry) depth) (context scene.entry) at (step_view last.now)) (λ key. Operated (AppliesAt f key) (place_in at (steps_place (place_of base.now) steps.now ∷ []))))) }
+    requires function { RecursionReads (Reads (table scene) depth) (context scene) (applied_by (table scene) base.now steps.now (step_view last.now)) }
+    ensures { Tells result (AtStep (Evaluates (table scene.entry) depth) (Describes (table scene.entry) depth) (context scene.entry) at (steps_place (place_of base.now) steps.now) (step_view last.now) (applied_by (table scene.entry) base.now steps.now (step_view last.now)) (StepsEvaluate (table scene.entry) (Evaluates (table scene.entry) depth) (Describes (table scene.entry) depth) (context scene.entry) base.now steps.now)) }
+{
+    match applied_by(scene.operators, base, steps, last) {
+        Some(function) => eval_recursion(alloc, scene, depth, at, function, last),
+        None => eval_then(alloc, scene, depth, at, base, steps, last),
+    }
+}
+
+/// The value of what stands before the last step, applied to the key of the step.
+#[cycle(evaluate)]
+fn eval_then(
+    alloc: Global,
+    scene: Scene<'_>,
+    depth: u32,
+    at: Place,
+    base: &Term,
+    steps: &Steps,
+    last: &Step,
+) -> Result<Value, EvalFault>
+    requires key { HasKey (step_view last.now) }
+    requires steps { StepsRead (table scene) (Reads (table scene) depth) (context scene) base.now steps.now }
+    requires last { StepReads (Reads (table scene) depth) (context scene) (step_view last.now) }
+    ensures { Tells result (Then (StepsEvaluate (table scene.entry) (Evaluates (table scene.entry) depth) (Describes (table scene.entry) depth) (context scene.entry) base.now steps.now) (λ f. Then (StepKey (Evaluates (table scene.entry) depth) (context scene.entry) at (step_view last.now)) (λ key. Operated (AppliesAt f key) (place_in at (steps_place (place_of base.now) steps.now ∷ []))))) }
 {
     match eval_steps(alloc, scene, depth, base, steps) {
         Ok(function) => {
@@ -360,35 +385,60 @@ fn eval_steps(
     base: &Term,
     steps: &Steps,
 ) -> Result<Value, EvalFault>
-    requires { StepsRead (Reads (table scene) depth) (context scene) base.now steps.now }
-    ensures { Tells result (StepsEvaluate (Evaluates (table scene.entry) depth) (context scene.entry) base.now steps.now) }
+    requires { StepsRead (table scene) (Reads (table scene) depth) (context scene) base.now steps.now }
+    ensures { Tells result (StepsEvaluate (table scene.entry) (Evaluates (table scene.entry) depth) (Describes (table scene.entry) depth) (context scene.entry) base.now steps.now) }
 {
     let primes = primes_among(steps);
-    match eval(alloc, before_primes(scene, primes), depth, base) {
-        Ok(value) => eval_behind(alloc, scene, depth, base, steps, primes, value),
-        Err(fault) => Err(fault),
+    let items = steps.items();
+    match first_applied(scene.operators, base, items) {
+        Some(function) => eval_first(alloc, scene, depth, function, items, primes),
+        None => eval_base(alloc, scene, depth, base, items, primes),
     }
 }
 
-/// What steps, among which are so many primes, make of the value of a term.
+/// The value behind steps, where no function that uses itself has its key of them.
 #[cycle(evaluate)]
-fn eval_behind(
+fn eval_base(
     alloc: Global,
     scene: Scene<'_>,
     depth: u32,
     base: &Term,
-    steps: &Steps,
+    steps: &[StepAt],
+    primes: usize,
+) -> Result<Value, EvalFault>
+    requires primes { primes ≡ primes_in (map step_item steps.now) }
+    requires base { Reads (table scene) depth (under (primes_in (map step_item steps.now)) (context scene)) base.now }
+    requires read { StepsMakeReads (Reads (table scene) depth) (context scene) (map step_item steps.now) }
+    ensures { Tells result (Then (Evaluates (table scene.entry) depth (under (primes_in (map step_item steps.now)) (context scene.entry)) base.now) (StepsMake (Evaluates (table scene.entry) depth) (context scene.entry) (place_of base.now) (map step_item steps.now))) }
+{
+    match eval(alloc, before_primes(scene, primes), depth, base) {
+        Ok(value) => {
+            let place = place_at(base);
+            eval_behind(alloc, scene, depth, place, steps, primes, value)
+        }
+        Err(fault) => Err(fault),
+    }
+}
+
+/// What steps, among which are so many primes, make of a value that stands at the place `place`.
+#[cycle(evaluate)]
+pub(crate) fn eval_behind(
+    alloc: Global,
+    scene: Scene<'_>,
+    depth: u32,
+    place: Place,
+    steps: &[StepAt],
     primes: usize,
     value: Value,
 ) -> Result<Value, EvalFault>
-    requires primes { primes ≡ primes_in (steps_list steps.now) }
-    requires read { StepsMakeReads (Reads (table scene) depth) (context scene) (steps_list steps.now) }
-    ensures { Tells result (StepsMake (Evaluates (table scene.entry) depth) (context scene.entry) (place_of base.now) (steps_list steps.now) value) }
+    requires primes { primes ≡ primes_in (map step_item steps.now) }
+    requires read { StepsMakeReads (Reads (table scene) depth) (context scene) (map step_item steps.now) }
+    ensures { Tells result (StepsMake (Evaluates (table scene.entry) depth) (context scene.entry) place (map step_item steps.now) value) }
 {
     let mut primes = primes;
-    let mut place = place_at(base);
+    let mut place = place;
     let mut value = value;
-    for item in steps.items() {
+    for item in steps {
         primes -= prime_count(&item.step);
         let around = before_primes(scene, primes);
         match eval_step(alloc, around, depth, place, item.at, &item.step, value) {

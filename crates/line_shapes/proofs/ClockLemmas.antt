@@ -1,5 +1,5 @@
 -- The numbers of nodes, as they stand among the members of an object.
-use Rattle.std.proofs.Common.{◌≡◌, ◌<◌, ◌≤◌, ℕ, suc, List, [], ◌∷◌, length, Bool, true, false, Option, None, Some, ap, sym, ◌∙◌, refl, true≢false, option_map, option_and_then, is_some, subst, string_bytes}
+use Rattle.std.proofs.Common.{◌≡◌, ◌<◌, ◌≤◌, ℕ, suc, List, ◌∷◌, length, true, false, Option, None, Some, ap, sym, ◌∙◌, refl, true≢false, option_map, option_and_then, is_some, subst, string_bytes}
 use Rattle.std.specs.Prelude.{unwrap_or}
 use Rattle.std.proofs.lemmas.Bool.{le-leb, lt-leb}
 use Rattle.serde_json.specs.Data.{Data, Members, no_members, member}

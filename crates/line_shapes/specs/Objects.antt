@@ -1,5 +1,5 @@
 -- What stands at the keys of a line, in the place of all members of its object.
-use Rattle.std.specs.Prelude.{◌≡◌, ℕ, List, Bool, true, Option, None, Some, option_map, if◌then◌else◌}
+use Rattle.std.specs.Prelude.{◌≡◌, ℕ, List, Option, None, Some, option_map, if◌then◌else◌}
 use Rattle.std.specs.Str.{bytes_eq}
 use Rattle.serde_json.specs.Data.{Data, object, Members, no_members, member}
 use Rattle.serde_json.specs.Read.{read}
@@ -24,7 +24,7 @@ keyed init event args clock update see =
 
 -- what stands in a slot, if it is there
 abbrev pub content_in : Slot → Option Data
-content_in s = if s.is_there then Some (view s.json) else None
+content_in s = option_map view s
 
 abbrev pub members_in : LineObject → Members
 members_in o = keyed (content_in o.init) (content_in o.event) (content_in o.args) (content_in o.clock) (content_in o.update) (content_in o.see)

@@ -14,21 +14,35 @@ use json::{Reader, Scratch, Token};
 use json_texts::{Unread, read_value, reread_value};
 use serde_json::Value as Json;
 use std::alloc::{AllocError, Global};
+use std::marker::Model;
 
 /// How deep arrays and objects may nest in a line's object.
 const MAX_DEPTH: usize = 126;
 
-/// What stands at a key, if it is there. What stood there in a line before is kept, so that its room serves again.
+/// What stands at a key, if it is there. What stood there in a line before is kept, so that its room serves again, and is not seen.
 #[derive(Drop)]
 pub struct Slot {
     json: Json,
     is_there: bool,
 }
 
+impl Model for Slot {
+    ghost use Rattle.std.specs.Prelude.{None, Option, Some, if◌then◌else◌};
+    ghost use Rattle.std.specs.Coded.{codes};
+    ghost use Rattle.serde_json.specs.declared.value.Value.{Value as JsonValue};
+    ghost use Rattle.serde_json.specs.contracts.value.Value as json_value;
+
+    ghost Value = { Option JsonValue };
+
+    ghost coded = { Prim.hlevel (codes, json_value.the_row.coded) };
+
+    ghost view = { λ s. if s.is_there then Some s.json else None };
+}
+
 impl Slot {
     /// Nothing.
     fn empty() -> Slot
-        ensures { content_in result ≡ None }
+        ensures { result ≡ None }
     {
         Slot {
             json: Json::Null,
@@ -48,7 +62,7 @@ impl Slot {
 
     /// Nothing is there from now on.
     fn clear(&mut self)
-        ensures { content_in self.new ≡ None }
+        ensures { self.new ≡ None }
     {
         self.is_there = false;
     }
@@ -76,7 +90,10 @@ pub struct LineObject {
 }
 
 impl LineObject {
-    fn empty() -> LineObject {
+    /// Nothing at any key.
+    fn empty() -> LineObject
+        ensures { members_in result ≡ no_members }
+    {
         LineObject {
             init: Slot::empty(),
             event: Slot::empty(),

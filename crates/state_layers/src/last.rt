@@ -1,8 +1,6 @@
 ghost use Rattle.std.specs.Prelude.{◌≡◌, ◌<◌, IfOk, map};
-ghost use Rattle.tla_core.specs.Sets.{IsList};
 ghost use Rattle.state_layers.specs.Found.{members_of};
-ghost use Rattle.state_layers.specs.Gives.{IsReached, IsSmall};
-ghost use Rattle.state_layers.specs.Answers.{IsAnswer};
+ghost use Rattle.state_layers.specs.Gives.{IsSmall};
 ghost use Rattle.state_layers.specs.Last.{AreLast};
 ghost use Rattle.state_layers.specs.Says.{Says};
 ghost use Rattle.state_layers.specs.Kept.{Gathers, IsStuck};

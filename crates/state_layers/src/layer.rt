@@ -1,10 +1,10 @@
-ghost use Rattle.std.specs.Prelude.{◌≡◌, IfOk, OnOk};
+ghost use Rattle.std.specs.Prelude.{OnOk};
 ghost use Rattle.state_layers.specs.Found.{AddsNew, Merged};
 
 use crate::member::Member;
 use crate::sharing::SharedValues;
 use indexmap::IndexMap;
-use std::alloc::{AllocError, Global};
+use std::alloc::AllocError;
 
 /// Adds the entry to the layer, with the index of the node that it was reached from, where it is not there.
 pub fn add<E: Member>(layer: &mut IndexMap<E, u32>, entry: E, from: u32) -> Result<(), AllocError>
@@ -14,7 +14,7 @@ pub fn add<E: Member>(layer: &mut IndexMap<E, u32>, entry: E, from: u32) -> Resu
     Ok(())
 }
 
-/// Adds the entries of the list that the layer lacks, but none once the layer has more than `most`.
+/// Adds the entries of the list that the layer lacks, but none once the layer has more than `most`. Their values are shared where they can be.
 pub fn merge<E: Member>(
     layer: &mut IndexMap<E, u32>,
     list: Vec<E>,
@@ -28,22 +28,11 @@ pub fn merge<E: Member>(
         if layer.len() > most {
             continue;
         }
-        let member = lighter(layer, entry, values)?;
+        if layer.contains_key(&entry) {
+            continue;
+        }
+        let member = entry.shared(values)?;
         add(layer, member, from)?;
     }
     Ok(())
-}
-
-/// The entry, of which the values are shared where the layer lacks it.
-fn lighter<E: Member>(
-    layer: &IndexMap<E, u32>,
-    entry: E,
-    values: &mut SharedValues,
-) -> Result<E, AllocError>
-    ensures { IfOk result (λ same. same ≡ entry) }
-{
-    if layer.contains_key(&entry) {
-        return Ok(entry);
-    }
-    entry.shared(values)
 }

@@ -1,12 +1,12 @@
-ghost use Rattle.std.specs.Prelude.{◌≡◌, ◌-◌, ◌<◌, ◌≤◌, IfOk, IfErr, OnOk, Contains, length};
+ghost use Rattle.std.specs.Prelude.{◌≡◌, ◌-◌, ◌<◌, IfOk, IfErr, OnOk, length};
 ghost use Rattle.tla_core.specs.System.{Begins};
 ghost use Rattle.tla_core.specs.Sets.{IsList};
-ghost use Rattle.state_layers.specs.Gives.{IsReached, IsSmall};
+ghost use Rattle.state_layers.specs.Gives.{IsSmall};
 ghost use Rattle.state_layers.specs.Answers.{IsAnswer};
 ghost use Rattle.state_layers.specs.Last.{AreLast};
 ghost use Rattle.state_layers.specs.Says.{Says, IsStop};
 ghost use Rattle.state_layers.specs.Repeats.{AllKnown};
-ghost use Rattle.state_layers.specs.Kept.{AllLinked, AllReached, IsInitClear, Kept, Starts, Continues, first_of};
+ghost use Rattle.state_layers.specs.Kept.{IsInitClear, Kept, Starts, Continues, first_of};
 
 use crate::answer::{Answer, Stop};
 use crate::assumptions::judge;

@@ -1,8 +1,9 @@
--- A set of variables with one more in it.
-use Rattle.std.proofs.Common.{◌≡◌, ◌⊎◌, ◌<◌, ◌*◌, ◌%◌, ℕ, bit_or, w64, inl, inr, sym, subst, ◌∙◌}
-use Rattle.std.specs.Prelude.{◌≢◌, ◌^◌}
+-- A set of variables with one more in it, and that none from 64 on is in one.
+use Rattle.std.proofs.Common.{◌≡◌, ◌⊎◌, ◌<◌, ◌≤◌, ◌*◌, ◌%◌, ℕ, bit_or, w64, inl, inr, sym, subst, ◌∙◌, arith}
+use Rattle.std.specs.Prelude.{◌≢◌, ◌^◌, IsTrue, false}
+use Rattle.std.proofs.lemmas.Bool.{false≢true}
 use Rattle.std.proofs.lemmas.Bool.Decides.{eqb_tells}
-use Rattle.std.proofs.lemmas.Nat.Bits.{bit_at_set_same, bit_at_set_other}
+use Rattle.std.proofs.lemmas.Nat.Bits.{bit_at_above, bit_at_set_same, bit_at_set_other}
 use Rattle.tla_core.specs.VarSets.{Has}
 
 abbrev GoesOn : ℕ → ℕ → ℕ → Type 0
@@ -25,3 +26,6 @@ one_more n k within x = elim (eqb_tells x k) [
   | inl t ↦ at_it n k within x t.1
   | inr t ↦ beside n k within x t.1
 ]
+
+pub none_above : (n k : ℕ) → n < 2 ^ 64 → 64 ≤ k → (IsTrue false → Has n k) × (Has n k → IsTrue false)
+none_above n k small above = ((λ t. absurd (false≢true t)), (λ h. absurd (omega (arith, bit_at_above n 64 k small above, h))))

@@ -1,10 +1,8 @@
 -- The hash of a state, made once and kept beside its values.
-use Rattle.std.specs.Prelude.{ℕ, List, fold}
-use Rattle.std.specs.Hash as fed
-use Rattle.std.specs.Hash.FoldHasher.{initial, write, finish}
-use Rattle.tla_values.specs.Data.{Val}
-use Rattle.tla_values.specs.HashInput.{hash_input}
+use Rattle.std.specs.Prelude.{ℕ, List}
+use Rattle.tla_values.specs.Data.{Val, vals_of}
+use Rattle.tla_values.specs.HashOf.{with_members}
 
--- What a hasher with a fixed seed makes of how many values there are, and then of each.
+-- The hash of each value in turn is mixed in.
 unfoldable pub state_hash : List Val → ℕ
-state_hash values = finish (fold write initial (fed.slice hash_input values))
+state_hash values = with_members 0 (vals_of values)

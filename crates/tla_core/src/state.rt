@@ -2,7 +2,6 @@ ghost use Rattle.std.specs.Prelude.{◌≡◌, ◌++◌, [], ◌∷◌, ◌↔�
 ghost use Rattle.tla_core.specs.StateHash.{state_hash};
 
 use std::alloc::{AllocError, Global};
-use std::hash::{FoldHasher, Hash, Hasher};
 use std::marker::Model;
 use tla_values::Value;
 use trace_base::LineAt;
@@ -77,9 +76,7 @@ impl State {
 fn hash_of(values: &Vec<Value>) -> u64
     ensures { result ≡ state_hash values.now.items }
 {
-    let mut hasher = FoldHasher::default();
-    values.as_slice().hash(&mut hasher);
-    hasher.finish()
+    Value::hash_of_all(values)
 }
 
 /// Copies of the values, in their order.

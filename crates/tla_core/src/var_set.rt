@@ -38,11 +38,14 @@ impl VarSet {
         }
     }
 
-    /// Whether the variable is in the set.
+    /// Whether the variable is in the set, which none with a number from 64 on is.
     pub fn has(&self, v: VarId) -> bool
-        requires below { v.0 < 64 }
         ensures { IsTrue result ↔ Has self.now v.0 }
     {
-        (self.digits >> v.0) & 1 == 1
+        let digits = self.digits;
+        if v.0 >= 64 {
+            return false;
+        }
+        (digits >> v.0) & 1 == 1
     }
 }

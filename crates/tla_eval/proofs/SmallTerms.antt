@@ -1,17 +1,18 @@
 -- Small terms, and what they evaluate to: that the definitions are known to compute.
-use Rattle.std.proofs.Common.{refl, inl, inr, [], ◌∷◌, arith}
+use Rattle.std.proofs.Common.{◌≡◌, refl, inl, inr, [], ◌∷◌, arith}
 use Rattle.std.specs.Prelude.{ℕ, ◌+◌, pos, true, false, Some, Ok, Err}
 use Rattle.trace_base.specs.declared.place.Place.{Place}
 use Rattle.tla_values.specs.Data.{truth, integer, set, function, no_vals, no_pairs}
-use Rattle.tla_values.specs.declared.fault.EvalKind.TheVariants.{NotInteger, NotFunction, NotFinite, Nested, NoCase, NoChoice, BadDivisor}
-use Rattle.tla_ast.specs.declared.operators.InfixOperator.TheVariants.{Plus, Quotient, Member, Implies, CartesianProduct}
+use Rattle.tla_values.specs.declared.fault.EvalKind.TheVariants.{NotInteger, NotFunction, NotFinite, Nested, NoCase, NoChoice, BadDivisor, OutsideDomain}
+use Rattle.tla_ast.specs.declared.operators.InfixOperator.TheVariants.{Plus, Minus, Quotient, Equal, Member, Implies, CartesianProduct}
 use Rattle.tla_ast.specs.declared.operators.PrefixOperator.TheVariants.{Unchanged}
 use Rattle.tla_ast.specs.declared.operators.Quantifier.TheVariants.{Exists}
 use Rattle.tla_terms.specs.declared.level.Level.TheVariants as levels
 use Rattle.tla_terms.specs.declared.standard.NamedSet.TheVariants as sets
 use Rattle.tla_terms.specs.declared.operator.Operator.{Operator}
-use Rattle.tla_terms.specs.declared.operator.Own.TheVariants.{Apart}
-use Rattle.tla_terms.specs.Terms.{Term, Meaning, Placed, Known, Named, Infix, First, Next, NoTerms, MoreTerms, Variable, Slot, Use, Prefix, Postfix, NoSteps, MoreSteps, Prime, Index, Tuple, Quantified, Choose, NoBounds, MoreBounds, Case, NoArms, MoreArms, Except, NoChanges, MoreChanges}
+use Rattle.tla_terms.specs.declared.operator.Own.TheVariants.{Apart, Function}
+use Rattle.tla_terms.specs.Terms as terms
+use Rattle.tla_terms.specs.Terms.{Term, Meaning, Placed, If, Known, Named, Infix, First, Next, NoTerms, MoreTerms, Variable, Slot, Use, Prefix, Postfix, NoSteps, MoreSteps, Prime, Index, Tuple, Quantified, Choose, NoBounds, MoreBounds, Case, NoArms, MoreArms, Except, NoChanges, MoreChanges}
 use Rattle.eval_sets.specs.DescribedSets as described
 use Rattle.eval_sets.specs.DescribedSets.{Listed}
 use Rattle.tla_core.specs.declared.fault.Fault.{Fault}
@@ -118,3 +119,44 @@ no_choice = inl ([], inl (set no_vals, refl, refl), refl)
 -- 5 \in Nat is true, and Nat is not listed
 pub is_natural : Evaluates [] 2 nowhere (constant 3 (Infix Member (First (number 1 5)) (constant 7 (Named sets.Nat)))) (Ok (truth true))
 is_natural = inl (true, inl (integer (pos 5), refl, inl (described.Nat, inl (described.Nat, refl, refl), (true, ((λ h. (pos 5, refl, omega arith)), (λ h. refl)), refl))), refl)
+
+-- F[n \in Nat] == IF n = 0 THEN 5 ELSE F[n - 1]: a function that uses itself, whose domain is not listed
+abbrev applied : ℕ → Term → Term
+applied n key = constant n (Postfix (constant 1 (Use 0 NoTerms)) NoSteps (Index (MoreTerms NoTerms key)))
+
+abbrev recursive : Operator
+recursive = record {
+  name = 70 ∷ [];
+  outer = 0;
+  params = 0;
+  level = levels.Constant;
+  own = Function;
+  body = constant 7 (terms.Function (MoreBounds NoBounds 1 (constant 9 (Named sets.Nat))) (constant 20 (If (constant 24 (Infix Equal (First (constant 23 (Slot 0))) (number 25 0))) (number 30 5) (applied 41 (constant 44 (Infix Minus (First (constant 43 (Slot 0))) (number 45 1)))))));
+}
+
+-- F[0] is 5
+pub at_zero : Evaluates (recursive ∷ []) 4 nowhere (applied 2 (number 3 0)) (Ok (integer (pos 5)))
+at_zero =
+    inl (
+      integer (pos 0),
+      inl (integer (pos 0) ∷ [], inl (integer (pos 0), refl, inl ([], refl, refl)), refl),
+      inl (
+        described.Nat,
+        inl (described.Nat, refl, refl),
+        inl (
+          true,
+          (true, ((λ h. (pos 0, refl, omega arith)), (λ h. refl)), refl),
+          inl (true, inl (truth true, inl (integer (pos 0), (integer (pos 0), refl, refl), inl (integer (pos 0), refl, inl (truth true, (true, ((λ h. refl), (λ h. refl)), refl), refl))), refl), refl),
+        ),
+      ),
+    )
+
+-- F[TRUE] is outside the domain, at the bracket
+pub outside : Evaluates (recursive ∷ []) 4 nowhere (applied 2 (constant 3 (Known (truth true)))) (Err (fault OutsideDomain (at 2)))
+outside =
+    inl (truth true, inl (truth true ∷ [], inl (truth true, refl, inl ([], refl, refl)), refl), inl (described.Nat, inl (described.Nat, refl, refl), inl (false, (false, ((λ h. absurd (cc)), (λ h. absurd (let e : truth true ≡ integer h.0 = h.1 in cc))), refl), refl)))
+
+-- F alone is the function that is listed, and Nat can not be
+pub not_listed : Evaluates (recursive ∷ []) 4 nowhere (constant 1 (Use 0 NoTerms)) (Err (fault NotFinite (at 9)))
+not_listed =
+    inr (fault NotFinite (at 9), (recursive, refl, inr (fault NotFinite (at 9), inr (fault NotFinite (at 9), inr (fault NotFinite (at 9), inr (fault NotFinite (at 9), inr (fault NotFinite (at 9), inl (described.Nat, refl, (0, refl, refl)), refl), refl), refl), refl), refl)), refl)

@@ -1,5 +1,5 @@
 -- Functions: their keys, the steps behind a primary, and the changes of EXCEPT.
-use Rattle.std.specs.Prelude.{◌⊎◌, List, [], ◌∷◌, map}
+use Rattle.std.specs.Prelude.{◌⊎◌, List, [], ◌∷◌, Option, Some, None, map}
 use Rattle.trace_base.specs.declared.place.Place.{Place}
 use Rattle.tla_values.specs.Data.{Val, string}
 use Rattle.tla_values.specs.Functions.{IsFunction, InDomain, HasPair}
@@ -9,7 +9,8 @@ use Rattle.tla_terms.specs.Lists.{terms_list, steps_list}
 use Rattle.tla_terms.specs.Terms as term
 use Rattle.tla_terms.specs.Terms.{Term, Step, Steps, place_of}
 use Rattle.tla_eval.specs.Outcomes.{Outcome, Gives, Fails, Then, Each, Operated, place_in}
-use Rattle.tla_eval.specs.Contexts.{Context, Evaluate, bind, primed}
+use Rattle.tla_eval.specs.Contexts.{Context, Table, Evaluate, Describe, bind, within, primed}
+use Rattle.tla_eval.specs.Recursion.{Recursion, RecursionEvaluates, applied_by}
 
 -- The key that values make: one is itself, and several are their tuple, with its faults at the given place.
 abbrev pub KeyOf : Place → List Val → Outcome Val
@@ -27,12 +28,17 @@ abbrev pub steps_place : Place → Steps → Place
 steps_place at term.NoSteps = at
 steps_place at (term.MoreSteps ss p e) = p
 
+-- f[a] and r.h, where f stands at the place base: a function that uses itself is not listed, and what else stands before the step is evaluated first
+abbrev pub AtStep : Evaluate → Describe → Context → Place → Place → Step → Option Recursion → Outcome Val → Outcome Val
+AtStep evaluate describe c at base s (Some g) P = Then (StepKey evaluate c at s) (RecursionEvaluates evaluate describe (within g.around c) at g)
+AtStep evaluate describe c at base s None P = Then P (λ f. Then (StepKey evaluate c at s) (λ key. Operated (AppliesAt f key) (place_in at (base ∷ []))))
+
 -- The value behind the steps. A prime reads all that stands before it in the next state.
-abbrev pub StepsEvaluate : Evaluate → Context → Term → Steps → Outcome Val
-StepsEvaluate evaluate c e term.NoSteps = evaluate c e
-StepsEvaluate evaluate c e (term.MoreSteps ss p term.Prime) = StepsEvaluate evaluate (primed c) e ss
-StepsEvaluate evaluate c e (term.MoreSteps ss p s) =
-    Then (StepsEvaluate evaluate c e ss) (λ f. Then (StepKey evaluate c p s) (λ key. Operated (AppliesAt f key) (place_in p (steps_place (place_of e) ss ∷ []))))
+abbrev pub StepsEvaluate : Table → Evaluate → Describe → Context → Term → Steps → Outcome Val
+StepsEvaluate ops evaluate describe c e term.NoSteps = evaluate c e
+StepsEvaluate ops evaluate describe c e (term.MoreSteps ss p term.Prime) = StepsEvaluate ops evaluate describe (primed c) e ss
+StepsEvaluate ops evaluate describe c e (term.MoreSteps ss p s) =
+    AtStep evaluate describe c p (steps_place (place_of e) ss) s (applied_by ops e ss s) (StepsEvaluate ops evaluate describe c e ss)
 
 -- What stands at a key: what is no function is refused at the place of the base, and where the key is outside the domain the function stays.
 abbrev pub AtKey : Place → Val → Val → (Val → Outcome Val) → Outcome Val

@@ -4,6 +4,7 @@ pub mod Operations
 pub mod Sets
 pub mod Binders
 pub mod Functions
+pub mod Recursion
 pub mod Unchanged
 pub mod Meanings
 pub mod Evaluates

@@ -13,6 +13,8 @@ use Rattle.tla_ast.specs.declared.operators.InfixOperator.{InfixOperator}
 use Rattle.tla_ast.specs.declared.operators.InfixOperator.TheVariants as infix_operator
 use Rattle.tla_ast.specs.declared.operators.Quantifier.{Quantifier}
 use Rattle.tla_ast.specs.declared.operators.Quantifier.TheVariants as quantifier
+use Rattle.tla_terms.specs.declared.operator.Own.{Own}
+use Rattle.tla_terms.specs.declared.operator.Own.TheVariants as owns
 use Rattle.tla_terms.specs.declared.standard.StandardOperator.{StandardOperator}
 use Rattle.tla_terms.specs.declared.standard.StandardOperator.TheVariants as standard
 use Rattle.tla_terms.specs.Lists.{terms_list, fields_list, changes_list, arms_list}
@@ -104,12 +106,21 @@ StandardEvaluates evaluate describe c standard.Seq ts at r = ListedAt at (Sequen
 StandardEvaluates evaluate describe c o ts at r =
     Then (Each (evaluate c) (terms_list ts)) (λ vs. Operated (StandardAnswers o vs) (place_in at (map place_of (terms_list ts)))) r
 
--- A definition: its arguments first, then its body. One without parameters is described as its body is, and evaluated at each use.
-abbrev pub UseDescribed : Table → Describe → Context → ℕ → Outcome Described
-UseDescribed ops describe c k = WithDefinition ops k (λ o. describe (enter o [] c) o.body)
+-- a term that is no described set is the value that it has
+abbrev pub IsValueOf : Outcome Val → Outcome Described
+IsValueOf P = Then P (λ v. Gives (Listed v))
+
+-- A definition: its arguments first, then its body. One without parameters is evaluated at each use, and described as its body is; one that uses
+-- itself is described as the value that it has.
+abbrev pub BodyDescribed : Own → Evaluate → Describe → Context → Term → Outcome Described
+BodyDescribed owns.Apart evaluate describe c body = describe c body
+BodyDescribed own evaluate describe c body = IsValueOf (evaluate c body)
+
+abbrev pub UseDescribed : Table → Evaluate → Describe → Context → ℕ → Outcome Described
+UseDescribed ops evaluate describe c k = WithDefinition ops k (λ o. BodyDescribed o.own evaluate describe (enter o [] c) o.body)
 
 abbrev pub UseEvaluates : Table → Evaluate → Describe → Context → ℕ → Terms → Place → Outcome Val
-UseEvaluates ops evaluate describe c k term.NoTerms at r = ListedAt at (UseDescribed ops describe c k) r
+UseEvaluates ops evaluate describe c k term.NoTerms at r = ListedAt at (UseDescribed ops evaluate describe c k) r
 UseEvaluates ops evaluate describe c k ts at r = Then (Each (evaluate c) (terms_list ts)) (λ vs. WithDefinition ops k (λ o. evaluate (enter o vs c) o.body)) r
 
 -- CASE: the value of the first arm whose test is true, or else what the last arm says
@@ -148,7 +159,7 @@ MeaningEvaluates ops evaluate describe c at (term.All ts) r = IsTruth (AllTrue (
 MeaningEvaluates ops evaluate describe c at (term.Any ts) r = IsTruth (SomeTrue (TruthOf evaluate c) (terms_list ts)) r
 MeaningEvaluates ops evaluate describe c at (term.Prefix o e) r = PrefixEvaluates ops evaluate describe c o e at r
 MeaningEvaluates ops evaluate describe c at (term.Infix o os e) r = InfixEvaluates evaluate describe c o os e at r
-MeaningEvaluates ops evaluate describe c at (term.Postfix e ss s) r = StepsEvaluate evaluate c e (term.MoreSteps ss at s) r
+MeaningEvaluates ops evaluate describe c at (term.Postfix e ss s) r = StepsEvaluate ops evaluate describe c e (term.MoreSteps ss at s) r
 MeaningEvaluates ops evaluate describe c at (term.SetOf ts) r = Then (Each (evaluate c) (terms_list ts)) (SetOfAll at) r
 MeaningEvaluates ops evaluate describe c at (term.Filter a p) r =
     Then (MembersOf evaluate c a) (λ vs. Then (Passing (λ v. TruthOf evaluate (bind c (v ∷ [])) p) vs) (SetOfAll at)) r
@@ -168,14 +179,10 @@ MeaningEvaluates ops evaluate describe c at (term.BoxAction a v) r = IsTruth (Ho
 MeaningEvaluates ops evaluate describe c at (term.AngleAction a v) r = IsTruth (HoldsAndChanges evaluate c at a v) r
 MeaningEvaluates ops evaluate describe c at (term.Fairness v a) r = ⊥
 
--- a term that is no described set is the value that it has
-abbrev pub IsValueOf : Outcome Val → Outcome Described
-IsValueOf P = Then P (λ v. Gives (Listed v))
-
 -- which set a term means, where it is tested and not listed
 abbrev pub MeaningDescribes : Table → Evaluate → Describe → Context → Place → Meaning → Outcome Described
 MeaningDescribes ops evaluate describe c at (term.Named n) r = Gives (named_set n) r
-MeaningDescribes ops evaluate describe c at (term.Use k term.NoTerms) r = UseDescribed ops describe c k r
+MeaningDescribes ops evaluate describe c at (term.Use k term.NoTerms) r = UseDescribed ops evaluate describe c k r
 MeaningDescribes ops evaluate describe c at (term.Standard standard.Seq ts) r = SequencesDescribed describe c (terms_list ts) r
 MeaningDescribes ops evaluate describe c at (term.Parenthesized e) r = describe c e r
 MeaningDescribes ops evaluate describe c at (term.Prefix prefix.Powerset a) r = SubsetsDescribed describe c a r

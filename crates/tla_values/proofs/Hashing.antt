@@ -4,7 +4,7 @@ use Rattle.std.proofs.Common.{◌≡◌, ℕ, suc, ◌+◌, ◌<◌, List, [], �
 use Rattle.std.proofs.lemmas.List.{at_drop_more}
 use Rattle.tla_values.specs.Data.{Val, pairs_of, vals_of}
 use Rattle.tla_values.specs.Functions.{numbered_from}
-use Rattle.tla_values.specs.HashOf.{hash_of, mix, with_members, with_values}
+use Rattle.tla_values.specs.HashOf.{hash_of, mix, with_bytes, with_members, with_values}
 use Rattle.tla_values.specs.declared.value.Entry.{Entry}
 use Rattle.tla_values.specs.declared.value.Field.{Field}
 use Rattle.tla_values.specs.declared.value.Node.{Node}
@@ -30,6 +30,10 @@ entries_more = one_more (λ h es. with_values h (entries_view es)) (λ e. hash_o
 pub fields_more : (fs : List Field) (i : ℕ) (f : Field) (all before more after : ℕ) → f ≡ get_or fs i f → more ≡ hash_of f.value → after ≡ mix before more
     → with_values before (fields_view (drop i fs)) ≡ all → i < length fs → with_values after (fields_view (drop (i + 1) fs)) ≡ all
 fields_more = one_more (λ h fs. with_values h (fields_view fs)) (λ f. hash_of f.value) (λ h f fs. refl)
+
+pub bytes_more : (bs : List ℕ) (i : ℕ) (b : ℕ) (all before more after : ℕ) → b ≡ get_or bs i b → more ≡ b → after ≡ mix before more
+    → with_bytes before (drop i bs) ≡ all → i < length bs → with_bytes after (drop (i + 1) bs) ≡ all
+bytes_more = one_more (λ h bs. with_bytes h bs) (λ b. b) (λ h b bs. refl)
 
 -- the places are left out
 pub sequence_hash : (hash m : ℕ) (vs : List Val) → with_members hash (vals_of vs) ≡ with_values hash (pairs_of (numbered_from m vs))

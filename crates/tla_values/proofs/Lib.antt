@@ -7,3 +7,4 @@ pub mod FunctionLemmas
 pub mod MakingLaws
 pub mod SequenceLemmas
 pub mod Hashing
+pub mod Neighbours

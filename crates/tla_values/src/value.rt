@@ -2,12 +2,13 @@ ghost use Rattle.std.specs.Prelude.{◌≡◌, ◌↔◌, ◌+◌, ◌<◌, ◌^
 ghost use Rattle.std.specs.Cmp.{partial_equiv_from_equiv};
 ghost use Rattle.std.specs.Cmp.Lexicographic.{slice_cmp};
 ghost use Rattle.std.specs.Option.{option_map};
-ghost use Rattle.tla_values.specs.Data.{model, string, integer, truth, function, depth, int_of, bool_of, text_of, Val};
+ghost use Rattle.tla_values.specs.Data.{model, string, integer, truth, function, depth, int_of, bool_of, text_of, vals_of, Val};
 ghost use Rattle.tla_values.specs.Functions.{Applies, DomainByPairs, FunctionAnswers, FunctionsByPairs, IsSequence, OneValueAtKey, PairsAreValues, keys_in, pairs_in, sequence_of, values_in};
+ghost use Rattle.tla_values.specs.HashOf.{with_members};
 ghost use Rattle.tla_values.specs.IsValue.{IsValue};
 ghost use Rattle.tla_values.specs.Kind.{kind_of};
 ghost use Rattle.tla_values.specs.Order.{val_cmp, val_eq, kind_rank};
-ghost use Rattle.tla_values.specs.OrderLaws.{val_total, val_order, val_eq_equiv, val_same};
+ghost use Rattle.tla_values.specs.OrderLaws.{val_total, val_order, val_eq_equiv};
 ghost use Rattle.tla_values.specs.Sets.{Member, MembersAreValues, SetAnswers, SetsByMembers, count_of, items_of};
 ghost use Rattle.tla_values.specs.View.{HasOneForm, entries_view, entry_cmp, field_cmp, fields_view, kept_hash, kept_levels, node_view};
 
@@ -15,6 +16,7 @@ use forms::{
     apply_entries, apply_fields, apply_items, copy_fields, copy_pairs, entry_at, field_at, item_at,
     key_of_entry, name_at, number_items, place, place_at,
 };
+use hash::with_items;
 use std::alloc::{AllocError, Global};
 use std::cmp::Ordering;
 use std::marker::Model;
@@ -409,6 +411,13 @@ impl Value {
         ensures pairs { PairsAreValues }
     {}
 
+    /// The hash of these values one behind the other: each one's is mixed in.
+    pub fn hash_of_all(values: &Vec<Value>) -> u64
+        ensures { result ≡ with_members 0 (vals_of values.now.items) }
+    {
+        with_items(0, values)
+    }
+
     /// Whether both are one value.
     pub fn same(&self, other: &Value) -> bool
         ensures { IsTrue result ↔ (self.now ≡ other.now) }
@@ -449,6 +458,8 @@ impl PartialEq for Value {
                 compare(self, other).is_eq()
             }
             (Node::Int(x), Node::Int(y)) => x.cmp(y).is_eq(),
+            (Node::String(x), Node::String(y)) => x.cmp(y).is_eq(),
+            (Node::Model(x), Node::Model(y)) => x.cmp(y).is_eq(),
             _ => compare(self, other).is_eq(),
         }
     }

@@ -1,9 +1,9 @@
 use Rattle.std.proofs.Common.{◌≡◌, ℕ, ◌-◌, ◌<◌, ◌≤◌, ◌+◌, List, length, Bool, true, false, Ok, Err, sym, subst, ap, map, refl, ◌∙◌, [], ◌∷◌, arith, drop, ◌++◌}
 use Rattle.std.proofs.lemmas.List.{length-map, map-append}
-use Rattle.std.specs.Prelude.{Option, option_copied}
+use Rattle.std.specs.Prelude.{Option, Some, option_copied}
 use Rattle.tla_values.specs.Data.{Val}
 use Rattle.tla_values.specs.Sets.{items_of}
-use Rattle.tla_values.specs.declared.fault.EvalKind.TheVariants.{NoCase, NoChoice}
+use Rattle.tla_values.specs.declared.fault.EvalKind.TheVariants.{NoCase, NoChoice, OutsideDomain}
 use Rattle.tla_eval.specs.declared.fault.EvalFault.TheVariants.{Refused}
 use Rattle.tla_terms.specs.declared.term.TermNode.{TermNode}
 use denote.Ref.{Bor}
@@ -14,18 +14,18 @@ use Rattle.tla_eval.specs.Contexts.{Context, Table, bind, within}
 use Rattle.tla_eval.specs.Evaluates.{Evaluates, Describes}
 use Rattle.tla_eval.specs.Meanings.{IsValueOf, MeaningDescribes, MeaningEvaluates, ChainEvaluates, FieldEvaluates, FirstArm, FunctionOfAll, FunctionsDescribed, SetOfAll, UseDescribed, UseEvaluates, both_or_neither, PairOf, QuantifiedEvaluates, InfixDescribed, InfixEvaluates}
 use Rattle.tla_eval.specs.Operations.{InfixAnswers}
-use Rattle.tla_eval.specs.Sets.{ChainDescribed, IntervalDescribed, IsWithin, Joined, first_operand, other_operands, list_at, set_at, FieldDescribed, RecordsDescribed, fields_of, ListedAt, PartDescribed, ProductDescribed, parts_of}
+use Rattle.tla_eval.specs.Sets.{ChainDescribed, IntervalDescribed, IsIn, IsWithin, Joined, first_operand, other_operands, list_at, set_at, FieldDescribed, RecordsDescribed, fields_of, ListedAt, PartDescribed, ProductDescribed, parts_of}
 use Rattle.tla_eval.proofs.Telling.{tells_then, tells_stop}
-use Rattle.tla_eval.specs.Outcomes.{Outcome, AllTrue, Each, fault, Gives, Operated, SomeTrue, Then, place_in, truth_at, Decides}
+use Rattle.tla_eval.specs.Outcomes.{Outcome, AllTrue, Each, Either, Fails, fault, Gives, Operated, SomeTrue, Then, place_in, truth_at, Decides}
 use Rattle.tla_eval.specs.Unchanged.{HoldsAndChanges, TruthOf, changed_of, prime_of, HoldsOrStutters, MeansUnchanged, unchanged_of}
 use Rattle.tla_ast.specs.declared.operators.InfixOperator.TheVariants as infix_operator
 use Rattle.tla_terms.specs.declared.level.Level.TheVariants as levels
 use Rattle.tla_terms.specs.Terms as term
-use Rattle.tla_terms.specs.Terms.{Meaning, Term, Terms, Next, place_of, Step, Steps, Placed}
+use Rattle.tla_terms.specs.Terms.{Meaning, Term, Terms, Next, place_of, Step, Steps, Placed, width}
 use Rattle.tla_terms.specs.TermViews.{arm_item, field_item, node_view, bound_item, change_item, step_item, step_view}
 use Rattle.evaluator.proofs.RecordLemmas.{fields_are, fields_once, fields_read}
-use Rattle.tla_terms.specs.Lists.{fields_list, changes_list, steps_list, terms_list}
-use Rattle.eval_reads.specs.Reads.{ArmsRead, Reads, ReadsEach, ReadsUnder, ChangesRead, PathReads, StepsRead, MeansUnchangedReads}
+use Rattle.tla_terms.specs.Lists.{bounds_list, fields_list, changes_list, terms_list}
+use Rattle.eval_reads.specs.Reads.{ArmsRead, Reads, ReadsEach, ReadsUnder, ChangesRead, PathReads, RecursionReads, StepsRead, MeansUnchangedReads}
 use Rattle.eval_parts.specs.Scenes.{OtherEvaluates, Stops, context, operand_item, table}
 use Rattle.evaluator.proofs.Levels.{reads_node, evaluates_node, describes_node}
 use Rattle.evaluator.proofs.JoinedLoops.{joined_ends, joined_goes_on, joined_stops, joined_whole, joins_described, joins_told}
@@ -42,7 +42,11 @@ use Rattle.evaluator.proofs.KeysDiffer.{keys_once}
 use Rattle.eval_parts.proofs.Walking.{chosen_length, fewer, left_begins, left_is, none_more, some_left, within_begins}
 use Rattle.std.proofs.lemmas.List.Elements.{All-nil, All-push}
 use Rattle.std.specs.List.{All}
-use Rattle.tla_eval.specs.Functions.{AllChanged, Changed, KeyOf, StepKey, StepsEvaluate, steps_place}
+use Rattle.tla_eval.specs.Functions.{AllChanged, AtStep, Changed, KeyOf, StepKey, StepsEvaluate, steps_place}
+use Rattle.tla_eval.specs.Recursion.{Recursion as Seen, KeysDescribed, RecursionEvaluates, names_at, sets_of_names}
+use Rattle.eval_parts.specs.Recursions.{FirstMakes, FirstReads, first_applied, seen}
+use Rattle.eval_parts.proofs.RecursionLemmas.{is_key, many_sets, one_set, sets_read, sets_width}
+use Rattle.evaluator.proofs.Recursions.{behind_first, cut_first, key_primes, member_told, only_set, outside_told, product_sound, some_steps}
 use Rattle.tla_values.specs.FunctionOperations.{AppliesAt}
 use Rattle.tla_terms.specs.declared.term.Step.{Step as StepGiven}
 use Rattle.evaluator.proofs.PrefixRows.{makes_subsets, value_described}
@@ -51,7 +55,7 @@ use Rattle.eval_parts.specs.declared.changing.Layer.{Layer}
 use Rattle.eval_parts.specs.declared.field_sets.Part.{Part}
 use Rattle.eval_parts.proofs.ChangeWalk.{ChangeSoFar, bare, change_goes_on, change_made, change_refused, change_stays, change_stops, change_unmade, changes_are, changes_end, changes_go_on, changes_read, changes_stop, path_is, path_reads}
 use Rattle.eval_parts.proofs.RecordSets.{parts_differ, stops_tells}
-use Rattle.eval_parts.proofs.StepWalk.{last_reads, last_told, step_told, primes_from, steps_are, steps_end, steps_go_on, steps_read, steps_reads, steps_stop, steps_told}
+use Rattle.eval_parts.proofs.StepWalk.{first_read, first_told, last_reads, last_told, step_told, primes_from, steps_are, steps_end, steps_go_on, steps_read, steps_reads, steps_stop, steps_told}
 use Rattle.tla_ast.specs.declared.operators.InfixOperator.{InfixOperator}
 use Rattle.tla_ast.specs.declared.operators.PrefixOperator.TheVariants as prefix
 use Rattle.eval_parts.proofs.FollowingLemmas.{else_true, reads_behind, same_value, unchanged_above, unchanged_behind, unchanged_parts}
@@ -59,6 +63,9 @@ use Rattle.eval_parts.proofs.ProductLemmas.{chain_terms, ready_pushed}
 
 abbrev members : Bor (List Val) → List Val
 members x = x.now
+
+abbrev seen_term : Bor Term → Term
+seen_term x = x.now
 
 pub evaluate::eval-eval_node-requires : goal.evaluate::eval-eval_node-requires
 evaluate::eval-eval_node-requires t c =
@@ -206,7 +213,7 @@ pub evaluate::eval_use-returns-in-Ok : goal.evaluate::eval_use-returns-in-Ok
 evaluate::eval_use-returns-in-Ok t c =
     let ops = table c.args.scene in
     let none = none_is c.args.arguments.now (sym c.len.ensures ∙ c.if-len-eq0.true) in
-    let told = tells_then (UseDescribed ops (Describes ops c.args.depth) (context c.args.scene) c.args.number.0) (list_at c.args.at) c.in-Ok.set c.list_at.result c.in-Ok.ensures.fine c.list_at.ensures in
+    let told = tells_then (UseDescribed ops (Evaluates ops c.args.depth) (Describes ops c.args.depth) (context c.args.scene) c.args.number.0) (list_at c.args.at) c.in-Ok.set c.list_at.result c.in-Ok.ensures.fine c.list_at.ensures in
     subst (λ (ts : Terms). Tells c.list_at.result (UseEvaluates ops (Evaluates ops c.args.depth) (Describes ops c.args.depth) (context c.args.scene) c.args.number.0 ts c.args.at)) (sym none) told
 
 pub evaluate::eval_use-eval_body-requires : goal.evaluate::eval_use-eval_body-requires
@@ -1646,7 +1653,7 @@ stepping::eval_key-returns-in-Err t c =
 
 pub stepping::eval_postfix-eval_steps-requires : goal.stepping::eval_postfix-eval_steps-requires
 stepping::eval_postfix-eval_steps-requires t c =
-    let read = subst (λ (s : StepGiven). StepsRead (Reads (table c.args.scene) c.args.depth) (context c.args.scene) c.args.base.now (term.MoreSteps c.args.steps.now c.args.at (step_view s))) c.in-Prime.is c.requires in
+    let read = subst (λ (s : StepGiven). StepsRead (table c.args.scene) (Reads (table c.args.scene) c.args.depth) (context c.args.scene) c.args.base.now (term.MoreSteps c.args.steps.now c.args.at (step_view s))) c.in-Prime.is c.requires in
     (omega (arith, c.decreases), rw (c.primed.ensures.table, c.primed.ensures.context) read)
 
 pub stepping::eval_postfix-returns-in-Prime : goal.stepping::eval_postfix-returns-in-Prime
@@ -1654,101 +1661,157 @@ stepping::eval_postfix-returns-in-Prime t c =
     let r = c.eval_steps.result in
     let e = c.args.base.now in
     let ss = c.args.steps.now in
-    let same = subst (λ (ops : Table). Tells r (StepsEvaluate (Evaluates ops c.args.depth) (context c.primed.result) e ss)) c.primed.ensures.table c.eval_steps.ensures in
-    let told = subst (λ (x : Context). Tells r (StepsEvaluate (Evaluates (table c.args.scene) c.args.depth) x e ss)) c.primed.ensures.context same in
-    subst (λ (s : StepGiven). Tells r (StepsEvaluate (Evaluates (table c.args.scene) c.args.depth) (context c.args.scene) e (term.MoreSteps ss c.args.at (step_view s)))) (sym c.in-Prime.is) told
+    let d = c.args.depth in
+    let same = subst (λ (ops : Table). Tells r (StepsEvaluate ops (Evaluates ops d) (Describes ops d) (context c.primed.result) e ss)) c.primed.ensures.table c.eval_steps.ensures in
+    let ops = table c.args.scene in
+    let told = subst (λ (x : Context). Tells r (StepsEvaluate ops (Evaluates ops d) (Describes ops d) x e ss)) c.primed.ensures.context same in
+    subst (λ (s : StepGiven). Tells r (StepsEvaluate ops (Evaluates ops d) (Describes ops d) (context c.args.scene) e (term.MoreSteps ss c.args.at (step_view s)))) (sym c.in-Prime.is) told
 
 pub stepping::eval_postfix-eval_last-requires : goal.stepping::eval_postfix-eval_last-requires
 stepping::eval_postfix-eval_last-requires t c =
     let key = subst (λ (s : StepGiven). HasKey (step_view s)) (sym c.in-Index.is) tt in
-    let read = last_reads (Reads (table c.args.scene) c.args.depth) (context c.args.scene) c.args.base.now c.args.steps.now c.args.at (step_view c.args.last.now) key c.requires in
-    (omega (arith, c.decreases), (key, (read.0, read.1)))
+    let read = last_reads (table c.args.scene) (Reads (table c.args.scene) c.args.depth) (context c.args.scene) c.args.base.now c.args.steps.now c.args.at (step_view c.args.last.now) key c.requires in
+    (omega (arith, c.decreases), (key, (read.0, (read.1, read.2))))
 
 pub stepping::eval_postfix-returns-in-Index : goal.stepping::eval_postfix-returns-in-Index
 stepping::eval_postfix-returns-in-Index t c =
     let key = subst (λ (s : StepGiven). HasKey (step_view s)) (sym c.in-Index.is) tt in
-    last_told (Evaluates (table c.args.scene) c.args.depth) (context c.args.scene) c.args.base.now c.args.steps.now c.args.at (step_view c.args.last.now) c.eval_last.result key c.eval_last.ensures
+    last_told (table c.args.scene) (Evaluates (table c.args.scene) c.args.depth) (Describes (table c.args.scene) c.args.depth) (context c.args.scene) c.args.base.now c.args.steps.now c.args.at (step_view c.args.last.now) c.eval_last.result key c.eval_last.ensures
 
 pub stepping::eval_postfix-eval_last-requires-in-Field : goal.stepping::eval_postfix-eval_last-requires-in-Field
 stepping::eval_postfix-eval_last-requires-in-Field t c =
     let key = subst (λ (s : StepGiven). HasKey (step_view s)) (sym c.in-Field.is) tt in
-    let read = last_reads (Reads (table c.args.scene) c.args.depth) (context c.args.scene) c.args.base.now c.args.steps.now c.args.at (step_view c.args.last.now) key c.requires in
-    (omega (arith, c.decreases), (key, (read.0, read.1)))
+    let read = last_reads (table c.args.scene) (Reads (table c.args.scene) c.args.depth) (context c.args.scene) c.args.base.now c.args.steps.now c.args.at (step_view c.args.last.now) key c.requires in
+    (omega (arith, c.decreases), (key, (read.0, (read.1, read.2))))
 
 pub stepping::eval_postfix-returns-in-Field : goal.stepping::eval_postfix-returns-in-Field
 stepping::eval_postfix-returns-in-Field t c =
     let key = subst (λ (s : StepGiven). HasKey (step_view s)) (sym c.in-Field.is) tt in
-    last_told (Evaluates (table c.args.scene) c.args.depth) (context c.args.scene) c.args.base.now c.args.steps.now c.args.at (step_view c.args.last.now) c.eval_last-in-Field.result key c.eval_last-in-Field.ensures
+    last_told (table c.args.scene) (Evaluates (table c.args.scene) c.args.depth) (Describes (table c.args.scene) c.args.depth) (context c.args.scene) c.args.base.now c.args.steps.now c.args.at (step_view c.args.last.now) c.eval_last-in-Field.result key c.eval_last-in-Field.ensures
 
-pub stepping::eval_last-returns-in-Ok : goal.stepping::eval_last-returns-in-Ok
-stepping::eval_last-returns-in-Ok t c =
+pub stepping::eval_last-eval_recursion-requires : goal.stepping::eval_last-eval_recursion-requires
+stepping::eval_last-eval_recursion-requires t c =
+    let part = Reads (table c.args.scene) c.args.depth in
+    let function = subst (λ (x : Option Seen). RecursionReads part (context c.args.scene) x) (sym c.in-Some.ensures) c.requires.function in
+    (omega (arith, c.decreases), (c.requires.key, (c.requires.last, function)))
+
+pub stepping::eval_last-returns-in-Some : goal.stepping::eval_last-returns-in-Some
+stepping::eval_last-returns-in-Some t c =
+    let ops = table c.args.scene in
     let ev = Evaluates (table c.args.scene) c.args.depth in
+    let de = Describes (table c.args.scene) c.args.depth in
+    let ctx = context c.args.scene in
+    let e = c.args.base.now in
+    let ss = c.args.steps.now in
+    subst (λ (x : Option Seen). Tells c.eval_recursion.result (AtStep ev de ctx c.args.at (steps_place (place_of e) ss) (step_view c.args.last.now) x (StepsEvaluate ops ev de ctx e ss))) c.in-Some.ensures c.eval_recursion.ensures
+
+pub stepping::eval_last-returns-in-None : goal.stepping::eval_last-returns-in-None
+stepping::eval_last-returns-in-None t c =
+    let ops = table c.args.scene in
+    let ev = Evaluates (table c.args.scene) c.args.depth in
+    let de = Describes (table c.args.scene) c.args.depth in
+    let ctx = context c.args.scene in
+    let e = c.args.base.now in
+    let ss = c.args.steps.now in
+    subst (λ (x : Option Seen). Tells c.eval_then.result (AtStep ev de ctx c.args.at (steps_place (place_of e) ss) (step_view c.args.last.now) x (StepsEvaluate ops ev de ctx e ss))) c.in-None.ensures c.eval_then.ensures
+
+pub stepping::eval_then-returns-in-Ok : goal.stepping::eval_then-returns-in-Ok
+stepping::eval_then-returns-in-Ok t c =
+    let ops = table c.args.scene in
+    let ev = Evaluates (table c.args.scene) c.args.depth in
+    let de = Describes (table c.args.scene) c.args.depth in
     let ctx = context c.args.scene in
     let r = c.eval_applied.result in
     let s = step_view c.args.last.now in
     let told = subst (λ (p : Place). Tells r (Then (StepKey ev ctx c.args.at s) (λ key. Operated (AppliesAt c.in-Ok.function key) (place_in c.args.at (p ∷ []))))) c.place_behind-place.ensures c.eval_applied.ensures in
-    tells_then (StepsEvaluate ev ctx c.args.base.now c.args.steps.now) (λ f. Then (StepKey ev ctx c.args.at s) (λ key. Operated (AppliesAt f key) (place_in c.args.at (steps_place (place_of c.args.base.now) c.args.steps.now ∷ [])))) c.in-Ok.function r c.in-Ok.ensures told
+    tells_then (StepsEvaluate ops ev de ctx c.args.base.now c.args.steps.now) (λ f. Then (StepKey ev ctx c.args.at s) (λ key. Operated (AppliesAt f key) (place_in c.args.at (steps_place (place_of c.args.base.now) c.args.steps.now ∷ [])))) c.in-Ok.function r c.in-Ok.ensures told
 
 pub stepping::eval_applied-returns-in-Ok : goal.stepping::eval_applied-returns-in-Ok
 stepping::eval_applied-returns-in-Ok t c =
     let ev = Evaluates (table c.args.scene) c.args.depth in
     tells_then (StepKey ev (context c.args.scene) c.args.at (step_view c.args.step.now)) (λ key. Operated (AppliesAt c.args.function.now key) (place_in c.args.at (c.args.place ∷ []))) c.in-Ok.key c.applied.result c.in-Ok.ensures c.applied.ensures
 
-pub stepping::eval_steps-eval-requires : goal.stepping::eval_steps-eval-requires
-stepping::eval_steps-eval-requires t c =
-    let read = steps_read (Reads (table c.args.scene) c.args.depth) (context c.args.scene) c.args.base.now c.args.steps.now c.requires in
-    let there = subst (λ (n : ℕ). Reads (table c.args.scene) c.args.depth (under n (context c.args.scene)) c.args.base.now) (sym c.primes_among-primes.ensures) read.0 in
+pub stepping::eval_steps-eval_first-requires : goal.stepping::eval_steps-eval_first-requires
+stepping::eval_steps-eval_first-requires t c =
+    let part = Reads (table c.args.scene) c.args.depth in
+    let are = steps_are c.items-items.result.now c.args.steps.now c.items-items.ensures in
+    let first = ap (first_applied (table c.args.scene) c.args.base.now) (sym are) ∙ sym c.in-Some.ensures in
+    let read = first_read (table c.args.scene) part (context c.args.scene) c.args.base.now c.args.steps.now (seen c.in-Some.function) first c.requires in
+    let some = some_steps (table c.args.scene) c.args.base.now c.items-items.result.now (seen c.in-Some.function) (sym c.in-Some.ensures) in
+    (omega (arith, c.decreases), (some, (c.primes_among-primes.ensures ∙ ap primes_in (sym are), subst (λ (xs : List (Place × Step)). FirstReads part (context c.args.scene) (seen c.in-Some.function) xs) (sym are) read)))
+
+pub stepping::eval_steps-returns-in-Some : goal.stepping::eval_steps-returns-in-Some
+stepping::eval_steps-returns-in-Some t c =
+    let ops = table c.args.scene in
+    let ev = Evaluates (table c.args.scene) c.args.depth in
+    let de = Describes (table c.args.scene) c.args.depth in
+    let g = seen c.in-Some.function in
+    let are = steps_are c.items-items.result.now c.args.steps.now c.items-items.ensures in
+    let first = ap (first_applied ops c.args.base.now) (sym are) ∙ sym c.in-Some.ensures in
+    first_told ops ev de (context c.args.scene) c.args.base.now c.args.steps.now g c.eval_first.result first
+    (subst (λ (xs : List (Place × Step)). Tells c.eval_first.result (FirstMakes ev de (context c.args.scene) g xs)) are c.eval_first.ensures)
+
+pub stepping::eval_steps-eval_base-requires : goal.stepping::eval_steps-eval_base-requires
+stepping::eval_steps-eval_base-requires t c =
+    let part = Reads (table c.args.scene) c.args.depth in
+    let ctx = context c.args.scene in
+    let are = steps_are c.items-items.result.now c.args.steps.now c.items-items.ensures in
+    let read = steps_read (table c.args.scene) part ctx c.args.base.now c.args.steps.now c.requires in
+    let base = subst (λ (xs : List (Place × Step)). part (under (primes_in xs) ctx) c.args.base.now) (sym are) read.0 in
+    let more = subst (λ (xs : List (Place × Step)). StepsMakeReads part ctx xs) (sym are) read.1 in
+    (omega (arith, c.decreases), (c.primes_among-primes.ensures ∙ ap primes_in (sym are), (base, more)))
+
+pub stepping::eval_steps-returns-in-None : goal.stepping::eval_steps-returns-in-None
+stepping::eval_steps-returns-in-None t c =
+    let ops = table c.args.scene in
+    let ev = Evaluates (table c.args.scene) c.args.depth in
+    let de = Describes (table c.args.scene) c.args.depth in
+    let ctx = context c.args.scene in
+    let e = c.args.base.now in
+    let are = steps_are c.items-items.result.now c.args.steps.now c.items-items.ensures in
+    let none = ap (first_applied ops e) (sym are) ∙ sym c.in-None.ensures in
+    steps_told ops ev de ctx e c.args.steps.now c.eval_base.result none
+    (subst (λ (xs : List (Place × Step)). Tells c.eval_base.result (Then (ev (under (primes_in xs) ctx) e) (StepsMake ev ctx (place_of e) xs))) are c.eval_base.ensures)
+
+pub stepping::eval_base-eval-requires : goal.stepping::eval_base-eval-requires
+stepping::eval_base-eval-requires t c =
+    let there = subst (λ (n : ℕ). Reads (table c.args.scene) c.args.depth (under n (context c.args.scene)) c.args.base.now) (sym c.requires.primes) c.requires.base in
     (omega (arith, c.decreases), rw (c.before_primes.ensures.table, c.before_primes.ensures.context) there)
 
-pub stepping::eval_steps-eval_behind-requires : goal.stepping::eval_steps-eval_behind-requires
-stepping::eval_steps-eval_behind-requires t c =
-    let read = steps_read (Reads (table c.args.scene) c.args.depth) (context c.args.scene) c.args.base.now c.args.steps.now c.requires in
-    (omega (arith, c.decreases), (c.primes_among-primes.ensures, read.1))
-
-pub stepping::eval_steps-returns-in-Ok : goal.stepping::eval_steps-returns-in-Ok
-stepping::eval_steps-returns-in-Ok t c =
+pub stepping::eval_base-returns-in-Ok : goal.stepping::eval_base-returns-in-Ok
+stepping::eval_base-returns-in-Ok t c =
     let ops = table c.args.scene in
     let ctx = context c.args.scene in
     let e = c.args.base.now in
-    let xs = steps_list c.args.steps.now in
+    let xs = map step_item c.args.steps.now in
     let v = c.in-Ok.value in
     let same = subst (λ (o : Table). Evaluates o c.args.depth (context c.before_primes.result) e (Ok v)) c.before_primes.ensures.table c.in-Ok.ensures in
     let read = subst (λ (x : Context). Evaluates ops c.args.depth x e (Ok v)) c.before_primes.ensures.context same in
-    let first = subst (λ (n : ℕ). Evaluates ops c.args.depth (under n ctx) e (Ok v)) c.primes_among-primes.ensures read in
-    steps_told (Evaluates ops c.args.depth) ctx e c.args.steps.now c.eval_behind.result
-    (tells_then (Evaluates ops c.args.depth (under (primes_in xs) ctx) e) (StepsMake (Evaluates ops c.args.depth) ctx (place_of e) xs) v c.eval_behind.result first c.eval_behind.ensures)
+    let first = subst (λ (n : ℕ). Evaluates ops c.args.depth (under n ctx) e (Ok v)) c.requires.primes read in
+    let behind = subst (λ (p : Place). Tells c.eval_behind.result (StepsMake (Evaluates ops c.args.depth) ctx p xs v)) c.place_at-place.ensures c.eval_behind.ensures in
+    tells_then (Evaluates ops c.args.depth (under (primes_in xs) ctx) e) (StepsMake (Evaluates ops c.args.depth) ctx (place_of e) xs) v c.eval_behind.result first behind
 
-pub stepping::eval_steps-returns-in-Err : goal.stepping::eval_steps-returns-in-Err
-stepping::eval_steps-returns-in-Err t c =
+pub stepping::eval_base-returns-in-Err : goal.stepping::eval_base-returns-in-Err
+stepping::eval_base-returns-in-Err t c =
     let ops = table c.args.scene in
     let ctx = context c.args.scene in
     let e = c.args.base.now in
-    let xs = steps_list c.args.steps.now in
+    let xs = map step_item c.args.steps.now in
     let f = c.in-Err.fault in
     let same = subst (λ (o : Table). Tells {A = Val} (Err f) (Evaluates o c.args.depth (context c.before_primes.result) e)) c.before_primes.ensures.table c.in-Err.ensures in
     let read = subst (λ (x : Context). Tells {A = Val} (Err f) (Evaluates ops c.args.depth x e)) c.before_primes.ensures.context same in
-    let first = subst (λ (n : ℕ). Tells {A = Val} (Err f) (Evaluates ops c.args.depth (under n ctx) e)) c.primes_among-primes.ensures read in
-    steps_told (Evaluates ops c.args.depth) ctx e c.args.steps.now (Err f)
-    (tells_stop (Evaluates ops c.args.depth (under (primes_in xs) ctx) e) (StepsMake (Evaluates ops c.args.depth) ctx (place_of e) xs) f first)
+    let first = subst (λ (n : ℕ). Tells {A = Val} (Err f) (Evaluates ops c.args.depth (under n ctx) e)) c.requires.primes read in
+    tells_stop (Evaluates ops c.args.depth (under (primes_in xs) ctx) e) (StepsMake (Evaluates ops c.args.depth) ctx (place_of e) xs) f first
 
 pub stepping::eval_behind-loop-item-init : goal.stepping::eval_behind-loop-item-init
-stepping::eval_behind-loop-item-init t c =
-    let are = steps_are c.items-item-items.result.now c.args.steps.now c.items-item-items.ensures in (
-      (λ r h. h),
-      subst (λ (ss : List (Place × Step)). StepsMakeReads (Reads (table c.args.scene) c.args.depth) (context c.args.scene) ss) (sym are) c.requires.read,
-      c.requires.primes ∙ ap primes_in (sym are),
-    )
+stepping::eval_behind-loop-item-init t c = ((λ r h. h), c.requires.read, c.requires.primes)
 
 pub stepping::eval_behind-overflow_sub-primes : goal.stepping::eval_behind-overflow_sub-primes
 stepping::eval_behind-overflow_sub-primes t c =
-    let ops = table c.args.scene in
-    let ev = Evaluates (table c.args.scene) c.args.depth in
-    let ctx = context c.args.scene in
-    let items = c.items-item-items.result.now in
-    let xs = map step_item c.items-item-items.result.now in
-    let are = steps_are items c.args.steps.now c.items-item-items.ensures in
+    let items = c.args.steps.now in
+    let xs = map step_item c.args.steps.now in
     let i = c.loop-item.item-index in
-    let below : c.loop-item.item-index < length c.items-item-items.result.now = omega arith in
+    let below : c.loop-item.item-index < length c.args.steps.now = omega arith in
     let x = step_item c.item-item.result in
     let cut = cut_mapped step_item items i c.item-item.result (cut_at items i c.item-item.result below c.item-item.is) in
     let primes = primes_from xs i x cut in
@@ -1757,18 +1820,16 @@ stepping::eval_behind-overflow_sub-primes t c =
 pub stepping::eval_behind-eval_step-requires : goal.stepping::eval_behind-eval_step-requires
 stepping::eval_behind-eval_step-requires t c =
     let ops = table c.args.scene in
-    let ev = Evaluates (table c.args.scene) c.args.depth in
     let ctx = context c.args.scene in
-    let items = c.items-item-items.result.now in
-    let xs = map step_item c.items-item-items.result.now in
-    let are = steps_are items c.args.steps.now c.items-item-items.ensures in
+    let items = c.args.steps.now in
+    let xs = map step_item c.args.steps.now in
     let i = c.loop-item.item-index in
-    let below : c.loop-item.item-index < length c.items-item-items.result.now = omega arith in
+    let below : c.loop-item.item-index < length c.args.steps.now = omega arith in
     let x = step_item c.item-item.result in
     let cut = cut_mapped step_item items i c.item-item.result (cut_at items i c.item-item.result below c.item-item.is) in
     let primes = primes_from xs i x cut in
     let count = c.prime_count-primes.ensures in
-    let left : c.loop-item.primes - c.prime_count-primes.result ≡ primes_in (drop (c.loop-item.item-index + 1) (map step_item c.items-item-items.result.now)) = omega (arith, count, primes, c.loop-item.invariant.2) in
+    let left : c.loop-item.primes - c.prime_count-primes.result ≡ primes_in (drop (c.loop-item.item-index + 1) (map step_item c.args.steps.now)) = omega (arith, count, primes, c.loop-item.invariant.2) in
     let read = (steps_reads (Reads ops c.args.depth) ctx xs i x cut c.loop-item.invariant.1).0 in
     let there = subst (λ (n : ℕ). StepReads (Reads ops c.args.depth) (under n ctx) (step_view c.item-item.result.step)) (sym left) read in
     (omega (arith, c.decreases), rw (c.before_primes-around.ensures.table, c.before_primes-around.ensures.context) there)
@@ -1779,16 +1840,15 @@ stepping::eval_behind-returns-in-Err t c =
     let ev = Evaluates (table c.args.scene) c.args.depth in
     let d = c.args.depth in
     let ctx = context c.args.scene in
-    let items = c.items-item-items.result.now in
-    let xs = map step_item c.items-item-items.result.now in
-    let are = steps_are items c.args.steps.now c.items-item-items.ensures in
+    let items = c.args.steps.now in
+    let xs = map step_item c.args.steps.now in
     let i = c.loop-item.item-index in
-    let below : c.loop-item.item-index < length c.items-item-items.result.now = omega arith in
+    let below : c.loop-item.item-index < length c.args.steps.now = omega arith in
     let x = step_item c.item-item.result in
     let cut = cut_mapped step_item items i c.item-item.result (cut_at items i c.item-item.result below c.item-item.is) in
     let primes = primes_from xs i x cut in
     let count = c.prime_count-primes.ensures in
-    let left : c.loop-item.primes - c.prime_count-primes.result ≡ primes_in (drop (c.loop-item.item-index + 1) (map step_item c.items-item-items.result.now)) = omega (arith, count, primes, c.loop-item.invariant.2) in
+    let left : c.loop-item.primes - c.prime_count-primes.result ≡ primes_in (drop (c.loop-item.item-index + 1) (map step_item c.args.steps.now)) = omega (arith, count, primes, c.loop-item.invariant.2) in
     let p = c.loop-item.place in
     let v = c.loop-item.value in
     let around = c.before_primes-around in
@@ -1796,9 +1856,7 @@ stepping::eval_behind-returns-in-Err t c =
     let same = subst (λ (o : Table). Tells {A = Val} (Err f) (StepMakes (Evaluates o d) (context around.result) p x.0 x.1 v)) around.ensures.table c.in-Err.ensures in
     let read = subst (λ (k : Context). Tells {A = Val} (Err f) (StepMakes ev k p x.0 x.1 v)) around.ensures.context same in
     let there = subst (λ (n : ℕ). Tells {A = Val} (Err f) (StepMakes ev (under n ctx) p x.0 x.1 v)) left read in
-    let stopped = steps_stop ev ctx xs c.place_at-place.result c.args.value i p v x f cut there c.loop-item.invariant.0 in
-    subst (λ (ss : List (Place × Step)). Tells {A = Val} (Err f) (StepsMake ev ctx (place_of c.args.base.now) ss c.args.value)) are
-    (subst (λ (q : Place). Tells {A = Val} (Err f) (StepsMake ev ctx q xs c.args.value)) c.place_at-place.ensures stopped)
+    steps_stop ev ctx xs c.args.place c.args.value i p v x f cut there c.loop-item.invariant.0
 
 pub stepping::eval_behind-loop-item-preserved : goal.stepping::eval_behind-loop-item-preserved
 stepping::eval_behind-loop-item-preserved t c =
@@ -1806,16 +1864,15 @@ stepping::eval_behind-loop-item-preserved t c =
     let ev = Evaluates (table c.args.scene) c.args.depth in
     let d = c.args.depth in
     let ctx = context c.args.scene in
-    let items = c.items-item-items.result.now in
-    let xs = map step_item c.items-item-items.result.now in
-    let are = steps_are items c.args.steps.now c.items-item-items.ensures in
+    let items = c.args.steps.now in
+    let xs = map step_item c.args.steps.now in
     let i = c.loop-item.item-index in
-    let below : c.loop-item.item-index < length c.items-item-items.result.now = omega arith in
+    let below : c.loop-item.item-index < length c.args.steps.now = omega arith in
     let x = step_item c.item-item.result in
     let cut = cut_mapped step_item items i c.item-item.result (cut_at items i c.item-item.result below c.item-item.is) in
     let primes = primes_from xs i x cut in
     let count = c.prime_count-primes.ensures in
-    let left : c.loop-item.primes - c.prime_count-primes.result ≡ primes_in (drop (c.loop-item.item-index + 1) (map step_item c.items-item-items.result.now)) = omega (arith, count, primes, c.loop-item.invariant.2) in
+    let left : c.loop-item.primes - c.prime_count-primes.result ≡ primes_in (drop (c.loop-item.item-index + 1) (map step_item c.args.steps.now)) = omega (arith, count, primes, c.loop-item.invariant.2) in
     let p = c.loop-item.place in
     let v = c.loop-item.value in
     let around = c.before_primes-around in
@@ -1823,25 +1880,235 @@ stepping::eval_behind-loop-item-preserved t c =
     let same = subst (λ (o : Table). StepMakes (Evaluates o d) (context around.result) p x.0 x.1 v (Ok w)) around.ensures.table c.in-Ok.ensures in
     let read = subst (λ (k : Context). StepMakes ev k p x.0 x.1 v (Ok w)) around.ensures.context same in
     let there = subst (λ (n : ℕ). StepMakes ev (under n ctx) p x.0 x.1 v (Ok w)) left read in (
-      steps_go_on ev ctx xs c.place_at-place.result c.args.value i p v x w cut there c.loop-item.invariant.0,
+      steps_go_on ev ctx xs c.args.place c.args.value i p v x w cut there c.loop-item.invariant.0,
       (steps_reads (Reads ops d) ctx xs i x cut c.loop-item.invariant.1).1,
       left,
     )
 
 pub stepping::eval_behind-returns : goal.stepping::eval_behind-returns
 stepping::eval_behind-returns t c =
-    let ops = table c.args.scene in
     let ev = Evaluates (table c.args.scene) c.args.depth in
     let ctx = context c.args.scene in
-    let items = c.items-item-items.result.now in
-    let xs = map step_item c.items-item-items.result.now in
-    let are = steps_are items c.args.steps.now c.items-item-items.ensures in
+    let xs = map step_item c.args.steps.now in
     let i = c.loop-item.item-index in
-    let passed : length c.items-item-items.result.now ≤ c.loop-item.item-index = omega arith in
-    let over : length xs ≤ c.loop-item.item-index = omega (arith, passed, length-map c.items-item-items.result.now step_item) in
-    let start = c.place_at-place.ensures in
-    subst (λ (ss : List (Place × Step)). StepsMake ev ctx (place_of c.args.base.now) ss c.args.value (Ok c.loop-item.value)) are
-    (subst (λ (p : Place). StepsMake ev ctx p xs c.args.value (Ok c.loop-item.value)) start (steps_end ev ctx xs c.place_at-place.result c.args.value i c.loop-item.place c.loop-item.value over c.loop-item.invariant.0))
+    let passed : length c.args.steps.now ≤ c.loop-item.item-index = omega arith in
+    let over : length xs ≤ c.loop-item.item-index = omega (arith, passed, length-map c.args.steps.now step_item) in
+    steps_end ev ctx xs c.args.place c.args.value i c.loop-item.place c.loop-item.value over c.loop-item.invariant.0
+
+-- functions that use themselves
+
+pub recursion::eval_first-eval_recursion-requires : goal.recursion::eval_first-eval_recursion-requires
+recursion::eval_first-eval_recursion-requires t c =
+    let part = Reads (table c.args.scene) c.args.depth in
+    let ctx = context c.args.scene in
+    let items = c.args.steps.now in
+    let x = step_item c.index-steps-0.result in
+    let xs = map step_item (drop 1 items) in
+    let cut = cut_first items c.index-steps-0.result c.requires.some c.index-steps-0.is in
+    let read = subst (λ (ys : List (Place × Step)). FirstReads part ctx (seen c.args.function) ys) cut c.requires.read in
+    let primes = c.requires.primes ∙ ap primes_in cut ∙ key_primes x.1 (primes_in xs) read.0 in
+    let step = subst (λ (n : ℕ). StepReads part (under n ctx) x.1) (sym primes) read.1 in
+    let function = subst (λ (n : ℕ). RecursionReads part (under n ctx) (Some (seen c.args.function))) (sym primes) read.2 in
+    let d = c.args.depth in
+    let g = seen c.args.function in
+    let around = c.before_primes-around in
+    let there = subst (λ (k : Context). RecursionReads part k (Some g)) (sym around.ensures.context) function in
+    let here = subst (λ (o : Table). RecursionReads (Reads o d) (context around.result) (Some g)) (sym around.ensures.table) there in
+    (omega (arith, c.decreases), (read.0, (rw (c.before_primes-around.ensures.table, c.before_primes-around.ensures.context) step, here)))
+
+pub recursion::eval_first-eval_behind-requires : goal.recursion::eval_first-eval_behind-requires
+recursion::eval_first-eval_behind-requires t c =
+    let part = Reads (table c.args.scene) c.args.depth in
+    let ctx = context c.args.scene in
+    let items = c.args.steps.now in
+    let x = step_item c.index-steps-0.result in
+    let xs = map step_item (drop 1 items) in
+    let cut = cut_first items c.index-steps-0.result c.requires.some c.index-steps-0.is in
+    let read = subst (λ (ys : List (Place × Step)). FirstReads part ctx (seen c.args.function) ys) cut c.requires.read in
+    let primes = c.requires.primes ∙ ap primes_in cut ∙ key_primes x.1 (primes_in xs) read.0 in
+    let rest = sym (behind_first items) in
+    (omega (arith, c.decreases), (primes ∙ ap primes_in rest, subst (λ (ys : List (Place × Step)). StepsMakeReads part ctx ys) rest read.3))
+
+pub recursion::eval_first-returns-in-Ok : goal.recursion::eval_first-returns-in-Ok
+recursion::eval_first-returns-in-Ok t c =
+    let ops = table c.args.scene in
+    let d = c.args.depth in
+    let ev = Evaluates (table c.args.scene) c.args.depth in
+    let de = Describes (table c.args.scene) c.args.depth in
+    let part = Reads (table c.args.scene) c.args.depth in
+    let ctx = context c.args.scene in
+    let g = seen c.args.function in
+    let items = c.args.steps.now in
+    let x = step_item c.index-steps-0.result in
+    let xs = map step_item (drop 1 items) in
+    let v = c.in-Ok.value in
+    let around = c.before_primes-around in
+    let cut = cut_first items c.index-steps-0.result c.requires.some c.index-steps-0.is in
+    let read = subst (λ (ys : List (Place × Step)). FirstReads part ctx g ys) cut c.requires.read in
+    let primes = c.requires.primes ∙ ap primes_in cut ∙ key_primes x.1 (primes_in xs) read.0 in
+    let same = subst (λ (o : Table). Then (StepKey (Evaluates o d) (context around.result) x.0 x.1) (RecursionEvaluates (Evaluates o d) (Describes o d) (within g.around (context around.result)) x.0 g) (Ok v)) around.ensures.table c.in-Ok.ensures in
+    let there = subst (λ (k : Context). Then (StepKey ev k x.0 x.1) (RecursionEvaluates ev de (within g.around k) x.0 g) (Ok v)) around.ensures.context same in
+    let first = subst (λ (n : ℕ). Then (StepKey ev (under n ctx) x.0 x.1) (RecursionEvaluates ev de (within g.around (under n ctx)) x.0 g) (Ok v)) primes there in
+    let behind = subst (λ (ys : List (Place × Step)). Tells c.eval_behind.result (StepsMake ev ctx x.0 ys v)) (behind_first items) c.eval_behind.ensures in
+    subst (λ (ys : List (Place × Step)). Tells c.eval_behind.result (FirstMakes ev de ctx g ys)) (sym cut)
+    (tells_then (Then (StepKey ev (under (primes_in xs) ctx) x.0 x.1) (RecursionEvaluates ev de (within g.around (under (primes_in xs) ctx)) x.0 g)) (StepsMake ev ctx x.0 xs) v c.eval_behind.result first behind)
+
+pub recursion::eval_first-returns-in-Err : goal.recursion::eval_first-returns-in-Err
+recursion::eval_first-returns-in-Err t c =
+    let d = c.args.depth in
+    let ev = Evaluates (table c.args.scene) c.args.depth in
+    let de = Describes (table c.args.scene) c.args.depth in
+    let part = Reads (table c.args.scene) c.args.depth in
+    let ctx = context c.args.scene in
+    let g = seen c.args.function in
+    let items = c.args.steps.now in
+    let x = step_item c.index-steps-0.result in
+    let xs = map step_item (drop 1 items) in
+    let f = c.in-Err.fault in
+    let around = c.before_primes-around in
+    let cut = cut_first items c.index-steps-0.result c.requires.some c.index-steps-0.is in
+    let read = subst (λ (ys : List (Place × Step)). FirstReads part ctx g ys) cut c.requires.read in
+    let primes = c.requires.primes ∙ ap primes_in cut ∙ key_primes x.1 (primes_in xs) read.0 in
+    let same = subst (λ (o : Table). Tells {A = Val} (Err f) (Then (StepKey (Evaluates o d) (context around.result) x.0 x.1) (RecursionEvaluates (Evaluates o d) (Describes o d) (within g.around (context around.result)) x.0 g))) around.ensures.table c.in-Err.ensures in
+    let there = subst (λ (k : Context). Tells {A = Val} (Err f) (Then (StepKey ev k x.0 x.1) (RecursionEvaluates ev de (within g.around k) x.0 g))) around.ensures.context same in
+    let first = subst (λ (n : ℕ). Tells {A = Val} (Err f) (Then (StepKey ev (under n ctx) x.0 x.1) (RecursionEvaluates ev de (within g.around (under n ctx)) x.0 g))) primes there in
+    subst (λ (ys : List (Place × Step)). Tells {A = Val} (Err f) (FirstMakes ev de ctx g ys)) (sym cut)
+    (tells_stop (Then (StepKey ev (under (primes_in xs) ctx) x.0 x.1) (RecursionEvaluates ev de (within g.around (under (primes_in xs) ctx)) x.0 g)) (StepsMake ev ctx x.0 xs) f first)
+
+pub recursion::eval_recursion-within-around-requires : goal.recursion::eval_recursion-within-around-requires
+recursion::eval_recursion-within-around-requires t c = c.requires.function.0
+
+pub recursion::eval_recursion-eval_at_key-requires : goal.recursion::eval_recursion-eval_at_key-requires
+recursion::eval_recursion-eval_at_key-requires t c =
+    let d = c.args.depth in
+    let part = Reads (table c.args.scene) c.args.depth in
+    let n = width c.args.function.bounds.now in
+    let e = c.args.function.value.now in
+    let around = c.within-around in
+    let there = subst (λ (k : Context). ReadsUnder part k n e) (sym around.ensures.context) c.requires.function.2 in
+    let under = subst (λ (o : Table). ReadsUnder (Reads o d) (context around.result) n e) (sym around.ensures.table) there in
+    (omega (arith, c.decreases), (rw (c.within-around.ensures.table, c.within-around.ensures.context) c.requires.function.1, under))
+
+pub recursion::eval_recursion-returns-in-Ok : goal.recursion::eval_recursion-returns-in-Ok
+recursion::eval_recursion-returns-in-Ok t c =
+    let d = c.args.depth in
+    let ev = Evaluates (table c.args.scene) c.args.depth in
+    let de = Describes (table c.args.scene) c.args.depth in
+    let ctx = context c.args.scene in
+    let g = seen c.args.function in
+    let r = c.eval_at_key.result in
+    let key = c.in-Ok.key in
+    let around = c.within-around in
+    let same = subst (λ (o : Table). Tells r (RecursionEvaluates (Evaluates o d) (Describes o d) (context around.result) c.args.at g key)) around.ensures.table c.eval_at_key.ensures in
+    let there = subst (λ (k : Context). Tells r (RecursionEvaluates ev de k c.args.at g key)) around.ensures.context same in
+    tells_then (StepKey ev ctx c.args.at (step_view c.args.step.now)) (RecursionEvaluates ev de (within g.around ctx) c.args.at g) key r c.in-Ok.ensures there
+
+pub recursion::eval_at_key-describe_keys-requires : goal.recursion::eval_at_key-describe_keys-requires
+recursion::eval_at_key-describe_keys-requires t c =
+    let part = Reads (table c.args.scene) c.args.depth in
+    let ctx = context c.args.scene in
+    let read = sets_read part ctx (bounds_list c.args.function.bounds.now) c.requires.sets in
+    (omega (arith, c.decreases), subst (λ (es : List Term). ReadsEach part ctx es) (sym (ap (map seen_term) c.deref.ensures.value ∙ c.in_ok-sets.ensures)) read)
+
+pub recursion::eval_at_key-eval_member-requires : goal.recursion::eval_at_key-eval_member-requires
+recursion::eval_at_key-eval_member-requires t c =
+    let part = Reads (table c.args.scene) c.args.depth in
+    let de = Describes (table c.args.scene) c.args.depth in
+    let ctx = context c.args.scene in
+    let bs = c.args.function.bounds.now in
+    let sets = c.deref-in-Ok.result.now in
+    let are : map seen_term c.deref.result.now ≡ sets_of_names (bounds_list c.args.function.bounds.now) = ap (map seen_term) c.deref.ensures.value ∙ c.in_ok-sets.ensures in
+    let again : map seen_term c.deref-in-Ok.result.now ≡ sets_of_names (bounds_list c.args.function.bounds.now) = ap (map seen_term) c.deref-in-Ok.ensures.value ∙ c.in_ok-sets.ensures in
+    let fine = subst (λ (es : List Term). KeysDescribed de ctx es (Ok c.in-Ok.keys)) (are ∙ sym again) c.in-Ok.ensures.fine in
+    let many : length c.deref-in-Ok.result.now ≡ width bs = sym (length-map sets seen_term) ∙ ap length again ∙ sets_width bs in (
+      omega (arith, c.decreases),
+      (c.in-Ok.ensures.sound, ((λ b. is_key de ctx (map seen_term sets) c.in-Ok.keys c.args.key.now fine b), subst (λ (n : ℕ). ReadsUnder part ctx n c.args.function.value.now) (sym many) c.requires.value)),
+    )
+
+pub recursion::eval_at_key-returns-in-Ok : goal.recursion::eval_at_key-returns-in-Ok
+recursion::eval_at_key-returns-in-Ok t c =
+    let ev = Evaluates (table c.args.scene) c.args.depth in
+    let de = Describes (table c.args.scene) c.args.depth in
+    let ctx = context c.args.scene in
+    let g = seen c.args.function in
+    let at = c.args.at in
+    let key = c.args.key.now in
+    let es : List Term = sets_of_names (bounds_list c.args.function.bounds.now) in
+    let are : map seen_term c.deref.result.now ≡ es = ap (map seen_term) c.deref.ensures.value ∙ c.in_ok-sets.ensures in
+    let again : map seen_term c.deref-in-Ok.result.now ≡ es = ap (map seen_term) c.deref-in-Ok.ensures.value ∙ c.in_ok-sets.ensures in
+    let fine = subst (λ (fs : List Term). KeysDescribed de ctx fs (Ok c.in-Ok.keys)) are c.in-Ok.ensures.fine in
+    let member = subst (λ (fs : List Term). Tells c.eval_member.result (Then (IsIn c.in-Ok.keys key) (λ b. Either b (ev (bind ctx (names_at fs key)) g.value) (Fails OutsideDomain at)))) again c.eval_member.ensures in
+    tells_then (KeysDescribed de ctx es) (λ d. Then (IsIn d key) (λ b. Either b (ev (bind ctx (names_at es key)) g.value) (Fails OutsideDomain at))) c.in-Ok.keys c.eval_member.result fine member
+
+pub recursion::eval_at_key-returns : goal.recursion::eval_at_key-returns
+recursion::eval_at_key-returns t c =
+    let ev = Evaluates (table c.args.scene) c.args.depth in
+    let de = Describes (table c.args.scene) c.args.depth in
+    let ctx = context c.args.scene in
+    let g = seen c.args.function in
+    let at = c.args.at in
+    let key = c.args.key.now in
+    let es : List Term = sets_of_names (bounds_list c.args.function.bounds.now) in
+    let f = c.in-Err.fault in
+    let are : map seen_term c.deref.result.now ≡ es = ap (map seen_term) c.deref.ensures.value ∙ c.in_ok-sets.ensures in
+    let fine = subst (λ (fs : List Term). Tells {A = Described} (Err f) (KeysDescribed de ctx fs)) are c.in-Err.ensures.fine in
+    tells_stop (KeysDescribed de ctx es) (λ d. Then (IsIn d key) (λ b. Either b (ev (bind ctx (names_at es key)) g.value) (Fails OutsideDomain at))) f fine
+
+pub recursion::describe_keys-describe_set-requires : goal.recursion::describe_keys-describe_set-requires
+recursion::describe_keys-describe_set-requires t c =
+    let part = Reads (table c.args.scene) c.args.depth in
+    let only = only_set c.args.sets.now c.index-sets-0.result c.if-names-eq1.true c.index-sets-0.is in
+    (omega (arith, c.decreases), (subst (λ (es : List Term). ReadsEach part (context c.args.scene) es) only c.requires).0)
+
+pub recursion::describe_keys-returns-then-names-eq1-clause-fine : goal.recursion::describe_keys-returns-then-names-eq1-clause-fine
+recursion::describe_keys-returns-then-names-eq1-clause-fine t c =
+    let de = Describes (table c.args.scene) c.args.depth in
+    let ctx = context c.args.scene in
+    let e = c.index-sets-0.result.now in
+    let only = only_set c.args.sets.now c.index-sets-0.result c.if-names-eq1.true c.index-sets-0.is in
+    subst (λ (P : Outcome Described). Tells c.describe_set.result P) (sym (one_set de ctx (map seen_term c.args.sets.now) e only)) c.describe_set.ensures.fine
+
+pub recursion::describe_keys-returns-in-Ok-clause-fine : goal.recursion::describe_keys-returns-in-Ok-clause-fine
+recursion::describe_keys-returns-in-Ok-clause-fine t c =
+    let de = Describes (table c.args.scene) c.args.depth in
+    let ctx = context c.args.scene in
+    let es = map seen_term c.args.sets.now in
+    let many : length es ≡ 1 → ⊥ = λ q. absurd (c.if-names-eq1.false (sym (length-map c.args.sets.now seen_term) ∙ q)) in
+    subst (λ (P : Outcome Described). Tells c.product_of.result P) (sym (many_sets de ctx es many))
+    (tells_then (Each (PartDescribed de ctx) es) (λ ds. Then (Each (λ d. set_at d.0 d.1) ds) (λ fs. Gives (Product (parts_of fs)))) c.in-Ok.parts.items c.product_of.result c.in-Ok.ensures.parts c.product_of.ensures.fine)
+
+pub recursion::describe_keys-returns-in-Ok-clause-sound : goal.recursion::describe_keys-returns-in-Ok-clause-sound
+recursion::describe_keys-returns-in-Ok-clause-sound t c = product_sound (Each (λ d. set_at d.0 d.1) c.in-Ok.parts.items) c.product_of.result c.product_of.ensures.fine c.product_of.ensures.ready
+
+pub recursion::describe_keys-returns-in-Err-clause-fine : goal.recursion::describe_keys-returns-in-Err-clause-fine
+recursion::describe_keys-returns-in-Err-clause-fine t c =
+    let de = Describes (table c.args.scene) c.args.depth in
+    let ctx = context c.args.scene in
+    let es = map seen_term c.args.sets.now in
+    let f = c.in-Err.fault in
+    let many : length es ≡ 1 → ⊥ = λ q. absurd (c.if-names-eq1.false (sym (length-map c.args.sets.now seen_term) ∙ q)) in
+    subst (λ (P : Outcome Described). Tells {A = Described} (Err f) P) (sym (many_sets de ctx es many))
+    (stops_then (Each (PartDescribed de ctx) es) (λ ds. Then (Each (λ d. set_at d.0 d.1) ds) (λ fs. Gives (Product (parts_of fs)))) f c.in-Err.ensures.fault)
+
+pub recursion::eval_member-eval_named-requires : goal.recursion::eval_member-eval_named-requires
+recursion::eval_member-eval_named-requires t c =
+    let es = map seen_term c.args.sets.now in
+    let belongs = c.member-is_key.ensures.0 c.if-is_key.true in
+    let key = c.requires.key belongs in
+    let many = key.1 ∙ length-map c.args.sets.now seen_term in
+    (omega (arith, c.decreases), (key.0, c.requires.value (names_at es c.args.key.now) many))
+
+pub recursion::eval_member-returns-then-is_key : goal.recursion::eval_member-returns-then-is_key
+recursion::eval_member-returns-then-is_key t c =
+    let ev = Evaluates (table c.args.scene) c.args.depth in
+    let vs = names_at (map seen_term c.args.sets.now) c.args.key.now in
+    member_told c.args.keys c.args.key.now c.args.at (ev (bind (context c.args.scene) vs) c.args.value.now) c.member-is_key.result c.eval_named.result c.member-is_key.ensures c.if-is_key.true c.eval_named.ensures
+
+pub recursion::eval_member-returns : goal.recursion::eval_member-returns
+recursion::eval_member-returns t c =
+    let ev = Evaluates (table c.args.scene) c.args.depth in
+    let vs = names_at (map seen_term c.args.sets.now) c.args.key.now in
+    outside_told c.args.keys c.args.key.now c.args.at (ev (bind (context c.args.scene) vs) c.args.value.now) c.member-is_key.result c.member-is_key.ensures c.if-is_key.false
 
 pub stepping::eval_step-returns-in-Index : goal.stepping::eval_step-returns-in-Index
 stepping::eval_step-returns-in-Index t c =

@@ -71,6 +71,12 @@ decreases-evaluate::eval_body l = 20 * l.depth + 3
 abbrev pub decreases-evaluate::describe_use : goal.decreases-evaluate::describe_use
 decreases-evaluate::describe_use l = 20 * l.depth + 3
 
+abbrev pub decreases-evaluate::describe_body : goal.decreases-evaluate::describe_body
+decreases-evaluate::describe_body l = 20 * l.depth + 2
+
+abbrev pub decreases-evaluate::describe_listed : goal.decreases-evaluate::describe_listed
+decreases-evaluate::describe_listed l = 20 * l.depth + 1
+
 abbrev pub decreases-evaluate::eval_standard : goal.decreases-evaluate::eval_standard
 decreases-evaluate::eval_standard l = 20 * l.depth + 4
 
@@ -381,16 +387,40 @@ abbrev pub decreases-stepping::eval_key : goal.decreases-stepping::eval_key
 decreases-stepping::eval_key l = 20 * l.depth + 3
 
 abbrev pub decreases-stepping::eval_postfix : goal.decreases-stepping::eval_postfix
-decreases-stepping::eval_postfix l = 20 * l.depth + 10
+decreases-stepping::eval_postfix l = 20 * l.depth + 12
 
 abbrev pub decreases-stepping::eval_last : goal.decreases-stepping::eval_last
-decreases-stepping::eval_last l = 20 * l.depth + 9
+decreases-stepping::eval_last l = 20 * l.depth + 11
 
 abbrev pub decreases-stepping::eval_applied : goal.decreases-stepping::eval_applied
 decreases-stepping::eval_applied l = 20 * l.depth + 5
 
 abbrev pub decreases-stepping::eval_steps : goal.decreases-stepping::eval_steps
-decreases-stepping::eval_steps l = 20 * l.depth + 8
+decreases-stepping::eval_steps l = 20 * l.depth + 9
+
+abbrev pub decreases-stepping::eval_then : goal.decreases-stepping::eval_then
+decreases-stepping::eval_then l = 20 * l.depth + 10
+
+abbrev pub decreases-stepping::eval_base : goal.decreases-stepping::eval_base
+decreases-stepping::eval_base l = 20 * l.depth + 8
+
+abbrev pub decreases-recursion::eval_first : goal.decreases-recursion::eval_first
+decreases-recursion::eval_first l = 20 * l.depth + 8
+
+abbrev pub decreases-recursion::eval_recursion : goal.decreases-recursion::eval_recursion
+decreases-recursion::eval_recursion l = 20 * l.depth + 5
+
+abbrev pub decreases-recursion::eval_at_key : goal.decreases-recursion::eval_at_key
+decreases-recursion::eval_at_key l = 20 * l.depth + 4
+
+abbrev pub decreases-recursion::describe_keys : goal.decreases-recursion::describe_keys
+decreases-recursion::describe_keys l = 20 * l.depth + 3
+
+abbrev pub decreases-recursion::eval_member : goal.decreases-recursion::eval_member
+decreases-recursion::eval_member l = 20 * l.depth + 2
+
+abbrev pub decreases-recursion::eval_named : goal.decreases-recursion::eval_named
+decreases-recursion::eval_named l = 20 * l.depth + 1
 
 abbrev pub decreases-stepping::eval_behind : goal.decreases-stepping::eval_behind
 decreases-stepping::eval_behind l = 20 * l.depth + 7
@@ -416,9 +446,9 @@ invariant-stepping::changed-loop-item l =
 
 abbrev pub invariant-stepping::eval_behind-loop-item : goal.invariant-stepping::eval_behind-loop-item
 invariant-stepping::eval_behind-loop-item l =
-    StepsSoFar (Evaluates (table l.scene) l.depth) (context l.scene) (map step_item l.item-items) l.initial.place l.initial.value l.item-index l.place l.value
-    × StepsMakeReads (Reads (table l.scene) l.depth) (context l.scene) (drop l.item-index (map step_item l.item-items))
-    × (l.primes ≡ primes_in (drop l.item-index (map step_item l.item-items)))
+    StepsSoFar (Evaluates (table l.scene) l.depth) (context l.scene) (map step_item l.steps) l.initial.place l.initial.value l.item-index l.place l.value
+    × StepsMakeReads (Reads (table l.scene) l.depth) (context l.scene) (drop l.item-index (map step_item l.steps))
+    × (l.primes ≡ primes_in (drop l.item-index (map step_item l.steps)))
 
 -- products, UNCHANGED and [A]_v
 

@@ -1,17 +1,20 @@
-ghost use Rattle.std.specs.Prelude.{◌≡◌, ◌++◌};
-ghost use Rattle.std.specs.Hash as fed;
+ghost use Rattle.std.specs.Prelude.{◌≡◌};
 ghost use Rattle.std.proofs.Common.{ap};
 ghost use Rattle.tla_values.specs.Data.{function, integer, set, vals_of};
 ghost use Rattle.tla_values.specs.Functions.{sequence_of};
 ghost use Rattle.tla_values.specs.HashInput.{hash_input};
-ghost use Rattle.tla_values.specs.HashOf.{digest, hash_of, mix, truth_hash, with_members};
+ghost use Rattle.tla_values.specs.HashOf.{hash_of, mix, truth_hash, with_bytes, with_members};
 ghost use Rattle.tla_values.specs.OrderLaws.{val_same};
 ghost use Rattle.tla_values.specs.View.{entries_view, fields_view};
 
 use super::{Entry, Field, Node, Value};
-use std::hash::{FoldHasher, Hash, Hasher};
+use std::hash::{Hash, Hasher};
 use trace_base::Text;
 
+/// What the hash of a model value begins with.
+const MODEL: u64 = 0x4528_21e6_38d0_1377;
+/// What the hash of a string begins with.
+const STRING: u64 = 0xbe54_66cf_34e9_0c6c;
 /// What the hash of a set begins with.
 const SET: u64 = 0x9e37_79b9_7f4a_7c15;
 /// What the hash of a function begins with.
@@ -32,10 +35,10 @@ pub(super) fn hash_of(value: &Value) -> u64
     ensures { result ≡ hash_of value.now }
 {
     match &value.node {
-        Node::Model(name) => hash_of_text(0, name),
+        Node::Model(name) => hash_of_text(MODEL, name),
         Node::Bool(b) => hash_of_truth(*b),
         Node::Int(n) => hash_of_int(*n),
-        Node::String(text) => hash_of_text(3, text),
+        Node::String(text) => hash_of_text(STRING, text),
         Node::Set(body) => body.hash,
         Node::Sequence(body) => body.hash,
         Node::Record(body) => body.hash,
@@ -60,15 +63,15 @@ fn hash_of_int(n: i64) -> u64
     n.cast_unsigned()
 }
 
-/// The hash of a text, with the place of its kind among the six.
-#[tactic(auto, unfolding(crate::specs::HashOf::digest))]
-fn hash_of_text(kind: u8, text: &Text) -> u64
-    ensures { result ≡ digest (fed.u8 kind ++ fed.str text.now) }
+/// The hash with the bytes of a text mixed in.
+fn hash_of_text(begun: u64, text: &Text) -> u64
+    ensures { result ≡ with_bytes begun text.now }
 {
-    let mut state = FoldHasher::default();
-    state.write_u8(kind);
-    text.hash(&mut state);
-    state.finish()
+    let mut hash = begun;
+    for byte in text.as_str().as_bytes() {
+        hash = mix(hash, *byte as u64);
+    }
+    hash
 }
 
 /// The hash with one more mixed in.
@@ -82,7 +85,7 @@ fn mix(hash: u64, more: u64) -> u64
 }
 
 /// The hash with those of these values mixed in.
-fn with_items(begun: u64, items: &Vec<Value>) -> u64
+pub(super) fn with_items(begun: u64, items: &Vec<Value>) -> u64
     ensures { result ≡ with_members begun (vals_of items.now.items) }
 {
     let mut hash = begun;

@@ -1,5 +1,5 @@
-ghost use Rattle.std.specs.Prelude.{◌≡◌, ◌+◌, ◌≤◌, ◌↔◌, IfOk, IsTrue, List, MatchBool, map, pos};
-ghost use Rattle.std.specs.List.Sorted.{IsSorted, IsStrictlySortedBy};
+ghost use Rattle.std.specs.Prelude.{◌≡◌, ◌+◌, ◌≤◌, ◌↔◌, IfErr, IfOk, IsTrue, MatchBool, map, pos};
+ghost use Rattle.std.specs.List.Sorted.{IsPermutation, IsSorted, IsStrictlySortedBy};
 ghost use Rattle.tla_values.specs.Data.{depth, function, integer, string, pairs_depth, pairs_of, set, vals_depth, vals_of};
 ghost use Rattle.tla_values.specs.Functions.{
   HasKeyTwice,
@@ -12,7 +12,8 @@ ghost use Rattle.tla_values.specs.Functions.{
 ghost use Rattle.tla_values.specs.HashOf.{hash_of};
 ghost use Rattle.tla_values.specs.IsValue.{AreCanonical, HaveCanonical, IsCanonical};
 ghost use Rattle.tla_values.specs.Order.{val_cmp};
-ghost use Rattle.tla_values.specs.Sets.{MakesSet};
+ghost use Rattle.tla_values.specs.Sets.{IsAscendingOf, MakesSet};
+ghost use Rattle.tla_values.specs.declared.value.ValueFault.TheVariants.{KeyTwice};
 ghost use Rattle.tla_values.specs.View.{AreNamed, HasOneForm, IsName, entries_view, fields_view, kept_hash, kept_levels, node_view, pair_cmp};
 
 use super::hash::{hash_of_fields, hash_of_items, hash_of_members, hash_of_pairs};
@@ -35,9 +36,7 @@ impl Value {
         ensures { MakesSet members.items result }
     {
         let alloc = *members.allocator();
-        let mut members = members;
-        members.sort_unstable();
-        members.dedup();
+        let members = distinct(members);
         if members.len() > MAX_MEMBERS {
             return Err(ValueFault::TooLarge);
         }
@@ -55,11 +54,10 @@ impl Value {
     pub fn make_function(alloc: Global, pairs: Vec<(Value, Value)>) -> Result<Value, ValueFault>
         ensures { MakesFunction pairs.items result }
     {
-        let mut pairs = pairs;
-        pairs.sort_unstable();
-        if has_key_twice(&pairs) {
-            return Err(ValueFault::KeyTwice);
-        }
+        let pairs = match by_key(pairs) {
+            Ok(pairs) => pairs,
+            Err(fault) => return Err(fault),
+        };
         if pairs.len() > MAX_MEMBERS {
             return Err(ValueFault::TooLarge);
         }
@@ -128,6 +126,64 @@ fn deepest_pair(pairs: &Vec<(Value, Value)>) -> u8
         most = most.max(depth_of(&pair.0).max(depth_of(&pair.1)));
     }
     most
+}
+
+/// The values in ascending order, each once. Most come so already.
+fn distinct(members: Vec<Value>) -> Vec<Value>
+    ensures { IsAscendingOf members.items result.items }
+{
+    if are_ascending(&members) {
+        return members;
+    }
+    let mut members = members;
+    members.sort_unstable();
+    members.dedup();
+    members
+}
+
+/// Whether each value stands before the next.
+fn are_ascending(items: &Vec<Value>) -> bool
+    ensures { IsTrue result → IsStrictlySortedBy val_cmp items.now.items }
+{
+    for i in 1..items.len() {
+        let before = &items[i - 1];
+        let here = &items[i];
+        if before.cmp(here).is_ge() {
+            return false;
+        }
+    }
+    true
+}
+
+/// The pairs in ascending order of their keys, of which none may come twice. Most come so already.
+fn by_key(pairs: Vec<(Value, Value)>) -> Result<Vec<(Value, Value)>, ValueFault>
+    ensures same { IfOk result (λ sorted. IsPermutation pairs.items sorted.items) }
+    ensures ascending { IfOk result (λ sorted. IsStrictlySortedBy val_cmp (map (λ p. p.0) sorted.items)) }
+    ensures twice { IfErr result (λ fault. (fault ≡ KeyTwice) × HasKeyTwice pairs.items) }
+{
+    if keys_ascend(&pairs) {
+        return Ok(pairs);
+    }
+    let mut pairs = pairs;
+    pairs.sort_unstable();
+    if has_key_twice(&pairs) {
+        return Err(ValueFault::KeyTwice);
+    }
+    Ok(pairs)
+}
+
+/// Whether each key stands before the next.
+fn keys_ascend(pairs: &Vec<(Value, Value)>) -> bool
+    ensures { IsTrue result → IsStrictlySortedBy val_cmp (map (λ p. p.0) pairs.now.items) }
+{
+    for i in 1..pairs.len() {
+        let before = &pairs[i - 1];
+        let here = &pairs[i];
+        if before.0.cmp(&here.0).is_ge() {
+            return false;
+        }
+    }
+    true
 }
 
 /// Whether two pairs that stand side by side have one key.

@@ -1,4 +1,4 @@
-use Rattle.std.proofs.Common.{◌≡◌, ◌≤◌, ◌<◌, length, ap, sym, arith, option_map}
+use Rattle.std.proofs.Common.{◌≤◌, ◌<◌, length, ap, sym, arith, option_map}
 use Rattle.line_shapes.specs.Clocks.{of_nodes}
 use Rattle.line_shapes.proofs.ClockLemmas.{nodes_read, too_many}
 use Rattle.line_shapes.proofs.clock.nodes_in.Goals as goal

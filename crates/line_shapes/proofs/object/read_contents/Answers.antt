@@ -1,8 +1,7 @@
-use Rattle.std.proofs.Common.{◌≡◌, ◌-◌, ◌<◌, length, Some, None, refl, sym, ap, subst, ◌∙◌, arith, rules}
-use Rattle.json.specs.Json.{read_key, members, value}
+use Rattle.std.proofs.Common.{◌≡◌, ◌-◌, length, Some, refl, ◌∙◌, arith}
+use Rattle.json.specs.Json.{read_key, value}
 use Rattle.json.proofs.Grammar.{read_key-shorter}
-use Rattle.serde_json.specs.Data.{Members, no_members, put}
-use Rattle.serde_json.specs.Read.{converted, of_members}
+use Rattle.serde_json.specs.Data.{no_members, put}
 use Rattle.json_texts.proofs.Turns.{member_read, members_over}
 use Rattle.line_shapes.specs.Objects.{AgreeAtKeys, members_in}
 use Rattle.line_shapes.proofs.KeyLemmas.{put_agrees}

@@ -1,10 +1,10 @@
-use Rattle.std.proofs.Common.{◌≡◌, ◌∷◌, [], length, Some, None, refl, sym, ap, ◌∙◌, arith, rules}
+use Rattle.std.proofs.Common.{◌≡◌, ◌∷◌, [], length, Some, ap, ◌∙◌, arith, rules}
 use Rattle.json.specs.Token.{Token}
 use Rattle.json.specs.Lex.{tokens}
 use Rattle.json.specs.Json.{members, parse_map, value}
 use Rattle.json.proofs.Grammar.{value-begin_object}
-use Rattle.serde_json.specs.Data.{no_members, object}
-use Rattle.serde_json.specs.Read.{converted, of_json, of_members}
+use Rattle.serde_json.specs.Data.{object}
+use Rattle.serde_json.specs.Read.{converted, of_json}
 use Rattle.json_texts.proofs.Turns.{converted-object, whole_read}
 use Rattle.line_shapes.proofs.object.read_object.Goals as goal
 

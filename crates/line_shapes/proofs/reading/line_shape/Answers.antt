@@ -2,7 +2,7 @@ use Rattle.std.proofs.Common.{◌≡◌, Ok, Err, IfOk, IfErr, Result, subst, sy
 use Rattle.serde_json.specs.View.{members_view}
 use Rattle.line_shapes.specs.Objects.{contents_in}
 use Rattle.line_shapes.specs.Seen.{shape_seen}
-use Rattle.line_shapes.specs.Shapes.{LineShape, shape_of}
+use Rattle.line_shapes.specs.Shapes.{LineShape}
 use Rattle.line_shapes.specs.declared.key.Key.{Key}
 use Rattle.line_shapes.proofs.KeyLemmas.{one_shape}
 use Rattle.line_shapes.proofs.reading.line_shape.Goals as goal

@@ -28,3 +28,13 @@ pub returns-in-Int-Int : goal.returns-in-Int-Int
 unfolding val_cmp
 returns-in-Int-Int c =
     rw (← c.self.view_is, ← c.other.view_is, c.in-Int-Int.is-0, c.in-Int-Int.is-1) (c.is_eq-in-Int-Int.ensures ∙ ap is_eq c.cmp.ensures)
+
+pub returns-in-String-String : goal.returns-in-String-String
+unfolding val_cmp
+returns-in-String-String c =
+    rw (← c.self.view_is, ← c.other.view_is, c.in-String-String.is-0, c.in-String-String.is-1) (c.is_eq-in-String-String.ensures ∙ ap is_eq c.cmp-in-String-String.ensures)
+
+pub returns-in-Model-Model : goal.returns-in-Model-Model
+unfolding val_cmp
+returns-in-Model-Model c =
+    rw (← c.self.view_is, ← c.other.view_is, c.in-Model-Model.is-0, c.in-Model-Model.is-1) (c.is_eq-in-Model-Model.ensures ∙ ap is_eq c.cmp-in-Model-Model.ensures)
