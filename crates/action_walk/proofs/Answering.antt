@@ -1,6 +1,11 @@
 -- What is said of a value or of a fault that is handed on.
-use Rattle.std.proofs.Common.{◌≡◌, refl, ap, sym, ◌∙◌, ℕ, zero, suc, min, List, [], ◌∷◌, ◌++◌, length, take, arith, rules}
+use Rattle.std.proofs.Common.{◌≡◌, inl, inr, refl, ap, sym, ◌∙◌, ℕ, zero, suc, min, List, [], ◌∷◌, ◌++◌, length, take, arith, rules}
 use Rattle.std.specs.Prelude.{Result, Ok, Err, IfOk, IfErr}
+use Rattle.tla_eval.specs.Answers.{Tells}
+use Rattle.tla_eval.specs.Outcomes.{Each, Outcome, fault}
+use Rattle.tla_eval.specs.declared.fault.EvalFault.{EvalFault}
+use Rattle.tla_eval.specs.declared.fault.EvalFault.TheVariants.{NoMemory, Refused}
+use Rattle.eval_parts.specs.Scenes.{Stops}
 
 pub ok_then : {A E : Type 0} (r : Result A E) (P Q : A → Type 0) → ((x : A) → P x → Q x) → IfOk r P → IfOk r Q
 ok_then (Ok x) P Q f h = f x h
@@ -28,3 +33,16 @@ take_least (x ∷ xs) zero zero e = refl
 take_least (x ∷ xs) zero (suc m) e = absurd (omega (arith, e))
 take_least (x ∷ xs) (suc n) zero e = absurd (omega (arith, e))
 take_least (x ∷ xs) (suc n) (suc m) e = ap (λ ys. x ∷ ys) (take_least xs n m (omega (arith, e)))
+
+-- no value is kept
+pub none_kept : {X : Type 0} (n : ℕ) (xs us : List X) → n ≡ 0 → take n xs ++ us ≡ us
+none_kept zero xs us e = refl
+none_kept (suc n) xs us e = absurd (omega (arith, e))
+
+-- what one term comes to, a list of it comes to
+pub one_each : {A B : Type 0} (P : A → Outcome B) (x : A) (v : B) → P x (Ok v) → Each P (x ∷ []) (Ok (v ∷ []))
+one_each P x v h = inl (v, h, inl ([], refl, refl))
+
+pub one_stops : {A B : Type 0} (P : A → Outcome B) (x : A) (f : EvalFault) → Tells {A = B} (Err f) (P x) → Stops (Each P (x ∷ [])) f
+one_stops P x (Refused kind at) h = inr (fault kind at, h, refl)
+one_stops P x NoMemory h = tt

@@ -1,14 +1,15 @@
 -- What is seen of a variable tells of its values what all that is seen tells.
-use Rattle.std.proofs.Common.{inl, inr, ℕ, List}
+use Rattle.std.proofs.Common.{◌≡◌, inl, inr, ℕ, List, [], ◌∷◌, length, ap, arith}
 use Rattle.std.specs.Prelude.{Contains, Some, slice_set}
 use Rattle.std.proofs.lemmas.List.Elements.{All-contains, All-contains_itself, All-weaker}
 use Rattle.trace_base.specs.declared.place.Place.{Place}
 use Rattle.tla_values.specs.Data.{Val}
+use Rattle.tla_values.specs.IsValue.{IsValue}
 use Rattle.tla_values.specs.Sets.{items_of}
 use Rattle.eval_sets.specs.DescribedSets.{Described}
 use Rattle.tla_eval.specs.Contexts.{Places}
 use Rattle.path_updates.specs.declared.update.See.{See}
-use Rattle.step_filling.specs.Fillings.{Allows, AreFilled, Assigns, Chooses, OneIf, SeenIn}
+use Rattle.step_filling.specs.Fillings.{Allows, AreFilled, Assigns, Chooses, IsEmpty, OneIf, SeenIn}
 use Rattle.action_walk.specs.Seen.{TellsOf}
 
 module _ (x : ℕ) (all some : List See) (t : TellsOf x all some) where
@@ -35,3 +36,7 @@ module _ (x : ℕ) (all some : List See) (t : TellsOf x all some) where
   pub chosen_all : (S : Described) (at : Place) (p : Places) (qs : List Places) → Chooses some x S at p qs → Chooses all x S at p qs
   chosen_all S at p qs (inl h) = inl h
   chosen_all S at p qs (inr h) = inr (h.0, (h.1.0, h.1.1, h.1.2, filled_all (items_of h.1.0) p qs h.1.3))
+
+-- where nothing is seen, the value is given to a variable that has none
+pub filled_free : (sees : List See) (x : ℕ) (v : Val) (p q : Places) → (length sees ≡ 0) × IsEmpty p x → IsValue v → q ≡ slice_set p x (Some v) → Assigns sees x v p (q ∷ [])
+filled_free sees x v p q free ok is = inr (free.1, ok, inl ((λ k d lt. absurd (omega (arith, free.0, lt))), ap (λ r. r ∷ []) is))

@@ -1,6 +1,6 @@
 //! The walk by the forms of actions.
 
-ghost use Rattle.std.specs.Prelude.{◌<◌, ◌∷◌, [], suc, Err, IfErr, IfOk, Ok, length, map, option_copied};
+ghost use Rattle.std.specs.Prelude.{◌<◌, ◌∷◌, [], suc, Err, IfErr, IfOk, Ok, map, option_copied};
 ghost use Rattle.tla_terms.specs.Lists.{arms_list, terms_list};
 ghost use Rattle.tla_terms.specs.Terms.{place_of};
 ghost use Rattle.tla_eval.specs.Binders.{combinations, ranges};
@@ -10,31 +10,27 @@ ghost use Rattle.tla_eval.specs.Evaluates.{Evaluates};
 ghost use Rattle.tla_eval.specs.Unchanged.{TruthOf, changed_of, unchanged_of};
 ghost use Rattle.eval_reads.specs.Reads.{Reads};
 ghost use Rattle.action_reads.specs.Filled.{at_next};
-ghost use Rattle.tla_actions.specs.Forms.{arms, assign, both, branch, call, changing, choose, either, inside, narrowed, some, test};
-ghost use Rattle.eval_parts.specs.Following.{variable_at};
+ghost use Rattle.tla_actions.specs.Forms.{arms, both, branch, call, changing, either, inside, narrowed, some};
 ghost use Rattle.eval_parts.specs.Walks.{AreWithin, at_places};
 ghost use Rattle.action_rows.specs.Rows.{before, form_of, part_term, setting};
 ghost use Rattle.eval_parts.specs.BoundSets.{bound_members};
-ghost use Rattle.eval_sets.specs.Soundness.{IsSound};
-ghost use Rattle.step_filling.specs.Fillings.{Chooses, FailsToChoose};
 ghost use Rattle.action_walk.specs.declared.sense.Sense.TheVariants.{Itself};
 ghost use Rattle.action_walk.specs.Walking.{Adds, AllGrounded, AllWalked, AnyGrounded, AnyWalked, BodyGrounded, BodyWalked, EachGrounded, EachReads, EachTested, EachWalked, Grounded, IsForm, IsWalked, PartGrounded, PartWalked, listed, parts_of, under};
 
 use crate::course::Course;
-use crate::found::{Found, found_if, joined};
+use crate::found::{Found, joined};
+use crate::leaves::{walk_assign, walk_choose, walk_keep, walk_test};
 use crate::lists::{add_if, outermost};
 use crate::sense::{Sense, part_in};
 use action_rows::{Part, Row, Stage, part_place, row_of};
-use action_values::{changed_truth, chosen_arm, kept_value, part_truth, scene_at};
+use action_values::{changed_truth, chosen_arm, scene_at};
 use eval_parts::{
-    BoundSet, advance, definition, has_combination, member_lists, slots_and, slots_with, start,
+    BoundSet, advance, definition, has_combination, member_lists, one_more, only_term, slots_and,
+    slots_with, start,
 };
-use eval_sets::Described;
-use evaluator::{describe_set, eval, eval_bounds, eval_each, eval_truth};
-use path_updates::See;
+use evaluator::{eval, eval_bounds, eval_each, eval_truth};
 use std::alloc::Global;
-use step_filling::{assigned, chosen};
-use tla_core::{Partial, VarId};
+use tla_core::Partial;
 use tla_eval::EvalFault;
 use tla_terms::{Arms, Bounds, DefId, Term, Terms};
 use tla_values::{EvalKind, Value};
@@ -133,134 +129,6 @@ fn walk_row(
         Row::Call(number, arguments) => {
             walk_call(alloc, course, slots, depth, places, part, number, arguments)
         }
-    }
-}
-
-/// A part that is a test.
-fn walk_test(
-    alloc: Global,
-    course: &Course<'_>,
-    slots: &[&Value],
-    depth: u32,
-    places: Partial,
-    part: Part<'_>,
-) -> Result<Found, EvalFault>
-    requires few { depth < 4294967295 }
-    requires form { IsForm course.now.stage (map (λ v. v.now) slots.now) part (test) }
-    requires grounds { PartGrounded course.now.stage (map (λ v. v.now) slots.now) (suc depth) places part }
-    ensures found { IfOk result (λ found. PartWalked course.now.stage (map (λ v. v.now) slots.now) (suc depth) places part.entry (Ok (listed found))) }
-    ensures fault { IfErr result (λ fault. PartWalked course.now.stage (map (λ v. v.now) slots.now) (suc depth) places part.entry (Err fault)) }
-{
-    match part_truth(
-        alloc,
-        scene_at(course.stage, slots, &places),
-        depth + 1,
-        part,
-    ) {
-        Ok(holds) => Ok(found_if(alloc, holds, places)),
-        Err(fault) => Err(fault),
-    }
-}
-
-/// A variable that has the value of a term.
-fn walk_assign(
-    alloc: Global,
-    course: &Course<'_>,
-    slots: &[&Value],
-    depth: u32,
-    places: Partial,
-    part: Part<'_>,
-    number: VarId,
-    term: &Term,
-) -> Result<Found, EvalFault>
-    requires form { IsForm course.now.stage (map (λ v. v.now) slots.now) part (assign number.0 term.now) }
-    requires grounds { PartGrounded course.now.stage (map (λ v. v.now) slots.now) (suc depth) places part }
-    ensures found { IfOk result (λ found. PartWalked course.now.stage (map (λ v. v.now) slots.now) (suc depth) places part.entry (Ok (listed found))) }
-    ensures fault { IfErr result (λ fault. PartWalked course.now.stage (map (λ v. v.now) slots.now) (suc depth) places part.entry (Err fault)) }
-{
-    match eval(alloc, scene_at(course.stage, slots, &places), depth, term) {
-        Ok(value) => Ok(Found::Many(assigned(
-            alloc,
-            course.sees_of(number),
-            places,
-            number,
-            value,
-        )?)),
-        Err(fault) => Err(fault),
-    }
-}
-
-/// A variable that keeps its value.
-fn walk_keep(
-    alloc: Global,
-    course: &Course<'_>,
-    slots: &[&Value],
-    depth: u32,
-    places: Partial,
-    part: Part<'_>,
-    number: VarId,
-) -> Result<Found, EvalFault>
-    requires form { IsForm course.now.stage (map (λ v. v.now) slots.now) part (assign number.0 (variable_at (place_of (part_term part)) number.0)) }
-    requires grounds { PartGrounded course.now.stage (map (λ v. v.now) slots.now) (suc depth) places part }
-    ensures found { IfOk result (λ found. PartWalked course.now.stage (map (λ v. v.now) slots.now) (suc depth) places part.entry (Ok (listed found))) }
-    ensures fault { IfErr result (λ fault. PartWalked course.now.stage (map (λ v. v.now) slots.now) (suc depth) places part.entry (Err fault)) }
-{
-    match kept_value(
-        scene_at(course.stage, slots, &places),
-        depth,
-        part_place(part),
-        number,
-    ) {
-        Ok(value) => Ok(Found::Many(assigned(
-            alloc,
-            course.sees_of(number),
-            places,
-            number,
-            value,
-        )?)),
-        Err(fault) => Err(fault),
-    }
-}
-
-/// A variable whose value is a member of the set that a term means.
-fn walk_choose(
-    alloc: Global,
-    course: &Course<'_>,
-    slots: &[&Value],
-    depth: u32,
-    places: Partial,
-    part: Part<'_>,
-    number: VarId,
-    term: &Term,
-) -> Result<Found, EvalFault>
-    requires form { IsForm course.now.stage (map (λ v. v.now) slots.now) part (choose number.0 term.now) }
-    requires grounds { PartGrounded course.now.stage (map (λ v. v.now) slots.now) (suc depth) places part }
-    ensures found { IfOk result (λ found. PartWalked course.now.stage (map (λ v. v.now) slots.now) (suc depth) places part.entry (Ok (listed found))) }
-    ensures fault { IfErr result (λ fault. PartWalked course.now.stage (map (λ v. v.now) slots.now) (suc depth) places part.entry (Err fault)) }
-{
-    match describe_set(alloc, scene_at(course.stage, slots, &places), depth, term) {
-        Ok(set) => found_chosen(alloc, course.sees_of(number), places, number, set, term.at),
-        Err(fault) => Err(fault),
-    }
-}
-
-/// What is found by choosing a value of the set.
-fn found_chosen(
-    alloc: Global,
-    sees: &[See],
-    places: Partial,
-    number: VarId,
-    set: Described,
-    at: Place,
-) -> Result<Found, EvalFault>
-    requires within { number.0 < length places }
-    requires sound { IsSound set }
-    ensures found { IfOk result (λ found. Chooses sees.now number.0 set at places (listed found)) }
-    ensures fault { IfErr result (FailsToChoose number.0 set at places) }
-{
-    match chosen(alloc, sees, places, number, set, at) {
-        Ok(list) => Ok(Found::Many(list)),
-        Err(fault) => Err(fault),
     }
 }
 
@@ -642,6 +510,10 @@ fn walk_call(
     ensures found { IfOk result (λ found. PartWalked course.now.stage (map (λ v. v.now) slots.now) (suc depth) places part.entry (Ok (listed found))) }
     ensures fault { IfErr result (λ fault. PartWalked course.now.stage (map (λ v. v.now) slots.now) (suc depth) places part.entry (Err fault)) }
 {
+    if arguments.len() == 1 {
+        let argument = only_term(arguments);
+        return walk_on(alloc, course, slots, depth, places, part, number, argument);
+    }
     match eval_each(
         alloc,
         scene_at(course.stage, &*slots, &places),
@@ -651,6 +523,59 @@ fn walk_call(
         Ok(values) => walk_body(alloc, course, slots, depth, places, number, &values),
         Err(fault) => Err(fault),
     }
+}
+
+/// A definition on one argument, for whose value no list is made.
+#[cycle(walk)]
+fn walk_on(
+    alloc: Global,
+    course: &Course<'_>,
+    slots: &[&Value],
+    depth: u32,
+    places: Partial,
+    part: Part<'_>,
+    number: DefId,
+    argument: &Term,
+) -> Result<Found, EvalFault>
+    requires form { IsForm course.now.stage (map (λ v. v.now) slots.now) part (call number.0 (argument.now ∷ [])) }
+    requires grounds { PartGrounded course.now.stage (map (λ v. v.now) slots.now) (suc depth) places part }
+    ensures found { IfOk result (λ found. PartWalked course.now.stage (map (λ v. v.now) slots.now) (suc depth) places part.entry (Ok (listed found))) }
+    ensures fault { IfErr result (λ fault. PartWalked course.now.stage (map (λ v. v.now) slots.now) (suc depth) places part.entry (Err fault)) }
+{
+    match eval(
+        alloc,
+        scene_at(course.stage, &*slots, &places),
+        depth,
+        argument,
+    ) {
+        Ok(value) => walk_body_on(alloc, course, slots, depth, places, number, &value),
+        Err(fault) => Err(fault),
+    }
+}
+
+/// The body of a definition on one value.
+#[cycle(walk)]
+fn walk_body_on(
+    alloc: Global,
+    course: &Course<'_>,
+    slots: &[&Value],
+    depth: u32,
+    places: Partial,
+    number: DefId,
+    value: &Value,
+) -> Result<Found, EvalFault>
+    requires { BodyGrounded (setting course.now.stage) depth course.now.stage.sees.now places (before course.now.stage (map (λ v. v.now) slots.now)) number.0 (value.now ∷ []) }
+    ensures found { IfOk result (λ found. BodyWalked (setting course.now.stage) depth course.now.stage.sees.now places (before course.now.stage (map (λ v. v.now) slots.now)) number.0 (value.now ∷ []) (Ok (listed found))) }
+    ensures fault { IfErr result (λ fault. BodyWalked (setting course.now.stage) depth course.now.stage.sees.now places (before course.now.stage (map (λ v. v.now) slots.now)) number.0 (value.now ∷ []) (Err fault)) }
+{
+    let operator = definition(course.stage.operators, number);
+    let body = Part::Plain(&operator.body);
+    let outer = operator.outer;
+    if outer == 0 {
+        return walk_part(alloc, course, &[value], depth, places, body);
+    }
+    let inner = one_more(alloc, outermost(&*slots, outer), value)?;
+    walk_part(alloc, course, &inner, depth, places, body)
 }
 
 /// The body of a definition on the values of its arguments.

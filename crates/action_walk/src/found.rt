@@ -98,6 +98,9 @@ fn behind_many(list: Vec<Partial>, more: Found) -> Result<Found, AllocError>
             Ok(Found::Many(list))
         }
         Found::Many(others) => {
+            if others.is_empty() {
+                return Ok(Found::Many(list));
+            }
             append(&mut list, others)?;
             Ok(Found::Many(list))
         }

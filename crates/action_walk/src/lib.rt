@@ -4,6 +4,7 @@
 mod course;
 mod forms;
 mod found;
+mod leaves;
 mod lists;
 mod seen;
 mod sense;

@@ -1,8 +1,8 @@
 //! Lists of places that are found, and of slots.
 
-ghost use Rattle.std.specs.Prelude.{◌≡◌, ◌++◌, ◌∷◌, [], IfOk, OnOk, if◌then◌else◌, map, take};
+ghost use Rattle.std.specs.Prelude.{◌≡◌, ◌++◌, ◌∷◌, [], OnOk, if◌then◌else◌, map, take};
 
-use std::alloc::{AllocError, Global};
+use std::alloc::AllocError;
 use tla_core::Partial;
 use tla_values::Value;
 

@@ -151,7 +151,7 @@ pub fn slots_with<'a>(
     requires { AreWithin (map (λ l. l.now) lists.now) places.now }
     ensures { IfOk result (λ all. map (λ v. v.now) all.items ≡ map (λ v. v.now) slots.now ++ at_places (map (λ l. l.now) lists.now) places.now) }
 {
-    let mut all = first_slots(alloc, slots, slots.len())?;
+    let mut all = first_slots(alloc, slots, slots.len(), places.len())?;
     push_chosen(&mut all, lists, places)?;
     Ok(all)
 }

@@ -127,7 +127,7 @@ pub fn slots_at<'a>(
     requires { HasNames (map (λ t. t.now) sets.now) key.now }
     ensures { IfOk result (λ all. map (λ v. v.now) all.items ≡ map (λ v. v.now) slots.now ++ names_at (map (λ t. t.now) sets.now) key.now) }
 {
-    let mut all = first_slots(alloc, slots, slots.len())?;
+    let mut all = first_slots(alloc, slots, slots.len(), sets.len())?;
     let names = sets.len();
     if names == 1 {
         all.push(key)?;

@@ -60,7 +60,7 @@ pub fn slots_and<'a>(
     requires { kept ≤ length slots.now }
     ensures { IfOk result (λ all. map (λ v. v.now) all.items ≡ take kept (map (λ v. v.now) slots.now) ++ values.now) }
 {
-    let mut all = first_slots(alloc, slots, kept)?;
+    let mut all = first_slots(alloc, slots, kept, values.len())?;
     for value in values {
         all.push(value)?;
     }
@@ -75,21 +75,22 @@ pub fn one_more<'a>(
 ) -> Result<Vec<&'a Value>, AllocError>
     ensures { IfOk result (λ all. map (λ v. v.now) all.items ≡ map (λ v. v.now) slots.now ++ value.now ∷ []) }
 {
-    let mut all = first_slots(alloc, slots, slots.len())?;
+    let mut all = first_slots(alloc, slots, slots.len(), 1)?;
     all.push(value)?;
     Ok(all)
 }
 
-/// The first slots, so many of them.
+/// The first slots, so many of them, with room for so many more.
 pub fn first_slots<'a>(
     alloc: Global,
     slots: &[&'a Value],
     kept: usize,
+    more: usize,
 ) -> Result<Vec<&'a Value>, AllocError>
     requires { kept ≤ length slots.now }
     ensures { IfOk result (λ all. all.items ≡ take kept slots.now) }
 {
-    let mut all = Vec::with_capacity(alloc, kept)?;
+    let mut all = Vec::with_capacity(alloc, kept.saturating_add(more))?;
     for index in 0..kept {
         all.push(slots[index])?;
     }

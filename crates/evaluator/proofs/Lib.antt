@@ -1,7 +1,9 @@
+pub mod KnownTerms
 pub mod Levels
 pub mod RecordLemmas
 pub mod JoinedLoops
 pub mod BoundLoops
 pub mod KeysDiffer
+pub mod OneKey
 pub mod PrefixRows
 pub mod Recursions

@@ -23,8 +23,8 @@ use crate::operations::eval_next;
 use crate::recursion::{eval_first, eval_recursion};
 use eval_parts::{
     Layer, Scene, applied, applied_by, before_primes, behind, first_applied, inside_at, one_more,
-    place_at, place_behind, prime_count, primed, primes_among, push, rebuilt, rebuilt_same,
-    text_key, variable_stays, with_slots, within,
+    only_term, place_at, place_behind, prime_count, primed, primes_among, push, rebuilt,
+    rebuilt_same, text_key, variable_stays, with_slots, within,
 };
 use std::alloc::Global;
 use tla_ast::InfixOperator;
@@ -232,9 +232,27 @@ fn changed(
     }
 }
 
-/// The new value of a change, which sees the old one as the innermost bound name.
+/// The new value of a change, which sees the old one as the innermost bound name. A value that stands there itself sees none.
 #[cycle(evaluate)]
 fn eval_new(
+    alloc: Global,
+    scene: Scene<'_>,
+    depth: u32,
+    new: &Term,
+    old: &Value,
+) -> Result<Value, EvalFault>
+    requires { Reads (table scene) depth (bind (context scene) (old.now ∷ [])) new.now }
+    ensures { Tells result (Evaluates (table scene.entry) depth (bind (context scene.entry) (old.now ∷ [])) new.now) }
+{
+    match &*new.node {
+        TermNode::Known(_) => eval(alloc, scene, depth, new),
+        _ => eval_with(alloc, scene, depth, new, old),
+    }
+}
+
+/// The value of a term that may name the old value, which is the innermost bound name.
+#[cycle(evaluate)]
+fn eval_with(
     alloc: Global,
     scene: Scene<'_>,
     depth: u32,
@@ -268,7 +286,7 @@ pub(crate) fn step_key(
     }
 }
 
-/// The key that terms make.
+/// The key that terms make. For one term no list is made.
 #[cycle(evaluate)]
 fn eval_key(
     alloc: Global,
@@ -280,6 +298,9 @@ fn eval_key(
     requires { ReadsEach (Reads (table scene) depth) (context scene) (terms_list items.now) }
     ensures { Tells result (Then (Each (Evaluates (table scene.entry) depth (context scene.entry)) (terms_list items.now)) (KeyOf at)) }
 {
+    if items.len() == 1 {
+        return eval(alloc, scene, depth, only_term(items));
+    }
     match eval_each(alloc, scene, depth, items) {
         Ok(values) => key_of(alloc, at, values),
         Err(fault) => Err(fault),

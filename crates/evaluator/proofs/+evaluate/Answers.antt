@@ -39,6 +39,8 @@ use Rattle.eval_parts.specs.declared.bound_values.BoundSet.{BoundSet}
 use Rattle.eval_parts.proofs.BoundLemmas.{as_many_lists, bound_stops, bound_values, bounds_are, bounds_read, first_stage_stops, quantified_told, second_stage_stops}
 use Rattle.evaluator.proofs.BoundLoops.{EachFrom, all_decided, any_begins, any_ends, any_found, any_goes_on, any_stops, each_from_begins, each_from_ends, each_from_goes_on, each_from_stops, every_begins, every_denied, every_ends, every_goes_on, every_stops, some_decided}
 use Rattle.evaluator.proofs.KeysDiffer.{keys_once}
+use Rattle.evaluator.proofs.KnownTerms.{known_reads, known_told}
+use Rattle.evaluator.proofs.OneKey.{one_key}
 use Rattle.eval_parts.proofs.Walking.{chosen_length, fewer, left_begins, left_is, none_more, some_left, within_begins}
 use Rattle.std.proofs.lemmas.List.Elements.{All-nil, All-push}
 use Rattle.std.specs.List.{All}
@@ -1642,6 +1644,20 @@ stepping::changed-returns-in-Err-eval_new t c =
     let f = c.in-Err-eval_new.fault in
     subst (λ (path : List Step). Tells {A = Val} (Err f) (Changed ev ctx at base path new c.args.value.now)) are
     (change_unmade ev ctx at base new xs c.args.value.now i c.loop-item.layers.items c.loop-item.inner.now f over c.in-Err-eval_new.ensures c.loop-item.invariant.0)
+
+pub stepping::eval_new-eval-requires : goal.stepping::eval_new-eval-requires
+stepping::eval_new-eval-requires t c =
+    let is = ap (λ (n : TermNode). Placed c.new.inside.at c.new.inside.level (node_view n)) (sym c.in-Known.is ∙ c.deref.ensures) ∙ c.new.view_is in
+    (omega (arith, c.decreases), known_reads (table c.args.scene) c.args.depth (context c.args.scene) _ _ _ _ is)
+
+pub stepping::eval_new-returns-in-Known : goal.stepping::eval_new-returns-in-Known
+stepping::eval_new-returns-in-Known t c =
+    let is = ap (λ (n : TermNode). Placed c.new.inside.at c.new.inside.level (node_view n)) (sym c.in-Known.is ∙ c.deref.ensures) ∙ c.new.view_is in
+    known_told (table c.args.scene) c.args.depth (context c.args.scene) (bind (context c.args.scene) (c.args.old.now ∷ [])) _ _ _ _ c.eval.result is c.eval.ensures
+
+pub stepping::eval_key-returns-then-len-eq1 : goal.stepping::eval_key-returns-then-len-eq1
+stepping::eval_key-returns-then-len-eq1 t c =
+    one_key (Evaluates (table c.args.scene) c.args.depth (context c.args.scene)) c.args.at c.only_term.result.now (terms_list c.args.items.now) c.eval.result c.only_term.ensures c.eval.ensures
 
 pub stepping::eval_key-returns-in-Ok : goal.stepping::eval_key-returns-in-Ok
 stepping::eval_key-returns-in-Ok t c =

@@ -378,7 +378,10 @@ abbrev pub decreases-stepping::changed : goal.decreases-stepping::changed
 decreases-stepping::changed l = 20 * l.depth + 5
 
 abbrev pub decreases-stepping::eval_new : goal.decreases-stepping::eval_new
-decreases-stepping::eval_new l = 20 * l.depth + 1
+decreases-stepping::eval_new l = 20 * l.depth + 2
+
+abbrev pub decreases-stepping::eval_with : goal.decreases-stepping::eval_with
+decreases-stepping::eval_with l = 20 * l.depth + 1
 
 abbrev pub decreases-stepping::step_key : goal.decreases-stepping::step_key
 decreases-stepping::step_key l = 20 * l.depth + 4

@@ -1,4 +1,4 @@
-use Rattle.std.proofs.Common.{◌≡◌, inl, inr, refl, ℕ, suc, ◌+◌, ◌-◌, ◌<◌, ◌≤◌, List, length, Bool, true, false, Ok, Err, sym, subst, ap, map, ◌∙◌, [], ◌∷◌, arith}
+use Rattle.std.proofs.Common.{◌≡◌, inl, inr, refl, ℕ, suc, ◌+◌, ◌-◌, ◌<◌, ◌≤◌, List, length, Bool, true, false, Ok, Err, sym, subst, ap, map, ◌∙◌, [], ◌∷◌, ◌++◌, arith}
 use Rattle.std.specs.Prelude.{option_copied}
 use Rattle.std.specs.Vec.Iter.{into_iter_items}
 use Rattle.std.proofs.lemmas.List.{length-map}
@@ -18,7 +18,7 @@ use Rattle.eval_parts.specs.Scenes.{Stops}
 use Rattle.eval_parts.specs.Walks.{AreWithin, at_places, left_from}
 use Rattle.eval_parts.proofs.Loops.{cut_at, cut_mapped, of_items}
 use Rattle.action_reads.specs.Filled.{at_next}
-use Rattle.tla_actions.specs.Forms.{form}
+use Rattle.tla_actions.specs.Forms.{call, form}
 use Rattle.trace_base.specs.declared.place.Place.{Place}
 use Rattle.eval_parts.proofs.Walking.{fewer, left_begins, left_is, none_more, some_left, within_begins}
 use Rattle.action_rows.specs.Rows.{before, form_of, part_term, setting}
@@ -28,7 +28,7 @@ use Rattle.eval_parts.specs.declared.bound_values.BoundSet.{BoundSet}
 use Rattle.action_walk.specs.Walking.{AnyGrounded, AnyWalked, EachGrounded, EachReads, EachTested, EachWalked, Grounded, IsForm, IsWalked, in_sense, listed, parts_of, under}
 use Rattle.action_walk.specs.declared.found.Found.{Found}
 use Rattle.action_walk.specs.declared.sense.Sense.TheVariants.{Itself}
-use Rattle.action_walk.proofs.Answering.{err_then, ok_then}
+use Rattle.action_walk.proofs.Answering.{err_then, none_kept, ok_then, one_each, one_stops}
 use Rattle.action_walk.proofs.Loops.{ahead_at, ahead_first, ahead_next, ahead_over, all_done, all_ended, all_ground, all_start, all_step, all_stop, any_done, any_ground, any_start, any_step, any_stop, apart, each_done, each_ground, each_one, each_start, each_step, each_stop, under_done, under_ground, under_start, under_step, under_stop}
 use Rattle.action_walk.proofs.Rows.{grounded_at, nested_walked, walked_at}
 use Rattle.action_walk.proofs.Taken.{angled_grounds, angled_reads, angled_refused, angled_walked, arms_grounds, arms_reads, arms_refused, arms_walked, body_here, body_walked, boxed_grounds, boxed_refused, boxed_walked, both_grounds, both_walked, branch_grounds, branch_reads, branch_refused, branch_walked, call_grounds, call_reads, call_refused, call_walked, either_grounds, either_walked, in_scene, inside_grounds, inside_walked, narrowed_grounds, narrowed_walked, on_stage, some_grounds, some_reads, some_refused, some_walked}
@@ -494,6 +494,168 @@ walk_call-returns-in-Err-clause-fault t c =
     let ts = terms_list c.args.arguments.now in
     let there = on_stage s vs p c.scene_at.result (λ ops x. Stops (Each (Evaluates ops d x) ts) c.in-Err.fault) c.scene_at.ensures.table c.scene_at.ensures.context c.in-Err.ensures.fault in
     call_refused s vs d p q k ts c.in-Err.fault c.requires.form there
+
+pub walk_call-walk_on-requires : goal.walk_call-walk_on-requires
+walk_call-walk_on-requires t c =
+    let s = c.args.course.now.stage in
+    let vs = map value c.args.slots.now in
+    let F : List Term → Type 0 = λ ts. IsForm s vs c.args.part (call c.args.number.0 ts) in
+    (omega (arith, c.decreases), (subst F c.only_term-argument.ensures c.requires.form, c.requires.grounds))
+
+pub walk_on-eval-requires : goal.walk_on-eval-requires
+walk_on-eval-requires t c =
+    let s = c.args.course.now.stage in
+    let vs = map value c.args.slots.now in
+    let d = c.args.depth in
+    let p = c.args.places in
+    let q = c.args.part in
+    let k = c.args.number.0 in
+    let e = c.args.argument.now in
+    in_scene s vs p c.scene_at.result (λ ops x. Reads ops d x e) c.scene_at.ensures.table c.scene_at.ensures.context (call_reads s vs d p q k (e ∷ []) c.requires.form c.requires.grounds).0
+
+pub walk_on-walk_body_on-requires : goal.walk_on-walk_body_on-requires
+walk_on-walk_body_on-requires t c =
+    let s = c.args.course.now.stage in
+    let vs = map value c.args.slots.now in
+    let d = c.args.depth in
+    let p = c.args.places in
+    let q = c.args.part in
+    let k = c.args.number.0 in
+    let e = c.args.argument.now in
+    let there = on_stage s vs p c.scene_at.result (λ ops x. Evaluates ops d x e (Ok c.in-Ok.value)) c.scene_at.ensures.table c.scene_at.ensures.context c.in-Ok.ensures in
+    let told = one_each (Evaluates s.operators.now d (at_next s.which (before s vs) p)) e c.in-Ok.value there in
+    (omega (arith, c.decreases), call_grounds s vs d p q k (e ∷ []) (c.in-Ok.value ∷ []) c.requires.form told c.requires.grounds)
+
+pub walk_on-returns-in-Ok-clause-found : goal.walk_on-returns-in-Ok-clause-found
+walk_on-returns-in-Ok-clause-found t c =
+    let s = c.args.course.now.stage in
+    let vs = map value c.args.slots.now in
+    let d = c.args.depth in
+    let p = c.args.places in
+    let q = c.args.part in
+    let k = c.args.number.0 in
+    let e = c.args.argument.now in
+    let there = on_stage s vs p c.scene_at.result (λ ops x. Evaluates ops d x e (Ok c.in-Ok.value)) c.scene_at.ensures.table c.scene_at.ensures.context c.in-Ok.ensures in
+    let told = one_each (Evaluates s.operators.now d (at_next s.which (before s vs) p)) e c.in-Ok.value there in
+    ok_then c.walk_body_on.result _ _ (λ x h. call_walked s vs d p q k (e ∷ []) (c.in-Ok.value ∷ []) (Ok (listed x)) c.requires.form told c.requires.grounds h) c.walk_body_on.ensures.found
+
+pub walk_on-returns-in-Ok-clause-fault : goal.walk_on-returns-in-Ok-clause-fault
+walk_on-returns-in-Ok-clause-fault t c =
+    let s = c.args.course.now.stage in
+    let vs = map value c.args.slots.now in
+    let d = c.args.depth in
+    let p = c.args.places in
+    let q = c.args.part in
+    let k = c.args.number.0 in
+    let e = c.args.argument.now in
+    let there = on_stage s vs p c.scene_at.result (λ ops x. Evaluates ops d x e (Ok c.in-Ok.value)) c.scene_at.ensures.table c.scene_at.ensures.context c.in-Ok.ensures in
+    let told = one_each (Evaluates s.operators.now d (at_next s.which (before s vs) p)) e c.in-Ok.value there in
+    err_then c.walk_body_on.result _ _ (λ x h. call_walked s vs d p q k (e ∷ []) (c.in-Ok.value ∷ []) (Err x) c.requires.form told c.requires.grounds h) c.walk_body_on.ensures.fault
+
+pub walk_on-returns-in-Err-clause-fault : goal.walk_on-returns-in-Err-clause-fault
+walk_on-returns-in-Err-clause-fault t c =
+    let s = c.args.course.now.stage in
+    let vs = map value c.args.slots.now in
+    let d = c.args.depth in
+    let p = c.args.places in
+    let q = c.args.part in
+    let k = c.args.number.0 in
+    let e = c.args.argument.now in
+    let there = on_stage s vs p c.scene_at.result (λ ops x. Tells {A = Val} (Err c.in-Err.fault) (Evaluates ops d x e)) c.scene_at.ensures.table c.scene_at.ensures.context c.in-Err.ensures in
+    call_refused s vs d p q k (e ∷ []) c.in-Err.fault c.requires.form (one_stops (Evaluates s.operators.now d (at_next s.which (before s vs) p)) e c.in-Err.fault there)
+
+pub walk_body_on-definition-operator-requires : goal.walk_body_on-definition-operator-requires
+walk_body_on-definition-operator-requires t c =
+    (c.requires.0, c.requires.1)
+
+pub walk_body_on-walk_part-requires : goal.walk_body_on-walk_part-requires
+walk_body_on-walk_part-requires t c =
+    let s = c.args.course.now.stage in
+    let g = setting c.args.course.now.stage in
+    let vs = map value c.args.slots.now in
+    let ctx = before c.args.course.now.stage (map value c.args.slots.now) in
+    let d = c.args.depth in
+    let sees = c.args.course.now.stage.sees.now in
+    let p = c.args.places in
+    let k = c.args.number.0 in
+    let us = c.args.value.now ∷ [] in
+    let o = c.definition-operator.result.now in
+    (omega (arith, c.decreases), subst (λ (ws : List Val). Grounded g d sees p (before c.args.course.now.stage ws) o.body) (none_kept o.outer vs us c.if-outer-eq0.true) (body_here g d sees p ctx k us o c.definition-operator.ensures c.requires).1)
+
+pub walk_body_on-returns-then-outer-eq0-clause-found : goal.walk_body_on-returns-then-outer-eq0-clause-found
+walk_body_on-returns-then-outer-eq0-clause-found t c =
+    let s = c.args.course.now.stage in
+    let g = setting c.args.course.now.stage in
+    let vs = map value c.args.slots.now in
+    let ctx = before c.args.course.now.stage (map value c.args.slots.now) in
+    let d = c.args.depth in
+    let sees = c.args.course.now.stage.sees.now in
+    let p = c.args.places in
+    let k = c.args.number.0 in
+    let us = c.args.value.now ∷ [] in
+    let o = c.definition-operator.result.now in
+    let same = sym (none_kept o.outer vs us c.if-outer-eq0.true) in
+    ok_then c.walk_part.result _ _ (λ x h. body_walked g d sees p ctx k us o (Ok (listed x)) c.definition-operator.ensures (subst (λ (ws : List Val). IsWalked g d sees p (before c.args.course.now.stage ws) o.body (Ok (listed x))) same h)) c.walk_part.ensures.found
+
+pub walk_body_on-returns-then-outer-eq0-clause-fault : goal.walk_body_on-returns-then-outer-eq0-clause-fault
+walk_body_on-returns-then-outer-eq0-clause-fault t c =
+    let s = c.args.course.now.stage in
+    let g = setting c.args.course.now.stage in
+    let vs = map value c.args.slots.now in
+    let ctx = before c.args.course.now.stage (map value c.args.slots.now) in
+    let d = c.args.depth in
+    let sees = c.args.course.now.stage.sees.now in
+    let p = c.args.places in
+    let k = c.args.number.0 in
+    let us = c.args.value.now ∷ [] in
+    let o = c.definition-operator.result.now in
+    let same = sym (none_kept o.outer vs us c.if-outer-eq0.true) in
+    err_then c.walk_part.result _ _ (λ x h. body_walked g d sees p ctx k us o (Err x) c.definition-operator.ensures (subst (λ (ws : List Val). IsWalked g d sees p (before c.args.course.now.stage ws) o.body (Err x)) same h)) c.walk_part.ensures.fault
+
+pub walk_body_on-walk_part-requires-2 : goal.walk_body_on-walk_part-requires-2
+walk_body_on-walk_part-requires-2 t c =
+    let s = c.args.course.now.stage in
+    let g = setting c.args.course.now.stage in
+    let vs = map value c.args.slots.now in
+    let ctx = before c.args.course.now.stage (map value c.args.slots.now) in
+    let d = c.args.depth in
+    let sees = c.args.course.now.stage.sees.now in
+    let p = c.args.places in
+    let k = c.args.number.0 in
+    let us = c.args.value.now ∷ [] in
+    let o = c.definition-operator.result.now in
+    let same = ap (map value) c.deref.ensures.value ∙ (c.in_ok-inner.ensures ∙ ap (λ (ws : List Val). ws ++ us) c.outermost.ensures) in
+    (omega (arith, c.decreases), subst (λ (ws : List Val). Grounded g d sees p (before c.args.course.now.stage ws) o.body) (sym same) (body_here g d sees p ctx k us o c.definition-operator.ensures c.requires).1)
+
+pub walk_body_on-returns-clause-found : goal.walk_body_on-returns-clause-found
+walk_body_on-returns-clause-found t c =
+    let s = c.args.course.now.stage in
+    let g = setting c.args.course.now.stage in
+    let vs = map value c.args.slots.now in
+    let ctx = before c.args.course.now.stage (map value c.args.slots.now) in
+    let d = c.args.depth in
+    let sees = c.args.course.now.stage.sees.now in
+    let p = c.args.places in
+    let k = c.args.number.0 in
+    let us = c.args.value.now ∷ [] in
+    let o = c.definition-operator.result.now in
+    let same = ap (map value) c.deref.ensures.value ∙ (c.in_ok-inner.ensures ∙ ap (λ (ws : List Val). ws ++ us) c.outermost.ensures) in
+    ok_then c.walk_part-2.result _ _ (λ x h. body_walked g d sees p ctx k us o (Ok (listed x)) c.definition-operator.ensures (subst (λ (ws : List Val). IsWalked g d sees p (before c.args.course.now.stage ws) o.body (Ok (listed x))) same h)) c.walk_part-2.ensures.found
+
+pub walk_body_on-returns-clause-fault : goal.walk_body_on-returns-clause-fault
+walk_body_on-returns-clause-fault t c =
+    let s = c.args.course.now.stage in
+    let g = setting c.args.course.now.stage in
+    let vs = map value c.args.slots.now in
+    let ctx = before c.args.course.now.stage (map value c.args.slots.now) in
+    let d = c.args.depth in
+    let sees = c.args.course.now.stage.sees.now in
+    let p = c.args.places in
+    let k = c.args.number.0 in
+    let us = c.args.value.now ∷ [] in
+    let o = c.definition-operator.result.now in
+    let same = ap (map value) c.deref.ensures.value ∙ (c.in_ok-inner.ensures ∙ ap (λ (ws : List Val). ws ++ us) c.outermost.ensures) in
+    err_then c.walk_part-2.result _ _ (λ x h. body_walked g d sees p ctx k us o (Err x) c.definition-operator.ensures (subst (λ (ws : List Val). IsWalked g d sees p (before c.args.course.now.stage ws) o.body (Err x)) same h)) c.walk_part-2.ensures.fault
 
 pub walk_exists-eval_bounds-requires : goal.walk_exists-eval_bounds-requires
 walk_exists-eval_bounds-requires t c =

@@ -42,6 +42,12 @@ decreases-walk_inside l = 10 * l.depth + 6
 abbrev pub decreases-walk_call : goal.decreases-walk_call
 decreases-walk_call l = 10 * l.depth + 6
 
+abbrev pub decreases-walk_on : goal.decreases-walk_on
+decreases-walk_on l = 10 * l.depth + 5
+
+abbrev pub decreases-walk_body_on : goal.decreases-walk_body_on
+decreases-walk_body_on l = 10 * l.depth + 1
+
 abbrev pub decreases-walk_exists : goal.decreases-walk_exists
 decreases-walk_exists l = 10 * l.depth + 6
 

@@ -16,7 +16,7 @@ use Rattle.action_walk.proofs.Rows.{form_walks}
 use Rattle.action_walk.proofs.Taken.{in_scene, on_stage}
 use Rattle.action_walk.proofs.Told.{chosen_all}
 use Rattle.action_walk.proofs.Values.{chosen_row, no_set_row, unchosen_row}
-use Rattle.action_walk.proofs.forms.walk_choose.Goals as goal
+use Rattle.action_walk.proofs.leaves.walk_choose.Goals as goal
 use denote.Ref.{Bor}
 
 abbrev value : Bor Val → Val

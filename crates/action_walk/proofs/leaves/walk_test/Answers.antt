@@ -11,7 +11,7 @@ use Rattle.action_walk.specs.Walking.{listed}
 use Rattle.action_walk.proofs.Rows.{form_walks}
 use Rattle.action_walk.proofs.Taken.{in_scene, on_stage, tested_there}
 use Rattle.action_walk.proofs.Values.{tested_row, untested_row}
-use Rattle.action_walk.proofs.forms.walk_test.Goals as goal
+use Rattle.action_walk.proofs.leaves.walk_test.Goals as goal
 use denote.Ref.{Bor}
 
 abbrev value : Bor Val → Val

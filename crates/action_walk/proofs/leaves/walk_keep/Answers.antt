@@ -9,11 +9,12 @@ use Rattle.eval_reads.specs.Reads.{Reads}
 use Rattle.eval_parts.specs.Following.{variable_at}
 use Rattle.eval_parts.specs.Scenes.{context, table}
 use Rattle.action_rows.specs.Rows.{before, part_term, setting}
+use Rattle.action_walk.specs.Walking.{listed}
 use Rattle.action_walk.proofs.Rows.{form_walks}
 use Rattle.action_walk.proofs.Taken.{in_scene, on_stage}
 use Rattle.action_walk.proofs.Told.{assigned_all}
 use Rattle.action_walk.proofs.Values.{assigned_row, unassigned_row}
-use Rattle.action_walk.proofs.forms.walk_keep.Goals as goal
+use Rattle.action_walk.proofs.leaves.walk_keep.Goals as goal
 use denote.Ref.{Bor}
 
 abbrev value : Bor Val → Val
@@ -34,8 +35,8 @@ kept_value-requires c =
     let there = in_scene s vs p c.scene_at.result (λ ops x. Reads ops d x e) c.scene_at.ensures.table c.scene_at.ensures.context w.1 in
     subst (λ (at : Place). Reads (table c.scene_at.result) d (context c.scene_at.result) (variable_at at c.args.number.0)) (sym c.part_place.ensures) there
 
-pub assigned-requires : goal.assigned-requires
-assigned-requires c =
+pub found_assigned-requires : goal.found_assigned-requires
+found_assigned-requires c =
     let s = c.args.course.now.stage in
     let g = setting c.args.course.now.stage in
     let vs = map value c.args.slots.now in
@@ -48,8 +49,8 @@ assigned-requires c =
     let w = form_walks g d sees p ctx a (assign c.args.number.0 e) c.requires.form c.requires.grounds.0 c.requires.grounds.1 in
     w.0
 
-pub returns-in_ok-assigned-in-Ok-clause-found : goal.returns-in_ok-assigned-in-Ok-clause-found
-returns-in_ok-assigned-in-Ok-clause-found c =
+pub returns-in_ok-found_assigned-in-Ok-clause-found : goal.returns-in_ok-found_assigned-in-Ok-clause-found
+returns-in_ok-found_assigned-in-Ok-clause-found c =
     let s = c.args.course.now.stage in
     let g = setting c.args.course.now.stage in
     let vs = map value c.args.slots.now in
@@ -62,7 +63,7 @@ returns-in_ok-assigned-in-Ok-clause-found c =
     let w = form_walks g d sees p ctx a (assign c.args.number.0 e) c.requires.form c.requires.grounds.0 c.requires.grounds.1 in
     let told = subst (λ (at : Place). Evaluates (table c.scene_at.result) d (context c.scene_at.result) (variable_at at c.args.number.0) (Ok c.in-Ok.value)) c.part_place.ensures c.in-Ok.ensures in
     let there = on_stage s vs p c.scene_at.result (λ ops x. Evaluates ops d x e (Ok c.in-Ok.value)) c.scene_at.ensures.table c.scene_at.ensures.context told in
-    assigned_row g d sees p ctx a c.args.number.0 e c.in-Ok.value c.in_ok-assigned-in-Ok.field-0.items c.requires.form w.0 there (assigned_all c.args.number.0 sees c.sees_of.result.now c.sees_of.ensures c.in-Ok.value p c.in_ok-assigned-in-Ok.field-0.items c.in_ok-assigned-in-Ok.ensures)
+    assigned_row g d sees p ctx a c.args.number.0 e c.in-Ok.value (listed c.in_ok-found_assigned-in-Ok.field-0) c.requires.form w.0 there (assigned_all c.args.number.0 sees c.sees_of.result.now c.sees_of.ensures c.in-Ok.value p (listed c.in_ok-found_assigned-in-Ok.field-0) c.in_ok-found_assigned-in-Ok.ensures)
 
 pub returns-in-Err-clause-fault : goal.returns-in-Err-clause-fault
 returns-in-Err-clause-fault c =

@@ -1,0 +1,10 @@
+pub mod Answered
+pub mod Listed
+pub mod Some
+pub mod Operations
+pub mod Joining
+pub mod Written
+pub mod Names
+pub mod Pieces
+pub mod Rows
+pub mod Outcomes

@@ -1,0 +1,3 @@
+pub mod MadeOfValues
+pub mod OfValues
+pub mod Laws
