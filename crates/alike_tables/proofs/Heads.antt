@@ -1,23 +1,33 @@
 -- Of two tables of one program the rows of each definition have the same heads: by the numbers of the first table, since levels come from below.
-use Rattle.std.proofs.Common.{◌≡◌, ◌∙◌, sym, refl, subst, ℕ, zero, suc, List, [], ◌<◌, arith}
-use Rattle.std.specs.Prelude.{Some, slice_get}
+use Rattle.std.proofs.Common.{◌≡◌, ◌∙◌, sym, refl, subst, ℕ, zero, suc, List, [], length, ◌<◌, arith}
+use Rattle.std.specs.Prelude.{◌≢◌, Some, slice_get}
 use Rattle.tla_values.specs.Data.{Val}
 use Rattle.tla_ast.specs.Trees.{Tree}
 use Rattle.tla_ast.specs.declared.config.Config.{Config}
 use Rattle.tla_ast.specs.declared.expr.Definition.{Definition}
 use Rattle.tla_ast.specs.declared.module.Program.{Program}
+use Rattle.tla_terms.specs.declared.level.Level.TheVariants as levels
 use Rattle.tla_terms.specs.declared.operator.Operator.{Operator}
+use Rattle.tla_terms.specs.declared.operator.Own.{Own}
+use Rattle.tla_terms.specs.declared.operator.Own.TheVariants.{Apart, Function, Itself}
 use Rattle.tla_terms.specs.Terms.{Term, level_of}
 use Rattle.tla_scopes.specs.Scopes.{bind}
 use Rattle.tla_program.specs.InUnits.{definitions_in}
 use Rattle.tla_program.specs.Names.{Numbers}
 use Rattle.tla_tables.specs.Tables.{IsTable, IsTabled, MeansThere, unit_operator}
+use Rattle.tla_tables.proofs.OwnMarks.{own_one}
+use Rattle.term_parts.specs.Slots.{IsInOrder}
 use Rattle.term_parts.proofs.Ordering.{apart_below}
 use Rattle.alike_terms.specs.Alike.{SameHeads}
 use Rattle.alike_tables.specs.Places.{AlikeLocals, no_locals_alike, AreAlikeNames, AreMentioned, BodiesStay, ValuesAre}
 use Rattle.alike_tables.proofs.BothWays.{same_level}
 use Rattle.alike_tables.proofs.Placed.{all_bound}
 use Rattle.alike_tables.proofs.ProgramNames.{program_alike}
+
+low : (n k : ℕ) (a own : Own) (e : Term) → a ≡ own → own ≢ Apart → IsInOrder n k a e → level_of e ≡ levels.Constant
+low n k Apart own e q w h = absurd (w (sym q))
+low n k Itself own e q w h = h.0
+low n k Function own e q w h = h.0
 
 module _ (Same : Val → Val → Type 0) (itself : (v : Val) → Same v v) (p : Program) (c : Config) (values others : List Val) (number renumber : Numbers) (ops all : List Operator) (are : ValuesAre Same p c values others) where
   -- of each definition, the rows of both tables are such
@@ -30,10 +40,11 @@ module _ (Same : Val → Val → Type 0) (itself : (v : Val) → Same v v) (p : 
 
   -- a definition in both tables
   pub record InBoth (d : Definition) (k j : ℕ) : Type 0 where
+    pub own : Own
     pub body : Term
     pub other : Term
-    pub here : slice_get ops k ≡ Some (unit_operator d body)
-    pub there : slice_get all j ≡ Some (unit_operator d other)
+    pub here : slice_get ops k ≡ Some (unit_operator d own body)
+    pub there : slice_get all j ≡ Some (unit_operator d own other)
     pub means : MeansThere p c values number ops d.params d.body body
     pub means_there : MeansThere p c others renumber all d.params d.body other
 
@@ -46,11 +57,13 @@ module _ (Same : Val → Val → Type 0) (itself : (v : Val) → Same v v) (p : 
         let y : Some b.row ≡ Some j = sym b.numbered ∙ f in
         let s : a.row ≡ k = cc in
         let t : b.row ≡ j = cc in
+        let same : b.own ≡ a.own = own_one p c i d b.own a.own at b.marked a.marked in
         record {
+          own = a.own;
           body = a.body;
           other = b.body;
-          here = subst (λ (n : ℕ). slice_get ops n ≡ Some (unit_operator d a.body)) s a.stands;
-          there = subst (λ (n : ℕ). slice_get all n ≡ Some (unit_operator d b.body)) t b.stands;
+          here = subst (λ (n : ℕ). slice_get ops n ≡ Some (unit_operator d a.own a.body)) s a.stands;
+          there = subst (λ (o : Own). slice_get all j ≡ Some (unit_operator d o b.body)) same (subst (λ (n : ℕ). slice_get all n ≡ Some (unit_operator d b.own b.body)) t b.stands);
           means = a.means;
           means_there = b.means;
         }
@@ -59,13 +72,19 @@ module _ (Same : Val → Val → Type 0) (itself : (v : Val) → Same v v) (p : 
     HeadsBelow n k j = k < n → SameHeads ops all k j
 
     -- the bodies have one level, where the heads of smaller numbers are the same
-    body_level : (d : Definition) (k j : ℕ) → RowsAre (HeadsBelow k) → (b : InBoth d k j) → level_of b.body ≡ level_of b.other
-    body_level d k j rows b =
+    apart_level : (d : Definition) (k j : ℕ) → RowsAre (HeadsBelow k) → (b : InBoth d k j) → b.own ≡ Apart → level_of b.body ≡ level_of b.other
+    apart_level d k j rows b q =
         let stay : BodiesStay ops (λ m. m < k) = λ n o e apart lt i m. (let less : i < n = apart_below ops n o first.smaller e apart i m in omega (arith, less, lt)) in
         let names : AreAlikeNames Same (HeadsBelow k) b.means.names b.means_there.names = names_alike (HeadsBelow k) rows d.params d.body b.body b.other b.means b.means_there in
         let places : AlikeLocals (HeadsBelow k) (bind [] d.params) (bind [] d.params) = all_bound (HeadsBelow k) [] [] d.params no_locals_alike in
-        let below : AreMentioned (λ m. m < k) b.body = apart_below ops k (unit_operator d b.body) first.smaller b.here refl in
+        let below : AreMentioned (λ m. m < k) b.body = apart_below ops k (unit_operator d b.own b.body) first.smaller b.here q in
         same_level Same itself ops all b.means.names b.means_there.names k stay names (bind [] d.params) (bind [] d.params) d.body b.body b.other places below b.means.means b.means_there.means
+
+    -- one that uses itself has level 0 in both
+    body_level : (d : Definition) (k j : ℕ) → RowsAre (HeadsBelow k) → (b : InBoth d k j) → (own : Own) → b.own ≡ own → level_of b.body ≡ level_of b.other
+    body_level d k j rows b Apart q = apart_level d k j rows b q
+    body_level d k j rows b Itself q = low (length ops) k b.own Itself b.body q (λ e. (cc)) (first.smaller k (unit_operator d b.own b.body) b.here) ∙ sym (low (length all) j b.own Itself b.other q (λ e. (cc)) (second.smaller j (unit_operator d b.own b.other) b.there))
+    body_level d k j rows b Function q = low (length ops) k b.own Function b.body q (λ e. (cc)) (first.smaller k (unit_operator d b.own b.body) b.here) ∙ sym (low (length all) j b.own Function b.other q (λ e. (cc)) (second.smaller j (unit_operator d b.own b.other) b.there))
 
     heads_below : (n : ℕ) → RowsAre (HeadsBelow n)
     heads_below zero i d k j at e f lt = absurd (omega (arith, lt))
@@ -73,14 +92,14 @@ module _ (Same : Val → Val → Type 0) (itself : (v : Val) → Same v v) (p : 
         let b : InBoth d k j = in_both i d k j at e f in
         let rest : RowsAre (HeadsBelow k) = λ i2 d2 k2 j2 at2 e2 f2 lt2. heads_below n i2 d2 k2 j2 at2 e2 f2 (omega (arith, lt, lt2)) in
         record {
-          left = unit_operator d b.body;
-          right = unit_operator d b.other;
+          left = unit_operator d b.own b.body;
+          right = unit_operator d b.own b.other;
           here = b.here;
           there = b.there;
           name = refl;
           outer = refl;
           params = refl;
-          level = body_level d k j rest b;
+          level = body_level d k j rest b b.own refl;
           own = refl;
         }
 

@@ -1,7 +1,7 @@
 -- What one tree means over two tables is alike, where its names are. The names are asked to be alike for such rows alone as the first
 -- term mentions.
 use Rattle.std.proofs.Common.{◌≡◌, sym, refl, subst, ℕ, suc, List, [], ◌∷◌, ◌++◌, length, ◌+◌}
-use Rattle.std.specs.Prelude.{All, Contains, Some, slice_get}
+use Rattle.std.specs.Prelude.{◌≢◌, All, Contains, Some, slice_get}
 use Rattle.std.proofs.lemmas.List.Elements.{All-contains, All-contains_itself, All-weaker, Contains-push, Contains-append_left}
 use Rattle.trace_base.specs.declared.place.Place.{Place}
 use Rattle.tla_values.specs.Data.{Val, integer, string, truth}
@@ -14,7 +14,8 @@ use Rattle.tla_ast.specs.Trees.{Tree, place_of}
 use Rattle.tla_terms.specs.declared.ids.DefId.{DefId}
 use Rattle.tla_terms.specs.declared.level.Level.{Level}
 use Rattle.tla_terms.specs.declared.operator.Operator.{Operator}
-use Rattle.tla_terms.specs.declared.operator.Own.TheVariants.{Apart}
+use Rattle.tla_terms.specs.declared.operator.Own.{Own as OwnUse}
+use Rattle.tla_terms.specs.declared.operator.Own.TheVariants.{Apart, Function, Itself}
 use Rattle.tla_terms.specs.Terms as term
 use Rattle.tla_terms.specs.Terms.{Term, Terms, Meaning, Placed, width}
 use Rattle.tla_terms.specs.Levels.{level_for}
@@ -25,7 +26,8 @@ use Rattle.tla_scopes.specs.declared.scope.Local.{Local}
 use Rattle.tla_scopes.specs.declared.scope.Local.TheVariants.{Bound, Defined}
 use Rattle.tla_scopes.specs.Scopes as scopes
 use Rattle.tla_scopes.specs.Scopes.{bind, bind_bounds, slots, at_sign}
-use Rattle.tla_names.specs.Means.{Uses, Stands, Means, MeansEach, MeansOperands, MeansStep, MeansSteps, MeansBounds, MeansFields, MeansChanges, MeansArms, Defines, junction, chain, operands_list, builtin_set, local_operator}
+use Rattle.tla_names.specs.Means.{Uses, Stands, Means, MeansEach, MeansOperands, MeansStep, MeansSteps, MeansBounds, MeansFields, MeansChanges, MeansArms, Defines, junction, chain, operands_list, builtin_set, local_operator, with_own}
+use Rattle.tla_names.specs.Owning.{own_of}
 use Rattle.spec_laws.specs.Everywhere.{Everywhere, Inside, InTerms, InOperands, InStep, InSteps, InBounds, InFields, InChanges, InArms}
 use Rattle.spec_laws.proofs.Throughout.{throughout}
 use Rattle.alike_terms.specs.Alike.{AlikeBy, AlikeMeaningsBy, AlikeTermsBy, AlikeOperandsBy, AlikeStepBy, AlikeStepsBy, AlikeBoundsBy, AlikeFieldsBy, AlikeChangesBy, AlikeArmsBy, AlikeNumbersBy, placed_alike, known_alike, named_alike, variable_alike, slot_alike, use_alike, standard_alike, parenthesized_alike, scoped_alike, all_alike, any_alike, prefix_alike, infix_alike, postfix_alike, set_alike, filter_alike, map_alike, tuple_alike, function_alike, function_set_alike, record_alike, record_set_alike, except_alike, quantified_alike, choose_alike, if_alike, case_alike, case_other_alike, box_alike, angle_alike, fairness_alike, no_terms_alike, more_terms_alike, first_alike, next_alike, prime_alike, index_alike, field_alike, no_steps_alike, more_steps_alike, no_bounds_alike, more_bounds_alike, no_fields_alike, more_fields_alike, no_changes_alike, more_changes_alike, no_arms_alike, more_arms_alike, no_numbers_alike, more_numbers_alike, RowsBy, SameHeads, IsOneVariable}
@@ -82,9 +84,18 @@ all_rows : (Q : ℕ → Type 0) (i : ℕ) (e : Term) → AreMentioned Q e → Ev
 all_rows Q i e h =
     throughout (AreMentioned Q) (Rows Q) (λ at l m g p c k w. g k (mentioned_in_part at l m p k c w)) (own_rows Q) i e h
 
+-- what stands for each other by a relation, of such definitions
+abbrev pub RowIf : (ℕ → Type 0) → (ℕ → ℕ → Type 0) → ℕ → ℕ → Type 0
+RowIf Q R k j = Q k → R k j
+
+-- Two definitions of LETs that use themselves stand for each other, where the names around do.
+abbrev pub OwnStand : List Operator → List Operator → (ℕ → ℕ → Type 0) → (ℕ → Type 0) → List Entry → List Entry → Type 0
+OwnStand ops all R Q names others =
+    (seen : OwnUse) → seen ≢ Apart → (mid tid : List Local) (m : List ℕ) (k j : DefId) (ps : List (List ℕ)) (a : Tree) (x y : Term) → AlikeLocals (RowIf Q R) mid tid → Q k.0 → slice_get ops k.0 ≡ Some (local_operator (slots mid) (length ps) seen x) → slice_get all j.0 ≡ Some (local_operator (slots tid) (length ps) seen y) → Means names ops (bind (with_own seen mid m k (length ps)) ps) a x → Means others all (bind (with_own seen tid m j (length ps)) ps) a y → R k.0 j.0
+
 -- Definitions stand for each other by any relation that asks for the same heads, and that holds of two rows where their bodies are alike by it: what a LET
 -- defines is such by its body.
-module _ (Same : Val → Val → Type 0) (ops all : List Operator) (R : ℕ → ℕ → Type 0) (heads : (k j : ℕ) → R k j → SameHeads ops all k j) (close : (k j : ℕ) → RowsBy Same IsOneVariable R ops all k j → R k j) (Q : ℕ → Type 0) (names others : List Entry) (stay : BodiesStay ops Q) (are : AreAlikeNames Same (λ k j. Q k → R k j) names others) (itself : (v : Val) → Same v v) where
+module _ (Same : Val → Val → Type 0) (ops all : List Operator) (R : ℕ → ℕ → Type 0) (heads : (k j : ℕ) → R k j → SameHeads ops all k j) (close : (k j : ℕ) → RowsBy Same IsOneVariable R ops all k j → R k j) (Q : ℕ → Type 0) (names others : List Entry) (stay : BodiesStay ops Q) (are : AreAlikeNames Same (λ k j. Q k → R k j) names others) (itself : (v : Val) → Same v v) (own_stand : OwnStand ops all R Q names others) where
   abbrev Row : ℕ → ℕ → Type 0
   Row k j = Q k → R k j
 
@@ -164,15 +175,21 @@ module _ (Same : Val → Val → Type 0) (ops all : List Operator) (R : ℕ → 
   body_whole : (k : ℕ) (o : Operator) → Q k → slice_get ops k ≡ Some o → o.own ≡ Apart → Whole 0 o.body
   body_whole k o h e apart = all_rows Q 0 o.body (stay k o e apart h)
 
-  local_alike : (mid tid : List Local) (k j : ℕ) (count : ℕ) (x y : Term) → AlikeLocals Row mid tid → slice_get ops k ≡ Some (local_operator (slots mid) count x) → slice_get all j ≡ Some (local_operator (slots tid) count y) → AlikeBy Same IsOneVariable R x y → R k j
+  local_alike : (mid tid : List Local) (k j : ℕ) (count : ℕ) (x y : Term) → AlikeLocals Row mid tid → slice_get ops k ≡ Some (local_operator (slots mid) count Apart x) → slice_get all j ≡ Some (local_operator (slots tid) count Apart y) → AlikeBy Same IsOneVariable R x y → R k j
   local_alike mid tid k j count x y s p q h =
       close k j record {
-        left = local_operator (slots mid) count x;
-        right = local_operator (slots tid) count y;
+        left = local_operator (slots mid) count Apart x;
+        right = local_operator (slots tid) count Apart y;
         here = p;
         there = q;
         same = record { name = refl; outer = slots_alike Row mid tid s; params = refl; level = term_level Same ops all R heads x y h; own = refl; body = h };
       }
+
+  -- the same of any two, of which one that does not use itself is told by its body
+  row_alike : (seen : OwnUse) (mid tid : List Local) (m : List ℕ) (k j : DefId) (ps : List (List ℕ)) (a : Tree) (x y : Term) → AlikeLocals Row mid tid → Q k.0 → slice_get ops k.0 ≡ Some (local_operator (slots mid) (length ps) seen x) → slice_get all j.0 ≡ Some (local_operator (slots tid) (length ps) seen y) → Means names ops (bind (with_own seen mid m k (length ps)) ps) a x → Means others all (bind (with_own seen tid m j (length ps)) ps) a y → (seen ≡ Apart → AlikeBy Same IsOneVariable R x y) → R k.0 j.0
+  row_alike Apart mid tid m k j ps a x y s b p q g h walk = local_alike mid tid k.0 j.0 (length ps) x y s p q (walk refl)
+  row_alike Itself mid tid m k j ps a x y s b p q g h walk = own_stand Itself (λ e. (cc)) mid tid m k j ps a x y s b p q g h
+  row_alike Function mid tid m k j ps a x y s b p q g h walk = own_stand Function (λ e. (cc)) mid tid m k j ps a x y s b p q g h
 
   -- what a LET defines
   record HasDefined (ks js : List ℕ) (sc tc : List Local) : Type 0 where
@@ -365,8 +382,10 @@ module _ (Same : Val → Val → Type 0) (ops all : List Operator) (R : ℕ → 
     defines sc tc (tree.MoreDefinitions ds m at ps form a) ks js inner outer s b g h =
         let d : HasDefined g.0 h.0 g.1 h.1 = defines sc tc ds g.0 h.0 g.1 h.1 s (earlier_such ks g.0 g.2.0 g.7 b) g.4 h.4 in
         let lt : Q g.2.0 = last_such ks g.0 g.2.0 g.7 b in
-        let r : AlikeBy Same IsOneVariable R g.3 h.3 = alike 0 (bind g.1 ps) (bind h.1 ps) a g.3 h.3 (all_bound Row g.1 h.1 ps d.places) (body_whole g.2.0 (local_operator (slots g.1) (length ps) g.3) lt g.6 refl) g.5 h.5 in
-        one_more ks js inner outer m (length ps) g.0 h.0 g.1 h.1 g.2 h.2 d (local_alike g.1 h.1 g.2.0 h.2.0 (length ps) g.3 h.3 d.places g.6 h.6 r) g.7 h.7 g.8 h.8
+        let seen : OwnUse = own_of form m ps a in
+        let walk : seen ≡ Apart → AlikeBy Same IsOneVariable R g.3 h.3 = λ q. alike 0 (bind g.1 ps) (bind h.1 ps) a g.3 h.3 (all_bound Row g.1 h.1 ps d.places) (body_whole g.2.0 (local_operator (slots g.1) (length ps) seen g.3) lt g.6 q)
+        (subst (λ (u : OwnUse). Means names ops (bind (with_own u g.1 m g.2 (length ps)) ps) a g.3) q g.5) (subst (λ (u : OwnUse). Means others all (bind (with_own u h.1 m h.2 (length ps)) ps) a h.3) q h.5) in
+        one_more ks js inner outer m (length ps) g.0 h.0 g.1 h.1 g.2 h.2 d (row_alike seen g.1 h.1 m g.2 h.2 ps a g.3 h.3 d.places lt g.6 h.6 g.5 h.5 walk) g.7 h.7 g.8 h.8
 
   pub tree_alike : (sc tc : List Local) (t : Tree) (e f : Term) → AlikeLocals Row sc tc → AreMentioned Q e → Means names ops sc t e → Means others all tc t f → AlikeBy Same IsOneVariable R e f
   tree_alike sc tc t e f s b g h = alike 0 sc tc t e f s (all_rows Q 0 e b) g h

@@ -44,8 +44,8 @@ module _ (Same : Val → Val → Type 0) (itself : (v : Val) → Same v v) (p : 
         let both : InBoth Same itself p c values others number renumber ops all are d k j = in_both Same itself p c values others number renumber ops all are first second i d k j at a b in
         let body : AlikeBy Same IsOneVariable (UpTo n) both.body both.other = there_alike n (up_to n) d.params d.body both.body both.other both.means both.means_there in
         record {
-          left = unit_operator d both.body;
-          right = unit_operator d both.other;
+          left = unit_operator d both.own both.body;
+          right = unit_operator d both.own both.other;
           here = both.here;
           there = both.there;
           same = record { name = refl; outer = refl; params = refl; level = term_level Same ops all (UpTo n) (heads_up_to Same IsOneVariable ops all n) both.body both.other body; own = refl; body = body };

@@ -1,5 +1,5 @@
 -- Two tables of one program differ by the numbers of definitions alone: laws.
-use Rattle.std.specs.Prelude.{◌≡◌, ◌<◌, ℕ, Bool, true, false, List, Some, slice_get}
+use Rattle.std.specs.Prelude.{◌≡◌, ℕ, Bool, true, false, IsTrue, List, Some, slice_get}
 use Rattle.tla_values.specs.Data.{Val}
 use Rattle.tla_ast.specs.Trees.{Tree}
 use Rattle.tla_ast.specs.declared.config.Config.{Config}
@@ -7,7 +7,6 @@ use Rattle.tla_ast.specs.declared.expr.Definition.{Definition}
 use Rattle.tla_ast.specs.declared.module.Program.{Program}
 use Rattle.tla_terms.specs.declared.operator.Operator.{Operator}
 use Rattle.tla_terms.specs.Terms.{Term}
-use Rattle.term_parts.specs.Slots.{MentionsBelow, UsesSmaller}
 use Rattle.tla_scopes.specs.declared.meant.Entry.{Entry}
 use Rattle.tla_scopes.specs.declared.scope.Local.{Local}
 use Rattle.tla_names.specs.Means.{Means}
@@ -15,22 +14,26 @@ use Rattle.tla_program.specs.InUnits.{definitions_in}
 use Rattle.tla_program.specs.Names.{Numbers}
 use Rattle.tla_tables.specs.Tables.{IsTable, MeansThere}
 use Rattle.alike_terms.specs.Alike.{Alike, AlikeRows}
-use Rattle.alike_tables.specs.Places.{AlikeLocals, AlikeWhere, AreAlikeNames, ValuesAre}
+use Rattle.alike_tables.specs.Places.{AlikeLocals, AlikeWhere, AreAlikeNames, AreMentioned, ValuesAre}
 
 -- two values are one, where values are compared
 abbrev pub SameIf : Bool → Val → Val → Type 0
 SameIf true v w = v ≡ w
 SameIf false v w = Unit {0}
 
--- rows of the first table below a number are alike to those of the other
-abbrev pub AlikeBelow : Bool → List Operator → List Operator → ℕ → ℕ → ℕ → Type 0
-AlikeBelow compared ops all n = AlikeWhere (SameIf compared) ops all (λ k. k < n)
+-- rows of the first table that are kept are alike to those of the other
+abbrev pub AlikeKept : Bool → List Operator → List Operator → (ℕ → Bool) → ℕ → ℕ → Type 0
+AlikeKept compared ops all kept = AlikeWhere (SameIf compared) ops all (λ k. IsTrue (kept k))
 
--- What one tree means over two tables is alike, where the names around mean what is alike. Names are asked to be alike for rows below a number alone, which the
--- first term mentions no others of.
+-- the bodies of rows that are kept mention such alone, as where all below a number are kept, and none of them uses itself
+abbrev pub BodiesAreKept : List Operator → (ℕ → Bool) → Type 0
+BodiesAreKept ops kept = (k : ℕ) (o : Operator) → slice_get ops k ≡ Some o → IsTrue (kept k) → AreMentioned (λ j. IsTrue (kept j)) o.body
+
+-- What one tree means over two tables is alike, where the names around mean what is alike. Names are asked to be alike for rows that are kept alone, and the
+-- first term mentions no others, nor do the bodies of these.
 abbrev pub MeaningsAreAlike : Type 0
 MeaningsAreAlike =
-    (compared : Bool) (ops all : List Operator) (n : ℕ) (names others : List Entry) → UsesSmaller ops → AreAlikeNames (SameIf compared) (AlikeBelow compared ops all n) names others → (scope outer : List Local) (t : Tree) (e f : Term) → AlikeLocals (AlikeBelow compared ops all n) scope outer → MentionsBelow n e → Means names ops scope t e → Means others all outer t f → Alike (SameIf compared) ops all e f
+    (compared : Bool) (ops all : List Operator) (kept : ℕ → Bool) (names others : List Entry) → BodiesAreKept ops kept → AreAlikeNames (SameIf compared) (AlikeKept compared ops all kept) names others → (scope outer : List Local) (t : Tree) (e f : Term) → AlikeLocals (AlikeKept compared ops all kept) scope outer → AreMentioned (λ j. IsTrue (kept j)) e → Means names ops scope t e → Means others all outer t f → Alike (SameIf compared) ops all e f
 
 -- two tables of one program differ by the numbers of definitions alone
 abbrev pub TablesAreAlike : Type 0

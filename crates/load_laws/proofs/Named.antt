@@ -1,21 +1,23 @@
 -- Each definition of a module that is read has a name.
-use Rattle.std.proofs.Common.{◌≡◌, ◌≢◌, inl, inr, ℕ, List, [], ◌∷◌, ◌++◌, refl, sym, ap, subst}
+use Rattle.std.proofs.Common.{◌≡◌, ◌≢◌, inl, inr, ℕ, zero, suc, List, [], ◌∷◌, ◌++◌, refl, sym, ap, subst}
 use Rattle.std.proofs.lemmas.List.Elements.{All-cons, All-nil, All-append}
 use Rattle.std.specs.Prelude.{All}
 use Rattle.trace_base.specs.declared.place.Place.{Place}
 use Rattle.tla_ast.specs.declared.laid.Laid.{Laid}
 use Rattle.tla_ast.specs.declared.laid.Laid.TheVariants.{Plain, ListOpen, ListItem, ListClose}
 use Rattle.tla_ast.specs.declared.module.Declared.{Declared}
+use Rattle.tla_ast.specs.declared.module.DeclaredOperator.{DeclaredOperator}
 use Rattle.tla_ast.specs.declared.module.Module.{Module}
 use Rattle.tla_ast.specs.declared.module.Unit.{Unit as ModuleUnit}
 use Rattle.tla_ast.specs.declared.module.Unit.TheVariants.{Variables, Constants, Recursive, Define, Assume, Passed}
 use Rattle.tla_tokens.specs.declared.token.Kind.{Kind}
 use Rattle.tla_tokens.specs.declared.token.Kind.TheVariants as kinds
+use Rattle.tla_tokens.specs.declared.token.Foreign.TheVariants as foreign
 use Rattle.tla_tokens.specs.declared.token.Symbol.TheVariants as symbols
 use Rattle.tla_tokens.specs.declared.token.Word.TheVariants as words
 use Rattle.tla_ast.specs.Grammar.{Span, ◌⨟◌, either, token, some_token, word, NamesText, Text}
 use Rattle.tla_ast.specs.Laid.{tokens_of}
-use Rattle.tla_ast.specs.Modules.{DeclaredNamesText, MaybeTitle, ExtendsText, SomeExpression, UnitText, UnitsText, SpellsModule, variable_word, constant_word, assume_word, theorem_word}
+use Rattle.tla_ast.specs.Modules.{DeclaredNamesText, PlacesText, MaybePlaces, DeclaredOperatorText, DeclaredOperatorsText, underscore, MaybeTitle, ExtendsText, SomeExpression, UnitText, UnitsText, SpellsModule, variable_word, constant_word, assume_word, theorem_word}
 use Rattle.tla_ast.specs.Trees.{Tree}
 use Rattle.reader_model.specs.LawsOfExtents.{LocalText, LocalDefinition}
 use Rattle.tla_program.specs.InUnits.{definitions_in}
@@ -76,6 +78,27 @@ keeps_declared [] xs ys h k = absurd h
 keeps_declared (d ∷ []) xs ys h k = keeps_token d.at (kinds.Name d.name) xs ys h k
 keeps_declared (d ∷ e ∷ ds) xs ys h k = keeps_declared (e ∷ ds) h.2.0 ys h.2.2 (keeps_some (kinds.Symbol symbols.Comma) h.0 h.2.0 h.2.1 (keeps_token d.at (kinds.Name d.name) xs h.0 h.1 k))
 
+keeps_underscore : Keeps underscore
+keeps_underscore = keeps_some (kinds.Foreign foreign.Underscore)
+
+keeps_places : (n : ℕ) → Keeps (PlacesText n)
+keeps_places zero xs ys h k = absurd h
+keeps_places (suc zero) xs ys h k = keeps_underscore xs ys h k
+keeps_places (suc (suc n)) xs ys h k = keeps_places (suc n) h.2.0 ys h.2.2 (keeps_some (kinds.Symbol symbols.Comma) h.0 h.2.0 h.2.1 (keeps_underscore xs h.0 h.1 k))
+
+keeps_maybe_places : (n : ℕ) → Keeps (MaybePlaces n)
+keeps_maybe_places zero xs ys e k = subst LaidHold e k
+keeps_maybe_places (suc n) xs ys h k =
+    keeps_some (kinds.Symbol symbols.CloseParenthesis) h.2.0 ys h.2.2 (keeps_places (suc n) h.0 h.2.0 h.2.1 (keeps_some (kinds.Symbol symbols.OpenParenthesis) xs h.0 h.1 k))
+
+keeps_operator : (d : DeclaredOperator) → Keeps (DeclaredOperatorText d)
+keeps_operator d xs ys h k = keeps_maybe_places d.parameters h.0 ys h.2 (keeps_token d.at (kinds.Name d.name) xs h.0 h.1 k)
+
+keeps_operators : (ds : List DeclaredOperator) → Keeps (DeclaredOperatorsText ds)
+keeps_operators [] xs ys h k = absurd h
+keeps_operators (d ∷ []) xs ys h k = keeps_operator d xs ys h k
+keeps_operators (d ∷ e ∷ ds) xs ys h k = keeps_operators (e ∷ ds) h.2.0 ys h.2.2 (keeps_some (kinds.Symbol symbols.Comma) h.0 h.2.0 h.2.1 (keeps_operator d xs h.0 h.1 k))
+
 keeps_title : Keeps MaybeTitle
 keeps_title xs ys (inl e) k = subst LaidHold e k
 keeps_title xs ys (inr h) k = keeps_some (kinds.Symbol symbols.Defined) h.1.0 ys h.1.2 (keeps_some (kinds.Name h.0) xs h.1.0 h.1.1 k)
@@ -104,7 +127,7 @@ keeps_expression local xs ys h k = keeps_text local h.0 xs ys h.1.text k
 keeps_unit : LocalText → LocalDefinition → (u : ModuleUnit) → Keeps (UnitText u)
 keeps_unit local definition (Variables ds) xs ys h k = keeps_declared ds h.0 ys h.2 (keeps_variable xs h.0 h.1 k)
 keeps_unit local definition (Constants ds) xs ys h k = keeps_declared ds h.0 ys h.2 (keeps_constant xs h.0 h.1 k)
-keeps_unit local definition (Recursive ds) xs ys h k = absurd h
+keeps_unit local definition (Recursive ds) xs ys h k = keeps_operators ds h.0 ys h.2 (keeps_some (kinds.Foreign foreign.Recursive) xs h.0 h.1 k)
 keeps_unit local definition (Define d) xs ys h k = let p = definition d.name d.at d.params d.form d.body xs ys h in behind p.0 ys (subst LaidHold p.1 k)
 keeps_unit local definition (Assume e) xs ys h k = keeps_text local e h.2.0 ys h.2.2 (keeps_title h.0 h.2.0 h.2.1 (keeps_assume xs h.0 h.1 k))
 keeps_unit local definition Passed xs ys (inl h) k = keeps_some kinds.Dashes xs ys h k

@@ -1,5 +1,5 @@
 -- Complaints one behind the other, and tests of names.
-use Rattle.std.proofs.Common.{◌≡◌, ◌∙◌, sym, ap, refl, subst, List, [], ◌∷◌}
+use Rattle.std.proofs.Common.{◌≡◌, refl, List}
 use Rattle.std.specs.Prelude.{ℕ, Bool, true, false, not, ◌&&◌, ◌||◌, Option, Some, None}
 use Rattle.std.specs.Str.{bytes_eq}
 use Rattle.std.specs.Cmp.Lexicographic.{bytes_decides}
@@ -63,6 +63,9 @@ rest_false false b h = h
 
 pub left_false : (a b c : Bool) → (a || b || c) ≡ false → a ≡ false
 left_false a b c h = head_false a b (head_false (a || b) c h)
+
+pub middle_false : (a b c : Bool) → (a || b || c) ≡ false → b ≡ false
+middle_false a b c h = rest_false a b (head_false (a || b) c h)
 
 pub right_false : (a b c : Bool) → (a || b || c) ≡ false → c ≡ false
 right_false a b c h = rest_false (a || b) c h

@@ -9,6 +9,8 @@ use Rattle.tla_ast.specs.Trees.{Tree}
 use Rattle.tla_scopes.specs.Mentions.{is_one_of, binds, defines, mentions, mentions_each, mentions_operands, mentions_step, mentions_steps, mentions_bounds, mentions_fields, mentions_changes, mentions_arms, mentions_definitions}
 use Rattle.tla_terms.specs.declared.ids.DefId.{DefId}
 use Rattle.tla_terms.specs.declared.operator.Operator.{Operator}
+use Rattle.tla_terms.specs.declared.operator.Own.{Own}
+use Rattle.tla_terms.specs.declared.operator.Own.TheVariants as owns
 use Rattle.tla_terms.specs.Terms as term
 use Rattle.tla_terms.specs.Terms.{Term, Terms, Meaning}
 use Rattle.tla_scopes.specs.declared.scope.Local.{Local}
@@ -17,12 +19,13 @@ use Rattle.tla_scopes.specs.declared.meant.Meant.TheVariants as meant
 use Rattle.tla_scopes.specs.declared.meant.Named.{Named}
 use Rattle.tla_scopes.specs.declared.meant.Entry.{Entry}
 use Rattle.tla_scopes.specs.Scopes.{later, named, slots, bound_from, bound, among, meaning_in, bind, bind_bounds, at_sign}
-use Rattle.tla_names.specs.Complaints.{Takes, or_else, counted, number_of, with_name, with_names, with_bounds, with_definitions, itself, complaint, complaints, operands_complaint, step_complaint, steps_complaint, bounds_complaint, fields_complaint, changes_complaint, arms_complaint, definitions_complaint}
-use Rattle.tla_names.specs.Means.{Uses, Means, MeansEach, MeansOperands, MeansStep, MeansSteps, MeansBounds, MeansFields, MeansChanges, MeansArms, Defines, local_operator}
+use Rattle.tla_names.specs.Complaints.{Takes, bound_name, or_else, counted, number_of, with_name, with_names, with_bounds, with_definitions, with_itself, itself, complaint, complaints, operands_complaint, step_complaint, steps_complaint, bounds_complaint, fields_complaint, changes_complaint, arms_complaint, definitions_complaint}
+use Rattle.tla_names.specs.Means.{Uses, Means, MeansEach, MeansOperands, MeansStep, MeansSteps, MeansBounds, MeansFields, MeansChanges, MeansArms, Defines, local_operator, with_own}
 use Rattle.tla_names.specs.Outcomes.{takes_in}
+use Rattle.tla_names.specs.Owning.{own_of}
 use Rattle.name_laws.specs.Laws.{MeansByNames}
 use Rattle.name_laws.proofs.Bits.{left_none, right_none, or_left, or_right, or_false, hidden_and, none_of, itself_is}
-use Rattle.name_laws.proofs.Hiding.{itself_none}
+use Rattle.tla_names.proofs.Risen.{other_name}
 
 -- One more name in a scope.
 
@@ -131,24 +134,40 @@ module _ (names names' : List Entry) (ops : List Operator) where
   behind : (sc sc' : List Local) (ds : tree.Definitions) (ks : List ℕ) (inner : List Local) (p : List ℕ → Bool) (d : Followed sc sc' ds ks inner) → Alike sc sc' (λ n. not (defines ds n) && p n) → Alike inner d.inner p
   behind sc sc' ds ks inner p d h = (d.taken, λ n t. d.same n (λ q. h.1 n (hidden_and (defines ds n) (p n) q t)))
 
-  -- the body of a definition that does not use itself
-  in_body : (sc sc' : List Local) (ds : tree.Definitions) (ks : List ℕ) (mid : List Local) (m : List ℕ) (at : Place) (ps : List (List ℕ)) (e : Tree) → itself m at ps e ≡ None → (d : Followed sc sc' ds ks mid) → Alike sc sc' (λ n. not (defines ds n || bytes_eq m n || is_one_of n ps) && mentions n e) → Alike (bind mid ps) (bind d.inner ps) (λ n. mentions n e)
-  in_body sc sc' ds ks mid m at ps e none d h = (
-    taken_bind mid d.inner ps d.taken,
-    λ n t. same_bind mid d.inner ps n d.taken (λ q. d.same n (λ r.
-        h.1 n (hidden_and (defines ds n || bytes_eq m n || is_one_of n ps) (mentions n e) (none_of (defines ds n) (bytes_eq m n) (is_one_of n ps) r (itself_none m at ps e none n t q) q) t))),
+  -- where a definition sees its own name, if it uses itself
+  own_taken : (o : Own) (sc sc' : List Local) (m : List ℕ) (k : DefId) (c : ℕ) → slots sc ≡ slots sc' → slots (with_own o sc m k c) ≡ slots (with_own o sc' m k c)
+  own_taken owns.Apart sc sc' m k c e = e
+  own_taken owns.Itself sc sc' m k c e = slots_defined sc m k c ∙ e ∙ sym (slots_defined sc' m k c)
+  own_taken owns.Function sc sc' m k c e = slots_defined sc m k c ∙ e ∙ sym (slots_defined sc' m k c)
+
+  defined_same : (sc sc' : List Local) (m : List ℕ) (k : DefId) (c : ℕ) (n : List ℕ) → (bytes_eq m n ≡ false → Same sc sc' n) → Same (sc ++ Defined m k c ∷ []) (sc' ++ Defined m k c ∷ []) n
+  defined_same sc sc' m k c n h =
+      let it : Named = named c (meant.Definition k) in
+      meaning_defined names sc m k c n ∙ later_same (bytes_eq m n) it it (meaning_in names sc n) (meaning_in names' sc' n) refl h ∙ sym (meaning_defined names' sc' m k c n)
+
+  own_same : (o : Own) (sc sc' : List Local) (m : List ℕ) (k : DefId) (c : ℕ) (n : List ℕ) → (o ≡ owns.Apart → bytes_eq m n ≡ false) → (bytes_eq m n ≡ false → Same sc sc' n) → Same (with_own o sc m k c) (with_own o sc' m k c) n
+  own_same owns.Apart sc sc' m k c n w h = h (w refl)
+  own_same owns.Itself sc sc' m k c n w h = defined_same sc sc' m k c n h
+  own_same owns.Function sc sc' m k c n w h = defined_same sc sc' m k c n h
+
+  -- the body of a definition
+  in_body : (sc sc' : List Local) (ds : tree.Definitions) (ks : List ℕ) (mid : List Local) (m : List ℕ) (ps : List (List ℕ)) (e : Tree) (k : DefId) (c : ℕ) (o : Own) → (o ≡ owns.Apart → (n : List ℕ) → mentions n e ≡ true → is_one_of n ps ≡ false → bytes_eq m n ≡ false) → (d : Followed sc sc' ds ks mid) → Alike sc sc' (λ n. not (defines ds n || bytes_eq m n || is_one_of n ps) && mentions n e) → Alike (bind (with_own o mid m k c) ps) (bind (with_own o d.inner m k c) ps) (λ n. mentions n e)
+  in_body sc sc' ds ks mid m ps e k c o w d h = (
+    taken_bind (with_own o mid m k c) (with_own o d.inner m k c) ps (own_taken o mid d.inner m k c d.taken),
+    λ n t. same_bind (with_own o mid m k c) (with_own o d.inner m k c) ps n (own_taken o mid d.inner m k c d.taken) (λ q.
+        own_same o mid d.inner m k c n (λ a. w a n t q) (λ p. d.same n (λ r.
+        h.1 n (hidden_and (defines ds n || bytes_eq m n || is_one_of n ps) (mentions n e) (none_of (defines ds n) (bytes_eq m n) (is_one_of n ps) r p q) t)))),
   )
 
   -- one more definition
-  one_more : (sc sc' : List Local) (ds : tree.Definitions) (js ks : List ℕ) (mid inner : List Local) (m : List ℕ) (at : Place) (ps : List (List ℕ)) (form : DefinitionForm) (e : Tree) (k : DefId) (x : Term) (d : Followed sc sc' ds js mid) → Means names' ops (bind d.inner ps) e x → slice_get ops k.0 ≡ Some (local_operator (slots mid) (length ps) x) → ks ≡ js ++ k.0 ∷ [] → inner ≡ mid ++ Defined m k (length ps) ∷ [] → Followed sc sc' (tree.MoreDefinitions ds m at ps form e) ks inner
+  one_more : (sc sc' : List Local) (ds : tree.Definitions) (js ks : List ℕ) (mid inner : List Local) (m : List ℕ) (at : Place) (ps : List (List ℕ)) (form : DefinitionForm) (e : Tree) (k : DefId) (x : Term) (d : Followed sc sc' ds js mid) → Means names' ops (bind (with_own (own_of form m ps e) d.inner m k (length ps)) ps) e x → slice_get ops k.0 ≡ Some (local_operator (slots mid) (length ps) (own_of form m ps e) x) → ks ≡ js ++ k.0 ∷ [] → inner ≡ mid ++ Defined m k (length ps) ∷ [] → Followed sc sc' (tree.MoreDefinitions ds m at ps form e) ks inner
   one_more sc sc' ds js ks mid inner m at ps form e k x d body row order scope =
-      let it : Named = named (length ps) (meant.Definition k) in
       record {
         inner = d.inner ++ Defined m k (length ps) ∷ [];
-        made = (js, d.inner, k, x, d.made, body, row ∙ ap (λ (j : ℕ). Some (local_operator j (length ps) x)) d.taken, order, refl);
+        made = (js, d.inner, k, x, d.made, body, row ∙ ap (λ (j : ℕ). Some (local_operator j (length ps) (own_of form m ps e) x)) d.taken, order, refl);
         taken = ap slots scope ∙ slots_defined mid m k (length ps) ∙ d.taken ∙ sym (slots_defined d.inner m k (length ps));
         same = λ n h.
-            ap (λ (s : List Local). meaning_in names s n) scope ∙ meaning_defined names mid m k (length ps) n ∙ later_same (bytes_eq m n) it it (meaning_in names mid n) (meaning_in names' d.inner n) refl (λ q. d.same n (λ r. h (or_false (defines ds n) (bytes_eq m n) r q))) ∙ sym (meaning_defined names' d.inner m k (length ps) n);
+            ap (λ (s : List Local). meaning_in names s n) scope ∙ defined_same mid d.inner m k (length ps) n (λ q. d.same n (λ r. h (or_false (defines ds n) (bytes_eq m n) r q)));
       }
 
   use_same : (sc sc' : List Local) (n : List ℕ) (ts : Terms) (m : Meaning) → Same sc sc' n → Uses names sc n ts m → Uses names' sc' n ts m
@@ -177,7 +196,7 @@ module _ (names names' : List Entry) (ops : List Operator) where
     go_tree (tree.SetOf at es) sc sc' x g c h r =
         (r.0, go_trees es sc sc' r.0 g c h r.1, r.2)
     go_tree (tree.Filter at m d e) sc sc' x g c h r =
-        (r.0, r.1, go_tree d sc sc' r.0 g (left_none (complaint g d) (complaint (with_name g m 0) e) c) (left sc sc' (λ n. mentions n d) (λ n. not (bytes_eq m n) && mentions n e) h) r.2, go_tree e (sc ++ Bound m ∷ []) (sc' ++ Bound m ∷ []) r.1 (with_name g m 0) (right_none (complaint g d) (complaint (with_name g m 0) e) c) (under sc sc' m (λ n. mentions n e) (right sc sc' (λ n. mentions n d) (λ n. not (bytes_eq m n) && mentions n e) h)) r.3, r.4)
+        (r.0, r.1, go_tree d sc sc' r.0 g (left_none (complaint g d) (complaint (with_name g m bound_name) e) c) (left sc sc' (λ n. mentions n d) (λ n. not (bytes_eq m n) && mentions n e) h) r.2, go_tree e (sc ++ Bound m ∷ []) (sc' ++ Bound m ∷ []) r.1 (with_name g m bound_name) (right_none (complaint g d) (complaint (with_name g m bound_name) e) c) (under sc sc' m (λ n. mentions n e) (right sc sc' (λ n. mentions n d) (λ n. not (bytes_eq m n) && mentions n e) h)) r.3, r.4)
     go_tree (tree.Map at e bs) sc sc' x g c h r =
         (r.0, r.1, go_tree e (bind_bounds sc bs) (bind_bounds sc' bs) r.0 (with_bounds g bs) (left_none (complaint (with_bounds g bs) e) (bounds_complaint g bs) c) (under_bounds sc sc' bs (λ n. mentions n e) (left sc sc' (λ n. (not (binds bs n) && mentions n e)) (λ n. mentions_bounds n bs) h)) r.2, go_bounds bs sc sc' r.1 g (right_none (complaint (with_bounds g bs) e) (bounds_complaint g bs) c) (right sc sc' (λ n. (not (binds bs n) && mentions n e)) (λ n. mentions_bounds n bs) h) r.3, r.4)
     go_tree (tree.Tuple at es) sc sc' x g c h r =
@@ -195,7 +214,7 @@ module _ (names names' : List Entry) (ops : List Operator) where
     go_tree (tree.Quantified at q bs e) sc sc' x g c h r =
         (r.0, r.1, go_bounds bs sc sc' r.0 g (left_none (bounds_complaint g bs) (complaint (with_bounds g bs) e) c) (left sc sc' (λ n. mentions_bounds n bs) (λ n. not (binds bs n) && mentions n e) h) r.2, go_tree e (bind_bounds sc bs) (bind_bounds sc' bs) r.1 (with_bounds g bs) (right_none (bounds_complaint g bs) (complaint (with_bounds g bs) e) c) (under_bounds sc sc' bs (λ n. mentions n e) (right sc sc' (λ n. mentions_bounds n bs) (λ n. not (binds bs n) && mentions n e) h)) r.3, r.4)
     go_tree (tree.Choose at m d e) sc sc' x g c h r =
-        (r.0, r.1, go_tree d sc sc' r.0 g (left_none (complaint g d) (complaint (with_name g m 0) e) c) (left sc sc' (λ n. mentions n d) (λ n. not (bytes_eq m n) && mentions n e) h) r.2, go_tree e (sc ++ Bound m ∷ []) (sc' ++ Bound m ∷ []) r.1 (with_name g m 0) (right_none (complaint g d) (complaint (with_name g m 0) e) c) (under sc sc' m (λ n. mentions n e) (right sc sc' (λ n. mentions n d) (λ n. not (bytes_eq m n) && mentions n e) h)) r.3, r.4)
+        (r.0, r.1, go_tree d sc sc' r.0 g (left_none (complaint g d) (complaint (with_name g m bound_name) e) c) (left sc sc' (λ n. mentions n d) (λ n. not (bytes_eq m n) && mentions n e) h) r.2, go_tree e (sc ++ Bound m ∷ []) (sc' ++ Bound m ∷ []) r.1 (with_name g m bound_name) (right_none (complaint g d) (complaint (with_name g m bound_name) e) c) (under sc sc' m (λ n. mentions n e) (right sc sc' (λ n. mentions n d) (λ n. not (bytes_eq m n) && mentions n e) h)) r.3, r.4)
     go_tree (tree.If at p e f) sc sc' x g c h r =
         (r.0, r.1, r.2, go_tree p sc sc' r.0 g (left_none (complaint g p) (or_else (complaint g e) (complaint g f)) c) (left sc sc' (λ n. mentions n p) (λ n. mentions n e) (left sc sc' (λ n. mentions n p || mentions n e) (λ n. mentions n f) h)) r.3, go_tree e sc sc' r.1 g (left_none (complaint g e) (complaint g f) (right_none (complaint g p) (or_else (complaint g e) (complaint g f)) c)) (right sc sc' (λ n. mentions n p) (λ n. mentions n e) (left sc sc' (λ n. mentions n p || mentions n e) (λ n. mentions n f) h)) r.4, go_tree f sc sc' r.2 g (right_none (complaint g e) (complaint g f) (right_none (complaint g p) (or_else (complaint g e) (complaint g f)) c)) (right sc sc' (λ n. mentions n p || mentions n e) (λ n. mentions n f) h) r.5, r.6)
     go_tree (tree.Case at arms) sc sc' x g c h r =
@@ -247,7 +266,7 @@ module _ (names names' : List Entry) (ops : List Operator) where
     go_changes : (t : tree.Changes) (sc sc' : List Local) (x : term.Changes) (g : Takes) → changes_complaint g t ≡ None → Alike sc sc' (λ n. mentions_changes n t) → MeansChanges names ops sc t x → MeansChanges names' ops sc' t x
     go_changes tree.NoChanges sc sc' x g c h r = r
     go_changes (tree.MoreChanges cs path e) sc sc' x g c h r =
-        (r.0, r.1, r.2, r.3, go_changes cs sc sc' r.0 g (left_none (changes_complaint g cs) (or_else (steps_complaint g path) (complaint (with_name g at_sign 0) e)) c) (left sc sc' (λ n. mentions_changes n cs) (λ n. mentions_steps n path) (left sc sc' (λ n. mentions_changes n cs || mentions_steps n path) (λ n. not (bytes_eq at_sign n) && mentions n e) h)) r.4, go_steps path sc sc' r.1 g (left_none (steps_complaint g path) (complaint (with_name g at_sign 0) e) (right_none (changes_complaint g cs) (or_else (steps_complaint g path) (complaint (with_name g at_sign 0) e)) c)) (right sc sc' (λ n. mentions_changes n cs) (λ n. mentions_steps n path) (left sc sc' (λ n. mentions_changes n cs || mentions_steps n path) (λ n. not (bytes_eq at_sign n) && mentions n e) h)) r.5, go_tree e (sc ++ Bound at_sign ∷ []) (sc' ++ Bound at_sign ∷ []) r.2 (with_name g at_sign 0) (right_none (steps_complaint g path) (complaint (with_name g at_sign 0) e) (right_none (changes_complaint g cs) (or_else (steps_complaint g path) (complaint (with_name g at_sign 0) e)) c)) (under sc sc' at_sign (λ n. mentions n e) (right sc sc' (λ n. mentions_changes n cs || mentions_steps n path) (λ n. not (bytes_eq at_sign n) && mentions n e) h)) r.6)
+        (r.0, r.1, r.2, r.3, go_changes cs sc sc' r.0 g (left_none (changes_complaint g cs) (or_else (steps_complaint g path) (complaint (with_name g at_sign bound_name) e)) c) (left sc sc' (λ n. mentions_changes n cs) (λ n. mentions_steps n path) (left sc sc' (λ n. mentions_changes n cs || mentions_steps n path) (λ n. not (bytes_eq at_sign n) && mentions n e) h)) r.4, go_steps path sc sc' r.1 g (left_none (steps_complaint g path) (complaint (with_name g at_sign bound_name) e) (right_none (changes_complaint g cs) (or_else (steps_complaint g path) (complaint (with_name g at_sign bound_name) e)) c)) (right sc sc' (λ n. mentions_changes n cs) (λ n. mentions_steps n path) (left sc sc' (λ n. mentions_changes n cs || mentions_steps n path) (λ n. not (bytes_eq at_sign n) && mentions n e) h)) r.5, go_tree e (sc ++ Bound at_sign ∷ []) (sc' ++ Bound at_sign ∷ []) r.2 (with_name g at_sign bound_name) (right_none (steps_complaint g path) (complaint (with_name g at_sign bound_name) e) (right_none (changes_complaint g cs) (or_else (steps_complaint g path) (complaint (with_name g at_sign bound_name) e)) c)) (under sc sc' at_sign (λ n. mentions n e) (right sc sc' (λ n. mentions_changes n cs || mentions_steps n path) (λ n. not (bytes_eq at_sign n) && mentions n e) h)) r.6)
 
     go_arms : (t : tree.Arms) (sc sc' : List Local) (x : term.Arms) (g : Takes) → arms_complaint g t ≡ None → Alike sc sc' (λ n. mentions_arms n t) → MeansArms names ops sc t x → MeansArms names' ops sc' t x
     go_arms tree.NoArms sc sc' x g c h r = r
@@ -258,11 +277,17 @@ module _ (names names' : List Entry) (ops : List Operator) where
     go_definitions tree.NoDefinitions sc sc' ks inner g c h d =
         record { inner = sc'; made = (d.0, refl); taken = ap slots d.1 ∙ h.0; same = λ n a. ap (λ (s : List Local). meaning_in names s n) d.1 ∙ a refl }
     go_definitions (tree.MoreDefinitions ds m at ps form e) sc sc' ks inner g c h d =
-        let rest : or_else (itself m at ps e) (complaint (with_names (with_definitions g ds) ps) e) ≡ None = right_none (definitions_complaint g ds) (or_else (itself m at ps e) (complaint (with_names (with_definitions g ds) ps) e)) c in
-        let before : Followed sc sc' ds d.0 d.1 = go_definitions ds sc sc' d.0 d.1 g (left_none (definitions_complaint g ds) (or_else (itself m at ps e) (complaint (with_names (with_definitions g ds) ps) e)) c) (left sc sc' (λ n. mentions_definitions n ds) (λ n. not (defines ds n || bytes_eq m n || is_one_of n ps) && mentions n e) h) d.4 in
-        let body : Means names' ops (bind before.inner ps) e d.3 = go_tree e (bind d.1 ps) (bind before.inner ps) d.3 (with_names (with_definitions g ds) ps) (right_none (itself m at ps e) (complaint (with_names (with_definitions g ds) ps) e) rest) (in_body sc sc' ds d.0 d.1 m at ps e (left_none (itself m at ps e) (complaint (with_names (with_definitions g ds) ps) e) rest) before (right sc sc' (λ n. mentions_definitions n ds) (λ n. not (defines ds n || bytes_eq m n || is_one_of n ps) && mentions n e) h)) d.5 in
+        let gd : Takes = with_definitions g ds in
+        let own : Own = own_of form m ps e in
+        let inside : Takes = with_names (with_itself own gd m (length ps)) ps in
+        let rest : or_else (itself gd form m at ps e) (complaint inside e) ≡ None = right_none (definitions_complaint g ds) (or_else (itself gd form m at ps e) (complaint inside e)) c in
+        let fine : itself gd form m at ps e ≡ None = left_none (itself gd form m at ps e) (complaint inside e) rest in
+        let before : Followed sc sc' ds d.0 d.1 = go_definitions ds sc sc' d.0 d.1 g (left_none (definitions_complaint g ds) (or_else (itself gd form m at ps e) (complaint inside e)) c) (left sc sc' (λ n. mentions_definitions n ds) (λ n. not (defines ds n || bytes_eq m n || is_one_of n ps) && mentions n e) h) d.4 in
+        let body : Means names' ops (bind (with_own own before.inner m d.2 (length ps)) ps) e d.3 =
+        go_tree e (bind (with_own own d.1 m d.2 (length ps)) ps) (bind (with_own own before.inner m d.2 (length ps)) ps) d.3 inside (right_none (itself gd form m at ps e) (complaint inside e) rest)
+        (in_body sc sc' ds d.0 d.1 m ps e d.2 (length ps) own (λ apart n t q. other_name form gd m at ps e apart fine n t q) before (right sc sc' (λ n. mentions_definitions n ds) (λ n. not (defines ds n || bytes_eq m n || is_one_of n ps) && mentions n e) h)) d.5 in
         one_more sc sc' ds d.0 ks d.1 inner m at ps form e d.2 d.3 before body d.6 d.7 d.8
 
 pub means_by_names : MeansByNames
 means_by_names names names' sc sc' ops t e h c =
-    (go_tree names names' ops t sc sc' e (takes_in names sc) c (h.taken, h.free), go_tree names' names ops t sc' sc e (takes_in names sc) c (sym h.taken, λ n m. sym (h.free n m)))
+    (go_tree names names' ops t sc sc' e (takes_in ops names sc) c (h.taken, h.free), go_tree names' names ops t sc' sc e (takes_in ops names sc) c (sym h.taken, λ n m. sym (h.free n m)))

@@ -1,18 +1,19 @@
 -- Each name that a fine tree mentions means something.
-use Rattle.std.proofs.Common.{◌≡◌, ◌∙◌, sym, ap, refl, subst, List, [], ◌∷◌, ◌++◌, length}
-use Rattle.std.specs.Prelude.{ℕ, Bool, true, false, not, ◌&&◌, ◌||◌, if◌then◌else◌, Option, Some, None}
+use Rattle.std.proofs.Common.{◌≡◌, ◌∙◌, refl, subst, List, length}
+use Rattle.std.specs.Prelude.{ℕ, true, false, not, ◌&&◌, ◌||◌, Option, Some, None}
 use Rattle.std.specs.Str.{bytes_eq}
 use Rattle.trace_base.specs.declared.place.Place.{Place}
 use Rattle.tla_ast.specs.Trees.{Tree, Number, Str, Truth, Builtin, Name, Call, At, Parenthesized, Junction, Prefix, Infix, Postfix, SetOf, Filter, Map, Tuple, Function, FunctionSet, Record, RecordSet, Except, Quantified, Choose, If, Case, CaseOther, Let, BoxAction, AngleAction, Fairness, Trees, NoTrees, MoreTrees, Operands, First, Next, Step, Prime, Index, Field, Steps, NoSteps, MoreSteps, Bounds, NoBounds, MoreBounds, Fields, NoFields, MoreFields, Changes, NoChanges, MoreChanges, Arms, NoArms, MoreArms, Definitions, NoDefinitions, MoreDefinitions}
-use Rattle.tla_names.specs.declared.fault.NameFault.{NameFault}
 use Rattle.tla_scopes.specs.Scopes.{at_sign}
 use Rattle.tla_scopes.specs.Mentions.{mentions, mentions_each, mentions_operands, mentions_step, mentions_steps, mentions_bounds, mentions_fields, mentions_changes, mentions_arms, mentions_definitions, is_one_of, binds, defines}
-use Rattle.tla_names.specs.Complaints.{Takes, with_name, with_names, with_bounds, with_definitions, or_else, counted, number_of, itself, complaint, complaints, operands_complaint, step_complaint, steps_complaint, bounds_complaint, fields_complaint, changes_complaint, arms_complaint, definitions_complaint}
+use Rattle.tla_names.specs.Complaints.{Taken, Takes, bound_name, with_name, with_names, with_bounds, with_definitions, with_itself, or_else, counted, number_of, itself, complaint, complaints, operands_complaint, step_complaint, steps_complaint, bounds_complaint, fields_complaint, changes_complaint, arms_complaint, definitions_complaint}
+use Rattle.tla_terms.specs.declared.operator.Own.{Own}
+use Rattle.tla_names.specs.Owning.{own_of}
 use Rattle.name_laws.specs.Laws.{IsKnown}
-use Rattle.name_laws.proofs.Bits.{left_none, right_none, or_elim, and_elim, same_name, left_false, right_false}
-use Rattle.name_laws.proofs.Hiding.{name_hidden, names_hidden, bounds_hidden, definitions_hidden}
+use Rattle.name_laws.proofs.Bits.{left_none, right_none, or_elim, and_elim, same_name, left_false, middle_false, right_false}
+use Rattle.name_laws.proofs.Hiding.{name_hidden, names_hidden, bounds_hidden, definitions_hidden, itself_hidden}
 
-counted_known : (n : List ℕ) (at : Place) (found : ℕ) (o : Option ℕ) → counted n at found o ≡ None → IsKnown o
+counted_known : (n : List ℕ) (at : Place) (found : ℕ) (o : Option Taken) → counted n at found o ≡ None → IsKnown o
 counted_known n at found None h = absurd (cc)
 counted_known n at found (Some k) h = (k, refl)
 
@@ -34,7 +35,7 @@ mutual
   complaint_known g (Infix at o os e) h n m = (or_elim (mentions_operands n os) (mentions n e) (λ m. operands_complaint_known g os (left_none (operands_complaint g os) (complaint g e) h) n m) (λ m. complaint_known g e (right_none (operands_complaint g os) (complaint g e) h) n m)) m
   complaint_known g (Postfix at e ss s) h n m = (or_elim ((mentions n e) || (mentions_steps n ss)) (mentions_step n s) (or_elim (mentions n e) (mentions_steps n ss) (λ m. complaint_known g e (left_none (complaint g e) (or_else (steps_complaint g ss) (step_complaint g s)) h) n m) (λ m. steps_complaint_known g ss (left_none (steps_complaint g ss) (step_complaint g s) (right_none (complaint g e) (or_else (steps_complaint g ss) (step_complaint g s)) h)) n m)) (λ m. step_complaint_known g s (right_none (steps_complaint g ss) (step_complaint g s) (right_none (complaint g e) (or_else (steps_complaint g ss) (step_complaint g s)) h)) n m)) m
   complaint_known g (SetOf at es) h n m = complaints_known g es h n m
-  complaint_known g (Filter at k s e) h n m = (or_elim (mentions n s) (not (bytes_eq k n) && mentions n e) (λ m. complaint_known g s (left_none (complaint g s) (complaint (with_name g k 0) e) h) n m) (and_elim (bytes_eq k n) (mentions n e) (λ q m. subst IsKnown (name_hidden g k 0 n q) (complaint_known (with_name g k 0) e (right_none (complaint g s) (complaint (with_name g k 0) e) h) n m)))) m
+  complaint_known g (Filter at k s e) h n m = (or_elim (mentions n s) (not (bytes_eq k n) && mentions n e) (λ m. complaint_known g s (left_none (complaint g s) (complaint (with_name g k bound_name) e) h) n m) (and_elim (bytes_eq k n) (mentions n e) (λ q m. subst IsKnown (name_hidden g k bound_name n q) (complaint_known (with_name g k bound_name) e (right_none (complaint g s) (complaint (with_name g k bound_name) e) h) n m)))) m
   complaint_known g (Map at e bs) h n m = (or_elim (not (binds bs n) && mentions n e) (mentions_bounds n bs) (and_elim (binds bs n) (mentions n e) (λ q m. subst IsKnown (bounds_hidden g bs n q) (complaint_known (with_bounds g bs) e (left_none (complaint (with_bounds g bs) e) (bounds_complaint g bs) h) n m))) (λ m. bounds_complaint_known g bs (right_none (complaint (with_bounds g bs) e) (bounds_complaint g bs) h) n m)) m
   complaint_known g (Tuple at es) h n m = complaints_known g es h n m
   complaint_known g (Function at bs e) h n m = (or_elim (mentions_bounds n bs) (not (binds bs n) && mentions n e) (λ m. bounds_complaint_known g bs (left_none (bounds_complaint g bs) (complaint (with_bounds g bs) e) h) n m) (and_elim (binds bs n) (mentions n e) (λ q m. subst IsKnown (bounds_hidden g bs n q) (complaint_known (with_bounds g bs) e (right_none (bounds_complaint g bs) (complaint (with_bounds g bs) e) h) n m)))) m
@@ -43,7 +44,7 @@ mutual
   complaint_known g (RecordSet at fs) h n m = fields_complaint_known g fs h n m
   complaint_known g (Except at e cs) h n m = (or_elim (mentions n e) (mentions_changes n cs) (λ m. complaint_known g e (left_none (complaint g e) (changes_complaint g cs) h) n m) (λ m. changes_complaint_known g cs (right_none (complaint g e) (changes_complaint g cs) h) n m)) m
   complaint_known g (Quantified at q bs e) h n m = (or_elim (mentions_bounds n bs) (not (binds bs n) && mentions n e) (λ m. bounds_complaint_known g bs (left_none (bounds_complaint g bs) (complaint (with_bounds g bs) e) h) n m) (and_elim (binds bs n) (mentions n e) (λ q m. subst IsKnown (bounds_hidden g bs n q) (complaint_known (with_bounds g bs) e (right_none (bounds_complaint g bs) (complaint (with_bounds g bs) e) h) n m)))) m
-  complaint_known g (Choose at k s e) h n m = (or_elim (mentions n s) (not (bytes_eq k n) && mentions n e) (λ m. complaint_known g s (left_none (complaint g s) (complaint (with_name g k 0) e) h) n m) (and_elim (bytes_eq k n) (mentions n e) (λ q m. subst IsKnown (name_hidden g k 0 n q) (complaint_known (with_name g k 0) e (right_none (complaint g s) (complaint (with_name g k 0) e) h) n m)))) m
+  complaint_known g (Choose at k s e) h n m = (or_elim (mentions n s) (not (bytes_eq k n) && mentions n e) (λ m. complaint_known g s (left_none (complaint g s) (complaint (with_name g k bound_name) e) h) n m) (and_elim (bytes_eq k n) (mentions n e) (λ q m. subst IsKnown (name_hidden g k bound_name n q) (complaint_known (with_name g k bound_name) e (right_none (complaint g s) (complaint (with_name g k bound_name) e) h) n m)))) m
   complaint_known g (If at c e f) h n m = (or_elim ((mentions n c) || (mentions n e)) (mentions n f) (or_elim (mentions n c) (mentions n e) (λ m. complaint_known g c (left_none (complaint g c) (or_else (complaint g e) (complaint g f)) h) n m) (λ m. complaint_known g e (left_none (complaint g e) (complaint g f) (right_none (complaint g c) (or_else (complaint g e) (complaint g f)) h)) n m)) (λ m. complaint_known g f (right_none (complaint g e) (complaint g f) (right_none (complaint g c) (or_else (complaint g e) (complaint g f)) h)) n m)) m
   complaint_known g (Case at arms) h n m = arms_complaint_known g arms h n m
   complaint_known g (CaseOther at arms e) h n m = (or_elim (mentions_arms n arms) (mentions n e) (λ m. arms_complaint_known g arms (left_none (arms_complaint g arms) (complaint g e) h) n m) (λ m. complaint_known g e (right_none (arms_complaint g arms) (complaint g e) h) n m)) m
@@ -79,7 +80,7 @@ mutual
 
   pub changes_complaint_known : (g : Takes) (t : Changes) → changes_complaint g t ≡ None → (n : List ℕ) → mentions_changes n t ≡ true → IsKnown (g n)
   changes_complaint_known g NoChanges h n m = absurd (cc)
-  changes_complaint_known g (MoreChanges cs path e) h n m = (or_elim ((mentions_changes n cs) || (mentions_steps n path)) (not (bytes_eq at_sign n) && mentions n e) (or_elim (mentions_changes n cs) (mentions_steps n path) (λ m. changes_complaint_known g cs (left_none (changes_complaint g cs) (or_else (steps_complaint g path) (complaint (with_name g at_sign 0) e)) h) n m) (λ m. steps_complaint_known g path (left_none (steps_complaint g path) (complaint (with_name g at_sign 0) e) (right_none (changes_complaint g cs) (or_else (steps_complaint g path) (complaint (with_name g at_sign 0) e)) h)) n m)) (and_elim (bytes_eq at_sign n) (mentions n e) (λ q m. subst IsKnown (name_hidden g at_sign 0 n q) (complaint_known (with_name g at_sign 0) e (right_none (steps_complaint g path) (complaint (with_name g at_sign 0) e) (right_none (changes_complaint g cs) (or_else (steps_complaint g path) (complaint (with_name g at_sign 0) e)) h)) n m)))) m
+  changes_complaint_known g (MoreChanges cs path e) h n m = (or_elim ((mentions_changes n cs) || (mentions_steps n path)) (not (bytes_eq at_sign n) && mentions n e) (or_elim (mentions_changes n cs) (mentions_steps n path) (λ m. changes_complaint_known g cs (left_none (changes_complaint g cs) (or_else (steps_complaint g path) (complaint (with_name g at_sign bound_name) e)) h) n m) (λ m. steps_complaint_known g path (left_none (steps_complaint g path) (complaint (with_name g at_sign bound_name) e) (right_none (changes_complaint g cs) (or_else (steps_complaint g path) (complaint (with_name g at_sign bound_name) e)) h)) n m)) (and_elim (bytes_eq at_sign n) (mentions n e) (λ q m. subst IsKnown (name_hidden g at_sign bound_name n q) (complaint_known (with_name g at_sign bound_name) e (right_none (steps_complaint g path) (complaint (with_name g at_sign bound_name) e) (right_none (changes_complaint g cs) (or_else (steps_complaint g path) (complaint (with_name g at_sign bound_name) e)) h)) n m)))) m
 
   pub arms_complaint_known : (g : Takes) (t : Arms) → arms_complaint g t ≡ None → (n : List ℕ) → mentions_arms n t ≡ true → IsKnown (g n)
   arms_complaint_known g NoArms h n m = absurd (cc)
@@ -87,4 +88,20 @@ mutual
 
   pub definitions_complaint_known : (g : Takes) (t : Definitions) → definitions_complaint g t ≡ None → (n : List ℕ) → mentions_definitions n t ≡ true → IsKnown (g n)
   definitions_complaint_known g NoDefinitions h n m = absurd (cc)
-  definitions_complaint_known g (MoreDefinitions ds k at ps form e) h n m = (or_elim (mentions_definitions n ds) (not (defines ds n || bytes_eq k n || is_one_of n ps) && mentions n e) (λ m. definitions_complaint_known g ds (left_none (definitions_complaint g ds) (or_else (itself k at ps e) (complaint (with_names (with_definitions g ds) ps) e)) h) n m) (and_elim (defines ds n || bytes_eq k n || is_one_of n ps) (mentions n e) (λ q m. subst IsKnown ((names_hidden (with_definitions g ds) ps n (right_false (defines ds n) (bytes_eq k n) (is_one_of n ps) q) ∙ definitions_hidden g ds n (left_false (defines ds n) (bytes_eq k n) (is_one_of n ps) q))) (complaint_known (with_names (with_definitions g ds) ps) e (right_none (itself k at ps e) (complaint (with_names (with_definitions g ds) ps) e) (right_none (definitions_complaint g ds) (or_else (itself k at ps e) (complaint (with_names (with_definitions g ds) ps) e)) h)) n m)))) m
+  definitions_complaint_known g (MoreDefinitions ds k at ps form e) h n m =
+      let gd : Takes = with_definitions g ds in
+      let own : Own = own_of form k ps e in
+      let inner : Takes = with_names (with_itself own gd k (length ps)) ps in
+      let rest : or_else (itself gd form k at ps e) (complaint inner e) ≡ None = right_none (definitions_complaint g ds) (or_else (itself gd form k at ps e) (complaint inner e)) h in
+      or_elim (mentions_definitions n ds) (not (defines ds n || bytes_eq k n || is_one_of n ps) && mentions n e)
+      (λ m. definitions_complaint_known g ds (left_none (definitions_complaint g ds) (or_else (itself gd form k at ps e) (complaint inner e)) h) n m)
+      (and_elim (defines ds n || bytes_eq k n || is_one_of n ps) (mentions n e) (λ q m.
+      subst IsKnown
+      (names_hidden (with_itself own gd k (length ps)) ps n (right_false (defines ds n) (bytes_eq k n) (is_one_of n ps) q) ∙ itself_hidden own gd k (length ps) n (middle_false (defines ds n) (bytes_eq k n) (is_one_of n ps) q) ∙ definitions_hidden g ds n (left_false (defines ds n) (bytes_eq k n) (is_one_of n ps) q))
+      (complaint_known inner e (right_none (itself gd form k at ps e) (complaint inner e) rest) n m)))
+      m
+
+-- a name that the body of a definition mentions is known around it, but for its own and its parameters
+pub body_known : (own : Own) (g : Takes) (k : List ℕ) (c : ℕ) (ps : List (List ℕ)) (e : Tree) → complaint (with_names (with_itself own g k c) ps) e ≡ None → (n : List ℕ) → mentions n e ≡ true → is_one_of n ps ≡ false → bytes_eq k n ≡ false → IsKnown (g n)
+body_known own g k c ps e h n m p q =
+    subst IsKnown (names_hidden (with_itself own g k c) ps n p ∙ itself_hidden own g k c n q) (complaint_known (with_names (with_itself own g k c) ps) e h n m)

@@ -1,5 +1,5 @@
 -- What a tree means among some names it means among more.
-use Rattle.std.proofs.Common.{◌≡◌, ◌∙◌, sym, ap, refl, List, [], ◌∷◌, ◌++◌, length}
+use Rattle.std.proofs.Common.{◌≡◌, List, [], ◌∷◌, ◌++◌, length}
 use Rattle.std.specs.Prelude.{ℕ, Option, Some, None}
 use Rattle.tla_ast.specs.Trees.{Tree, Number, Str, Truth, Builtin, Name, Call, At, Parenthesized, Junction, Prefix, Infix, Postfix, SetOf, Filter, Map, Tuple, Function, FunctionSet, Record, RecordSet, Except, Quantified, Choose, If, Case, CaseOther, Let, BoxAction, AngleAction, Fairness, Trees, NoTrees, MoreTrees, Operands, First, Next, Step, Prime, Index, Field, Steps, NoSteps, MoreSteps, Bounds, NoBounds, MoreBounds, Fields, NoFields, MoreFields, Changes, NoChanges, MoreChanges, Arms, NoArms, MoreArms, Definitions, NoDefinitions, MoreDefinitions}
 use Rattle.tla_terms.specs.declared.operator.Operator.{Operator}
@@ -9,8 +9,9 @@ use Rattle.tla_scopes.specs.declared.scope.Local.{Local}
 use Rattle.tla_scopes.specs.declared.scope.Local.TheVariants.{Bound}
 use Rattle.tla_scopes.specs.declared.meant.Named.{Named}
 use Rattle.tla_scopes.specs.declared.meant.Entry.{Entry}
-use Rattle.tla_scopes.specs.Scopes.{later, among, bound, bind, bind_bounds, meaning_in, at_sign}
-use Rattle.tla_names.specs.Means.{Uses, Means, MeansEach, MeansOperands, MeansStep, MeansSteps, MeansBounds, MeansFields, MeansChanges, MeansArms, Defines}
+use Rattle.tla_scopes.specs.Scopes.{later, among, bound, bind, bind_bounds, at_sign}
+use Rattle.tla_names.specs.Means.{Uses, Means, MeansEach, MeansOperands, MeansStep, MeansSteps, MeansBounds, MeansFields, MeansChanges, MeansArms, Defines, with_own}
+use Rattle.tla_names.specs.Owning.{own_of}
 use Rattle.name_laws.specs.Laws.{HasMore}
 
 later_more : (o o' b : Option Named) (w : Named) → ((x : Named) → o ≡ Some x → o' ≡ Some x) → later o b ≡ Some w → later o' b ≡ Some w
@@ -89,4 +90,4 @@ module _ (names names' : List Entry) (more : HasMore names names') (ops : List O
 
     pub defines_more : (sc : List Local) (ds : Definitions) (ks : List ℕ) (inner : List Local) → Defines names ops sc ds ks inner → Defines names' ops sc ds ks inner
     defines_more sc NoDefinitions ks inner h = h
-    defines_more sc (MoreDefinitions ds n at ps form e) ks inner h = (h.0, h.1, h.2, h.3, defines_more sc ds h.0 h.1 h.4, means_more (bind h.1 ps) e h.3 h.5, h.6, h.7, h.8)
+    defines_more sc (MoreDefinitions ds n at ps form e) ks inner h = (h.0, h.1, h.2, h.3, defines_more sc ds h.0 h.1 h.4, means_more (bind (with_own (own_of form n ps e) h.1 n h.2 (length ps)) ps) e h.3 h.5, h.6, h.7, h.8)

@@ -8,17 +8,17 @@ use Rattle.tla_scopes.specs.declared.meant.Entry.{Entry}
 use Rattle.tla_scopes.specs.declared.meant.Named.{Named}
 use Rattle.tla_scopes.specs.Mentions.{mentions}
 use Rattle.tla_scopes.specs.Scopes.{among, meaning_in, slots}
-use Rattle.tla_names.specs.Complaints.{Takes, complaint}
+use Rattle.tla_names.specs.Complaints.{Taken, Takes, complaint}
 use Rattle.tla_names.specs.Means.{Means}
 use Rattle.tla_names.specs.Outcomes.{takes_in}
 
--- each name that means something goes on to, with as many arguments
+-- each name that means something goes on to, with as many arguments and the same level
 abbrev pub Keeps : Takes → Takes → Type 0
-Keeps g g' = (n : List ℕ) (k : ℕ) → g n ≡ Some k → g' n ≡ Some k
+Keeps g g' = (n : List ℕ) (k : Taken) → g n ≡ Some k → g' n ≡ Some k
 
 -- the name means something
-abbrev pub IsKnown : Option ℕ → Type 0
-IsKnown o = (k : ℕ) × (o ≡ Some k)
+abbrev pub IsKnown : Option Taken → Type 0
+IsKnown o = (k : Taken) × (o ≡ Some k)
 
 -- each name of the one list means the same in the other
 abbrev pub HasMore : List Entry → List Entry → Type 0
@@ -50,4 +50,4 @@ pub record Agree (t : Tree) (names names' : List Entry) (scope scope' : List Loc
 -- what a tree means depends on what the names mean that are free in it, where nothing is wrong with its names
 abbrev pub MeansByNames : Type 0
 MeansByNames =
-    (names names' : List Entry) (scope scope' : List Local) (ops : List Operator) (t : Tree) (e : Term) → Agree t names names' scope scope' → complaint (takes_in names scope) t ≡ None → (Means names ops scope t e ↔ Means names' ops scope' t e)
+    (names names' : List Entry) (scope scope' : List Local) (ops : List Operator) (t : Tree) (e : Term) → Agree t names names' scope scope' → complaint (takes_in ops names scope) t ≡ None → (Means names ops scope t e ↔ Means names' ops scope' t e)

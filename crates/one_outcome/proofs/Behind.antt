@@ -44,11 +44,11 @@ module _ (p : Program) (c : Config) where
           let d : (d : Definition) × (slice_get (definitions_in p.units) i ≡ Some d) = there (definitions_in p.units) i lt in
           let x : IsTabled p c a.values a.number a.ops i d.0 = a.is.table.definitions i d.0 d.1 in
           let y : IsTabled p c b.values b.number b.ops i d.0 = b.is.table.definitions i d.0 d.1 in
-          let is : operator_for p a.number a.ops n ≡ Some (unit_operator d.0 x.body) = ap (row_named a.number a.ops) q ∙ ap (row_of a.ops) x.numbered ∙ x.stands in
-          let at : operator_for p b.number b.ops n ≡ Some (unit_operator d.0 y.body) = ap (row_named b.number b.ops) q ∙ ap (row_of b.ops) y.numbered ∙ y.stands in
-          let same : x.body ≡ e = body_one p a.number a.ops n x.body e (record { operator = unit_operator d.0 x.body; is = is; body_is = refl }) h in
+          let is : operator_for p a.number a.ops n ≡ Some (unit_operator d.0 x.own x.body) = ap (row_named a.number a.ops) q ∙ ap (row_of a.ops) x.numbered ∙ x.stands in
+          let at : operator_for p b.number b.ops n ≡ Some (unit_operator d.0 y.own y.body) = ap (row_named b.number b.ops) q ∙ ap (row_of b.ops) y.numbered ∙ y.stands in
+          let same : x.body ≡ e = body_one p a.number a.ops n x.body e (record { operator = unit_operator d.0 x.own x.body; is = is; body_is = refl }) h in
           let alike : Alike Same a.ops b.ops x.body y.body = there_same p c Same itself a b are d.0.params d.0.body x.body y.body x.means y.means in
-          (y.body, record { operator = unit_operator d.0 y.body; is = at; body_is = refl }, subst (λ (z : Term). Alike Same a.ops b.ops z y.body) same alike)
+          (y.body, record { operator = unit_operator d.0 y.own y.body; is = at; body_is = refl }, subst (λ (z : Term). Alike Same a.ops b.ops z y.body) same alike)
 
   pub bodies_alike : (Same : Val → Val → Type 0) → ((v : Val) → Same v v) → (a b : Side p c) → ValuesAre Same p c a.values b.values → (n : List ℕ) (e f : Term) → HasBody p a.number a.ops n e → HasBody p b.number b.ops n f → Alike Same a.ops b.ops e f
   bodies_alike Same itself a b are n e f g h =

@@ -8,11 +8,12 @@ use Rattle.tla_ast.specs.declared.module.Program.{Program}
 use Rattle.tla_ast.specs.declared.module.Unit.{Unit as ModuleUnit}
 use Rattle.tla_ast.specs.declared.module.Unit.TheVariants.{Variables, Constants, Recursive, Define, Assume, Passed}
 use Rattle.tla_names.specs.declared.fault.NameFault.{NameFault}
-use Rattle.tla_names.specs.Complaints.{complaint, with_names}
-use Rattle.tla_program.specs.InUnits.{constants_in}
-use Rattle.tla_program.specs.Uses.{UsesItself}
-use Rattle.tla_tables.specs.NameFaults.{UnitFault, IsNameFaultAt, IsFirstNameFault, definitions_before, takes_in_program}
+use Rattle.tla_names.specs.Complaints.{Takes, complaint, with_names}
+use Rattle.tla_program.specs.InUnits.{constants_in, definitions_in}
+use Rattle.tla_program.specs.Recursion.{MeetsRecursion}
+use Rattle.tla_tables.specs.NameFaults.{UnitFault, IsNameFaultAt, IsFirstNameFault, declared_complaints, definitions_before}
 use Rattle.tla_tables.specs.Values.{HasNoValue, IsFirstWithoutValue}
+use Rattle.tla_tables.proofs.UnitPlaces.{known_is}
 
 -- two numbers of which neither is below the other
 pub neither_below : (i j : ℕ) → (i < j → ⊥) → (j < i → ⊥) → i ≡ j
@@ -33,18 +34,19 @@ either_fault p c i u r f g o (inl x) (inr y) = absurd (y.0 x.0)
 either_fault p c i u r f g o (inr x) (inl y) = absurd (x.0 y.0)
 either_fault p c i u r f g o (inr x) (inr y) = some_one o f g x.1 y.1
 
-unit_fault_one : (p : Program) (c : Config) (i : ℕ) (u : ModuleUnit) (f g : NameFault) → UnitFault p c i u f → UnitFault p c i u g → f ≡ g
-unit_fault_one p c i (Define d) f g x y = either_fault p c i (UsesItself p c i) _ f g (complaint (with_names (takes_in_program p c) d.params) d.body) x y
-unit_fault_one p c i (Assume e) f g x y = some_one (complaint (takes_in_program p c) e) f g x y
-unit_fault_one p c i (Variables ds) f g x y = absurd x
-unit_fault_one p c i (Constants ds) f g x y = absurd x
-unit_fault_one p c i (Recursive rs) f g x y = absurd x
-unit_fault_one p c i Passed f g x y = absurd x
+unit_fault_one : (p : Program) (c : Config) (k : Takes) (i : ℕ) (u : ModuleUnit) (f g : NameFault) → UnitFault p c k i u f → UnitFault p c k i u g → f ≡ g
+unit_fault_one p c k i (Define d) f g x y = either_fault p c i (MeetsRecursion p c i) _ f g (complaint (with_names k d.params) d.body) x y
+unit_fault_one p c k i (Assume e) f g x y = some_one (complaint k e) f g x y
+unit_fault_one p c k i (Variables ds) f g x y = absurd x
+unit_fault_one p c k i (Constants ds) f g x y = absurd x
+unit_fault_one p c k i (Recursive rs) f g x y = some_one (declared_complaints (definitions_in p.units) rs) f g x y
+unit_fault_one p c k i Passed f g x y = absurd x
 
 name_fault_at_one : (p : Program) (c : Config) (k : ℕ) (f g : NameFault) → IsNameFaultAt p c k f → IsNameFaultAt p c k g → f ≡ g
 name_fault_at_one p c k f g x y =
     let same : x.unit ≡ y.unit = some_one (slice_get p.units k) x.unit y.unit x.stands y.stands in
-    unit_fault_one p c (definitions_before p.units k) y.unit f g (subst (λ (u : ModuleUnit). UnitFault p c (definitions_before p.units k) u f) same x.wrong) y.wrong
+    let known : x.known ≡ y.known = known_is p c x.are.0 x.known x.are.1 x.are ∙ sym (known_is p c x.are.0 y.known x.are.1 y.are) in
+    unit_fault_one p c y.known (definitions_before p.units k) y.unit f g (subst (λ (u : ModuleUnit). UnitFault p c y.known (definitions_before p.units k) u f) same (subst (λ (t : Takes). UnitFault p c t (definitions_before p.units k) x.unit f) known x.wrong)) y.wrong
 
 pub name_fault_one : (p : Program) (c : Config) (f g : NameFault) → IsFirstNameFault p c f → IsFirstNameFault p c g → f ≡ g
 name_fault_one p c f g x y =

@@ -54,9 +54,9 @@ module _ (laws : AlikeTellSame AreAny) (p : Program) (c : Config) where
       let x : IsTabled p c a.values a.number a.ops i d = a.is.table.definitions i d at in
       let y : IsTabled p c b.values b.number b.ops i d = b.is.table.definitions i d at in
       let row : h.row ≡ x.row = some_one (a.number i) h.row x.row h.numbered x.numbered in
-      let op : h.operator ≡ unit_operator d x.body = some_one (slice_get a.ops x.row) h.operator (unit_operator d x.body) (ap (slice_get a.ops) (sym row) ∙ h.stands) x.stands in
+      let op : h.operator ≡ unit_operator d x.own x.body = some_one (slice_get a.ops x.row) h.operator (unit_operator d x.own x.body) (ap (slice_get a.ops) (sym row) ∙ h.stands) x.stands in
       let wrong : IsFault a.ops x.body f = subst (λ (o : Operator). IsFault a.ops o.body f) op h.wrong in
-      record { row = y.row; operator = unit_operator d y.body; numbered = y.numbered; stands = y.stands; wrong = (laws a.ops b.ops x.body y.body (there_shaped p c a b d.params d.body x.body y.body x.means y.means)).fault f wrong }
+      record { row = y.row; operator = unit_operator d y.own y.body; numbered = y.numbered; stands = y.stands; wrong = (laws a.ops b.ops x.body y.body (there_shaped p c a b d.params d.body x.body y.body x.means y.means)).fault f wrong }
 
   assumed_fault : (a b : Side p c) (j : ℕ) (t : Tree) (f : LevelFault) → slice_get (assumptions_in p.units) j ≡ Some t → IsAssumedFault a.ops a.assumes j f → IsAssumedFault b.ops b.assumes j f
   assumed_fault a b j t f at h =

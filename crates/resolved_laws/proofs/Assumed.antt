@@ -23,6 +23,8 @@ use Rattle.term_levels.specs.Faults.{IsAssumptionFault, in_term, no_constant}
 use Rattle.tla_scopes.specs.declared.scope.Local.TheVariants.{Defined}
 use Rattle.tla_program.specs.InUnits.{assumptions_in, variables_in}
 use Rattle.tla_program.specs.Names.{Numbers, names_declared, program_meaning}
+use Rattle.tla_program.specs.Recursion.{AreLevelsOf}
+use Rattle.tla_uses.proofs.ProgramLevels.{levels_exist}
 use Rattle.tla_tables.specs.NameFaults.{HasFineNames, takes_in_program}
 use Rattle.tla_tables.specs.Tables.{MeansThere}
 use Rattle.tla_levels.specs.UnitLevels.{IsAssumedFault, assumptions_before}
@@ -54,12 +56,12 @@ assumed_at (Constants ds ∷ us) j t e = (let r : AssumedAt us j t = assumed_at 
 assumed_at (Recursive rs ∷ us) j t e = (let r : AssumedAt us j t = assumed_at us j t e in record { place = suc r.place; stands = r.stands; before = r.before; formed = λ h. r.formed h.1 })
 assumed_at (Passed ∷ us) j t e = (let r : AssumedAt us j t = assumed_at us j t e in record { place = suc r.place; stands = r.stands; before = r.before; formed = λ h. r.formed h.1 })
 
-fine_assumption : (p : Program) (c : Config) → HasFineNames p c → (j : ℕ) (t : Tree) → AssumedAt p.units j t → complaint (takes_in_program p c) t ≡ None
-fine_assumption p c fine j t r = one (complaint (takes_in_program p c) t) refl
+fine_assumption : (p : Program) (c : Config) (bs : List Bool) → AreLevelsOf p c bs → HasFineNames p c → (j : ℕ) (t : Tree) → AssumedAt p.units j t → complaint (takes_in_program p c bs) t ≡ None
+fine_assumption p c bs l fine j t r = one (complaint (takes_in_program p c bs) t) refl
   where
-    one : (o : Option NameFault) → complaint (takes_in_program p c) t ≡ o → o ≡ None
+    one : (o : Option NameFault) → complaint (takes_in_program p c bs) t ≡ o → o ≡ None
     one None q = refl
-    one (Some f) q = absurd (fine r.place f (record { unit = Assume t; stands = r.stands; wrong = q }))
+    one (Some f) q = absurd (fine r.place f (record { unit = Assume t; stands = r.stands; known = takes_in_program p c bs; are = (bs, l, refl); wrong = q }))
 
 constant : (ops : List Operator) (e : Term) → ((f : LevelFault) → IsAssumptionFault ops e f → ⊥) → IsAtMost Constant e
 constant ops (Placed at l m) h = one (is_above l Constant) refl
@@ -84,12 +86,13 @@ module _ (p : Program) (c : Config) (values : List Val) (number : Numbers) (ops 
       let x : (t : Tree) × (slice_get (assumptions_in p.units) h.0 ≡ Some t) = some_item (assumptions_in p.units) h.0 (omega (arith, h.1, many)) in
       let a : AssumedAt p.units h.0 x.0 = assumed_at p.units h.0 x.0 x.1 in
       let m : MeansThere p c values number ops [] x.0 e = g.levelled.named.assumed.each h.0 x.0 e x.1 is in
+      let l : (bs : List Bool) × AreLevelsOf p c bs = levels_exist p c in
       record {
         index = h.0;
         tree = x.0;
         is = is;
         assumed = a;
-        term = trees_have_terms (program_meaning p c values number) ops m.names (takes_in_program p c) [] x.0 e m.are (takes_same p c values number ops assumes g.levelled.named.table) (a.formed g.well.formed) (fine_assumption p c g.levelled.named.fine h.0 x.0 a) m.means;
+        term = trees_have_terms (program_meaning p c values number) ops m.names (takes_in_program p c l.0) [] x.0 e m.are (takes_same p c values number ops assumes l.0 l.1 g.levelled.named.table) (a.formed g.well.formed) (fine_assumption p c l.0 l.1 g.levelled.named.fine h.0 x.0 a) m.means;
       }
 
   no_fault : Ready p c values number ops assumes → (e : Term) → Meant e → (f : LevelFault) → IsAssumptionFault ops e f → ⊥

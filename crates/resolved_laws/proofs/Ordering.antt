@@ -10,6 +10,7 @@ use Rattle.tla_ast.specs.declared.module.Declared.{Declared}
 use Rattle.tla_ast.specs.declared.module.Program.{Program}
 use Rattle.tla_terms.specs.declared.level.Level.TheVariants.{State, Action}
 use Rattle.tla_terms.specs.declared.operator.Operator.{Operator}
+use Rattle.tla_terms.specs.declared.operator.Own.{Own}
 use Rattle.tla_terms.specs.declared.spec.Spec.{Spec}
 use Rattle.tla_terms.specs.Lists.{terms_list}
 use Rattle.tla_terms.specs.Terms.{Term}
@@ -65,22 +66,22 @@ within : (known : NameMeanings) (ops : List Operator) (k : ℕ) → HasMeaning k
 within known ops _ (meaning k o sc t is level taken fit s h) = slice_get_within ops k o is
 
 module _ (p : Program) (c : Config) (values : List Val) (number : Numbers) (ops : List Operator) (assumes : List Term) where
-  row_of : IsTable p c values number ops → (i k : ℕ) (d : Definition) (o : Operator) → slice_get (definitions_in p.units) i ≡ Some d → number i ≡ Some k → slice_get ops k ≡ Some o → (body : Term) × (unit_operator d body ≡ o)
+  row_of : IsTable p c values number ops → (i k : ℕ) (d : Definition) (o : Operator) → slice_get (definitions_in p.units) i ≡ Some d → number i ≡ Some k → slice_get ops k ≡ Some o → (own : Own) × (body : Term) × (unit_operator d own body ≡ o)
   row_of table i k d o at n e =
       let r : IsTabled p c values number ops i d = table.definitions i d at in
       let both : Some r.row ≡ Some k = sym r.numbered ∙ n in
       let row : r.row ≡ k = cc in
-      let rows : Some (unit_operator d r.body) ≡ Some o = sym r.stands ∙ ap (slice_get ops) row ∙ e in
-      let same : unit_operator d r.body ≡ o = cc in
-      (r.body, same)
+      let rows : Some (unit_operator d r.own r.body) ≡ Some o = sym r.stands ∙ ap (slice_get ops) row ∙ e in
+      let same : unit_operator d r.own r.body ≡ o = cc in
+      (r.own, r.body, same)
 
   row_name : IsTable p c values number ops → (i k : ℕ) (d : Definition) (o : Operator) → slice_get (definitions_in p.units) i ≡ Some d → number i ≡ Some k → slice_get ops k ≡ Some o → o.name ≡ d.name
-  row_name table i k d o at n e = sym (ap (λ (x : Operator). x.name) (row_of table i k d o at n e).1)
+  row_name table i k d o at n e = sym (ap (λ (x : Operator). x.name) (row_of table i k d o at n e).2)
 
   outermost : IsTable p c values number ops → (k : ℕ) (o : Operator) → slice_get ops k ≡ Some o → o.name ≢ [] → o.outer ≡ 0
   outermost table k o e named =
       let x : (i : ℕ) × (d : Definition) × (slice_get (definitions_in p.units) i ≡ Some d) × (number i ≡ Some k) = table.named k o e named in
-      sym (ap (λ (y : Operator). y.outer) (row_of table x.0 k x.1 o x.2 x.3 e).1)
+      sym (ap (λ (y : Operator). y.outer) (row_of table x.0 k x.1 o x.2 x.3 e).2)
 
   operators_differ : IsWellFormed p → IsTable p c values number ops → (j k : ℕ) (o q : Operator) → slice_get ops j ≡ Some o → slice_get ops k ≡ Some q → o.name ≢ [] → o.name ≡ q.name → j ≡ k
   operators_differ well table j k o q a b named same =

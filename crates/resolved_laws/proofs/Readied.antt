@@ -1,6 +1,6 @@
 -- The definitions of a program whose names and levels are fine have meanings, with which nothing is wrong.
 use Rattle.std.proofs.Common.{◌≡◌, ◌∙◌, sym, ap, refl, subst, ℕ, zero, suc, List, [], ◌∷◌, length, ◌<◌, ◌+◌, inl, inr, arith}
-use Rattle.std.specs.Prelude.{Some, option_map, slice_get}
+use Rattle.std.specs.Prelude.{Bool, Some, option_map, slice_get}
 use Rattle.std.proofs.lemmas.Option.{slice_get_cases}
 use Rattle.tla_values.specs.Data.{Val}
 use Rattle.tla_ast.specs.declared.config.Config.{Config}
@@ -12,14 +12,16 @@ use Rattle.tla_terms.specs.declared.operator.Operator.{Operator}
 use Rattle.tla_terms.specs.Terms.{Term, level_of}
 use Rattle.term_parts.specs.Slots.{Mentions}
 use Rattle.tla_scopes.specs.Scopes.{bind, named}
-use Rattle.tla_names.specs.Outcomes.{needed_by}
+use Rattle.tla_names.specs.Outcomes.{taken_by}
 use Rattle.tla_program.specs.InUnits.{definitions_in, variables_in}
 use Rattle.tla_program.specs.Names.{Numbers, declared_meaning, definition_meant, names_declared, program_meaning}
+use Rattle.tla_program.specs.Recursion.{AreLevelsOf}
 use Rattle.tla_program.proofs.NameLemmas.{by_index_is}
 use Rattle.tla_uses.proofs.Meanings.{meant_within}
 use Rattle.tla_tables.specs.NameFaults.{takes_in_program}
 use Rattle.tla_tables.specs.Tables.{IsTable, IsTabled, unit_operator}
-use Rattle.tla_tables.proofs.ProgramTakes.{needed_here, numbered_needed}
+use Rattle.tla_uses.proofs.ProgramLevels.{levels_exist}
+use Rattle.tla_tables.proofs.ProgramTakes.{numbered_taken, taken_here}
 use Rattle.tla_tables.proofs.UnitPlaces.{DefinedAt, defined_at, fine_definition}
 use Rattle.tla_levels.specs.Resolved.{IsLevelled}
 use Rattle.tla_levels.specs.UnitLevels.{IsBodyFault}
@@ -51,10 +53,10 @@ formed_at (Passed ∷ us) i d h e = formed_at us i d h.1 e
 
 module _ (p : Program) (c : Config) (values : List Val) (number : Numbers) (ops : List Operator) (assumes : List Term) where
   -- each definition that a name means has a number
-  pub takes_same : IsTable p c values number ops → (n : List ℕ) → option_map needed_by (program_meaning p c values number n) ≡ takes_in_program p c n
-  takes_same table n =
-      numbered_needed number (declared_meaning p c values n) (λ needed j e. has j (meant_within p c values n (named needed (definition_meant j)) (by_index_is (declared_meaning p c values n) ∙ e)))
-      ∙ needed_here p c values n
+  pub takes_same : (bs : List Bool) → AreLevelsOf p c bs → IsTable p c values number ops → (n : List ℕ) → option_map (taken_by ops) (program_meaning p c values number n) ≡ takes_in_program p c bs n
+  takes_same bs l table n =
+      numbered_taken bs number ops (table.leveled bs l) (declared_meaning p c values n) (λ needed j e. has j (meant_within p c values n (named needed (definition_meant j)) (by_index_is (declared_meaning p c values n) ∙ e)))
+      ∙ taken_here bs p c values n
     where
       has : (j : ℕ) → j < length (definitions_in p.units) → (k : ℕ) × (number j ≡ Some k)
       has j lt = elim (slice_get_cases (definitions_in p.units) j).1 [
@@ -64,12 +66,13 @@ module _ (p : Program) (c : Config) (values : List Val) (number : Numbers) (ops 
 
   pub body_term : Ready p c values number ops assumes → (i : ℕ) (d : Definition) → slice_get (definitions_in p.units) i ≡ Some d → (r : IsTabled p c values number ops i d) → HasTerm (program_meaning p c values number) ops (bind [] d.params) d.body r.body
   body_term g i d e r =
-      trees_have_terms (program_meaning p c values number) ops r.means.names (takes_in_program p c) d.params d.body r.body r.means.are (takes_same g.levelled.named.table) (formed_at p.units i d g.well.formed e) (fine_definition p c g.levelled.named.fine i d e) r.means.means
+      let l : (bs : List Bool) × AreLevelsOf p c bs = levels_exist p c in
+      trees_have_terms (program_meaning p c values number) ops r.means.names (takes_in_program p c l.0) d.params d.body r.body r.means.are (takes_same l.0 l.1 g.levelled.named.table) (formed_at p.units i d g.well.formed e) (fine_definition p c l.0 l.1 g.levelled.named.fine i d e) r.means.means
 
   pub body_fine : Ready p c values number ops assumes → (i : ℕ) (d : Definition) → slice_get (definitions_in p.units) i ≡ Some d → (r : IsTabled p c values number ops i d) → HasNoFault ops r.body
   body_fine g i d e r f x =
       let a : DefinedAt p.units i d = defined_at p.units i d e in
-      let b : IsBodyFault number ops i f = record { row = r.row; operator = unit_operator d r.body; numbered = r.numbered; stands = r.stands; wrong = x } in
+      let b : IsBodyFault number ops i f = record { row = r.row; operator = unit_operator d r.own r.body; numbered = r.numbered; stands = r.stands; wrong = x } in
       g.levelled.levels a.place f (record { unit = Define d; stands = a.stands; wrong = subst (λ (j : ℕ). IsBodyFault number ops j f) (sym a.before) b })
 
   -- a definition has a meaning, with which nothing is wrong
@@ -79,8 +82,8 @@ module _ (p : Program) (c : Config) (values : List Val) (number : Numbers) (ops 
 
   tabled_good : Ready p c values number ops assumes → (i : ℕ) (d : Definition) → slice_get (definitions_in p.units) i ≡ Some d → (r : IsTabled p c values number ops i d) → Good r.row
   tabled_good g i d e r = record {
-    meant = definitions_have_meaning (program_meaning p c values number) ops r.row (unit_operator d r.body) d.params d.body r.stands refl refl refl (body_term g i d e r);
-    faultless = definitions_are_faultless (program_meaning p c values number) ops r.row (unit_operator d r.body) d.params d.body r.means.names r.stands (body_fine g i d e r) r.means.are r.means.means;
+    meant = definitions_have_meaning (program_meaning p c values number) ops r.row (unit_operator d r.own r.body) d.params d.body r.stands refl refl refl (body_term g i d e r);
+    faultless = definitions_are_faultless (program_meaning p c values number) ops r.row (unit_operator d r.own r.body) d.params d.body r.means.names r.stands (body_fine g i d e r) r.means.are r.means.means;
   }
 
   pub numbered_good : Ready p c values number ops assumes → (k : ℕ) → IsNumbered p number k → Good k
@@ -108,6 +111,6 @@ module _ (p : Program) (c : Config) (values : List Val) (number : Numbers) (ops 
       let r : IsTabled p c values number ops h.index h.definition = g.levelled.named.table.definitions h.index h.definition h.stands in
       let both : Some r.row ≡ Some k = sym r.numbered ∙ h.numbered in
       let same : r.row ≡ k = cc in
-      let there : slice_get ops k ≡ Some (unit_operator h.definition r.body) = ap (slice_get ops) (sym same) ∙ r.stands in
+      let there : slice_get ops k ≡ Some (unit_operator h.definition r.own r.body) = ap (slice_get ops) (sym same) ∙ r.stands in
       let q = meant_are_in_order (program_meaning p c values number) (length (names_declared (variables_in p.units))) ops k o (names_fit p c values number ops g.levelled.named.table) (numbered_good g k h).meant e in
-      (record { rows = q.0; bounded = same_row (λ (x : Operator). HasNoFault ops x.body) ops k (unit_operator h.definition r.body) o there e (body_fine g h.index h.definition h.stands r) }, q.1)
+      (record { rows = q.0; bounded = same_row (λ (x : Operator). HasNoFault ops x.body) ops k (unit_operator h.definition r.own r.body) o there e (body_fine g h.index h.definition h.stands r) }, q.1)

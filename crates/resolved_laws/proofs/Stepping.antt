@@ -10,6 +10,7 @@ use Rattle.tla_terms.specs.declared.ids.DefId.{DefId}
 use Rattle.tla_terms.specs.declared.level.Level.{Level}
 use Rattle.tla_terms.specs.declared.level.Level.TheVariants.{State, Action}
 use Rattle.tla_terms.specs.declared.operator.Operator.{Operator}
+use Rattle.tla_terms.specs.declared.operator.Own.{Own}
 use Rattle.tla_terms.specs.Terms.{Term, level_of}
 use Rattle.term_parts.specs.Limits.{is_above}
 use Rattle.term_parts.specs.Slots.{Mentions}
@@ -34,13 +35,14 @@ pub record IsFound (p : Program) (number : Numbers) (ops : List Operator) (n : L
   pub index : ℕ
   pub definition : Definition
   pub row : ℕ
+  pub own : Own
   pub body : Term
   pub named : operator_named p n ≡ Some definition
   pub at : definition_index p n ≡ Some index
   pub stands : slice_get (definitions_in p.units) index ≡ Some definition
   pub alone : length definition.params ≡ 0
   pub numbered : number index ≡ Some row
-  pub is : slice_get ops row ≡ Some (unit_operator definition body)
+  pub is : slice_get ops row ≡ Some (unit_operator definition own body)
 
 there : (n : List ℕ) (d : Option Definition) → unless_there n d ≡ None → (x : Definition) × (d ≡ Some x)
 there n (Some d) e = (d, refl)
@@ -67,7 +69,7 @@ found p c values number ops n table e =
     let b : (definition_of p (definition_index p n) ≡ Some a.0) × (length a.0.params ≡ 0) = was_alone (definition_of p (definition_index p n)) a.0 a.1 in
     let k : (i : ℕ) × (definition_index p n ≡ Some i) × (slice_get (definitions_in p.units) i ≡ Some a.0) = indexed p (definition_index p n) a.0 b.0 in
     let r : IsTabled p c values number ops k.0 a.0 = table.definitions k.0 a.0 k.2 in
-    record { index = k.0; definition = a.0; row = r.row; body = r.body; named = a.1; at = k.1; stands = k.2; alone = b.1; numbered = r.numbered; is = r.stands }
+    record { index = k.0; definition = a.0; row = r.row; own = r.own; body = r.body; named = a.1; at = k.1; stands = k.2; alone = b.1; numbered = r.numbered; is = r.stands }
 
 not_above : (found limit : Level) (d : Definition) → above found limit (Some d) ≡ None → is_above found limit ≡ false
 not_above found limit d e = one (is_above found limit) e
@@ -77,7 +79,7 @@ not_above found limit d e = one (is_above found limit) e
     one false q = refl
 
 module _ (p : Program) (c : Config) (values : List Val) (number : Numbers) (ops : List Operator) (assumes : List Term) where
-  pub found_is : (n : List ℕ) (f : IsFound p number ops n) → operator_for p number ops n ≡ Some (unit_operator f.definition f.body)
+  pub found_is : (n : List ℕ) (f : IsFound p number ops n) → operator_for p number ops n ≡ Some (unit_operator f.definition f.own f.body)
   found_is n f = ap (row_named number ops) f.at ∙ ap (row_of ops) f.numbered ∙ f.is
 
   pub found_numbered : (n : List ℕ) (f : IsFound p number ops n) → IsNumbered p number f.row
@@ -85,8 +87,8 @@ module _ (p : Program) (c : Config) (values : List Val) (number : Numbers) (ops 
 
   body_of : (n : List ℕ) (f : IsFound p number ops n) (body : Term) → HasBody p number ops n body → f.body ≡ body
   body_of n f body h =
-      let both : Some (unit_operator f.definition f.body) ≡ Some h.operator = sym (found_is n f) ∙ h.is in
-      let same : unit_operator f.definition f.body ≡ h.operator = cc in
+      let both : Some (unit_operator f.definition f.own f.body) ≡ Some h.operator = sym (found_is n f) ∙ h.is in
+      let same : unit_operator f.definition f.own f.body ≡ h.operator = cc in
       ap (λ (o : Operator). o.body) same ∙ h.body_is
 
   pub level_found : (n : List ℕ) (limit : Level) (f : IsFound p number ops n) → too_high p number ops limit (Some n) ≡ None → is_above (level_of f.body) limit ≡ false
@@ -98,11 +100,11 @@ module _ (p : Program) (c : Config) (values : List Val) (number : Numbers) (ops 
   term_found : Ready p c values number ops assumes → (n : List ℕ) (f : IsFound p number ops n) → IsTerm (length (names_declared (variables_in p.units))) ops 0 f.body
   term_found g n f =
       let none : 0 + length f.definition.params ≡ 0 = omega (arith, f.alone) in
-      subst (λ (k : ℕ). IsTerm (length (names_declared (variables_in p.units))) ops k f.body) none (body_in_order p c values number ops assumes g f.row (unit_operator f.definition f.body) (found_numbered n f) f.is).0
+      subst (λ (k : ℕ). IsTerm (length (names_declared (variables_in p.units))) ops k f.body) none (body_in_order p c values number ops assumes g f.row (unit_operator f.definition f.own f.body) (found_numbered n f) f.is).0
 
   good_found : Ready p c values number ops assumes → (n : List ℕ) (f : IsFound p number ops n) (k : ℕ) → Mentions f.body k → Good p c values number ops assumes k
   good_found g n f k m =
-      mentioned_good p c values number ops assumes g f.row (unit_operator f.definition f.body) k (numbered_good p c values number ops assumes g f.row (found_numbered n f)) f.is m
+      mentioned_good p c values number ops assumes g f.row (unit_operator f.definition f.own f.body) k (numbered_good p c values number ops assumes g f.row (found_numbered n f)) f.is m
 
   -- a term in order, of that level at most, which mentions what is good
   pub record IsStep (limit : Level) (e : Term) : Type 0 where
@@ -154,7 +156,7 @@ module _ (p : Program) (c : Config) (values : List Val) (number : Numbers) (ops 
   silent_in_order g (Some n) m l (Some k) h named =
       let f : IsFound p number ops n = found p c values number ops n g.levelled.named.table m in
       record {
-        operator = unit_operator f.definition f.body;
+        operator = unit_operator f.definition f.own f.body;
         is = ap (slice_get ops) (silent_found g n k f h) ∙ f.is;
         named = named f.index f.definition f.stands;
         alone = f.alone;

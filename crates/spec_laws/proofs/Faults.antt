@@ -1,6 +1,6 @@
 -- Nothing is wrong with a definition that is mentioned where nothing is wrong: it is one of the names, of those bound around, or of a LET in the term.
 use Rattle.std.proofs.Common.{◌≡◌, ◌∙◌, sym, subst, List, [], ◌∷◌, ◌++◌, length}
-use Rattle.std.specs.Prelude.{◌+◌, ℕ, suc, false, All, Contains, Some, slice_get}
+use Rattle.std.specs.Prelude.{◌≢◌, ◌+◌, ℕ, suc, false, All, Contains, Some, slice_get}
 use Rattle.std.proofs.lemmas.List.Elements.{All-nil, All-push, Contains-push, Contains-append_left}
 use Rattle.trace_base.specs.declared.place.Place.{Place}
 use Rattle.tla_values.specs.Data.{integer, string, truth}
@@ -9,9 +9,10 @@ use Rattle.tla_ast.specs.declared.laid.Bullet.TheVariants as bullet
 use Rattle.tla_ast.specs.declared.operators.InfixOperator.{InfixOperator}
 use Rattle.tla_ast.specs.declared.operators.InfixOperator.TheVariants as infix_operator
 use Rattle.tla_ast.specs.Trees as tree
-use Rattle.tla_ast.specs.Trees.{Tree, place_of}
+use Rattle.tla_ast.specs.Trees.{Tree}
 use Rattle.tla_terms.specs.declared.level.Level.{Level}
 use Rattle.tla_terms.specs.declared.operator.Operator.{Operator}
+use Rattle.tla_terms.specs.declared.operator.Own.{Own}
 use Rattle.tla_terms.specs.declared.spec.Spec.{Spec}
 use Rattle.tla_terms.specs.Terms as term
 use Rattle.tla_terms.specs.Terms.{Term, Terms, Meaning, Placed, width}
@@ -27,14 +28,15 @@ use Rattle.tla_scopes.specs.declared.meant.Named.{Named}
 use Rattle.tla_scopes.specs.declared.meant.Entry.{Entry}
 use Rattle.tla_scopes.specs.Scopes as scopes
 use Rattle.tla_scopes.specs.Scopes.{among, bound, bind, bind_bounds, slots, at_sign}
-use Rattle.tla_names.specs.Means.{Uses, Stands, Means, MeansEach, MeansOperands, MeansStep, MeansSteps, MeansBounds, MeansFields, MeansChanges, MeansArms, Defines, junction, chain, operands_list, builtin_set, local_operator}
+use Rattle.tla_names.specs.Means.{Uses, Stands, Means, MeansEach, MeansOperands, MeansStep, MeansSteps, MeansBounds, MeansFields, MeansChanges, MeansArms, Defines, junction, chain, operands_list, builtin_set, local_operator, with_own}
 use Rattle.spec_laws.specs.Everywhere.{Everywhere, Inside, InTerms, InOperands, InStep, InSteps, InBounds, InFields, InChanges, InArms}
 use Rattle.spec_laws.specs.Faultless.{HasNoFault, IsFaultless, faultless, NamesAreFaultless, DefinitionsAreFaultless, MentionedAreFaultless, BodiesAreFaultless, ReachedAreFaultless}
 use Rattle.spec_laws.specs.IsSpec.{IsNeeded, IsReached, needed, in_body}
 use Rattle.spec_laws.specs.Meanings.{NameMeanings}
-use Rattle.spec_laws.proofs.Mentioned.{MeantIs, LocalsAre, bound_is, locals_more, locals_bind, program_is}
+use Rattle.tla_names.specs.Owning.{own_of}
+use Rattle.spec_laws.proofs.Mentioned.{MeantIs, LocalsAre, bound_is, locals_more, locals_bind, locals_own, program_is}
 use Rattle.spec_laws.proofs.Ordered.{either_way}
-use Rattle.spec_laws.proofs.Reached.{same_row}
+use Rattle.spec_laws.proofs.Reached.{or_itself, same_row}
 use Rattle.spec_laws.proofs.Somewhere.{OwnAre, OwnRows, mentioned_are}
 use Rattle.spec_laws.proofs.Throughout.{throughout}
 
@@ -245,8 +247,10 @@ module _ (known : NameMeanings) (ops : List Operator) (names : List Entry) (are 
     defines sc (tree.MoreDefinitions ds n at ps form e) ks inner s fine h =
         let whole : (k : ℕ) → Contains (h.0 ++ h.2.0 ∷ []) k → IsFine ops k = λ k c. fine k (subst (λ (l : List ℕ). Contains l k) (sym h.7) c) in
         let a : All F h.0 × Around h.1 = defines sc ds h.0 h.1 s (λ k c. whole k (Contains-append_left h.0 (h.2.0 ∷ []) k c)) h.4 in
-        let o : Operator = local_operator (slots h.1) (length ps) h.3 in
-        let f : F h.2.0 = faultless h.2.0 o (bind h.1 ps) e names h.6 (whole h.2.0 (Contains-push h.0 h.2.0) o h.6) (locals_bind F h.1 ps a.1) are h.5 in
+        let own : Own = own_of form n ps e in
+        let o : Operator = local_operator (slots h.1) (length ps) own h.3 in
+        let within : List Local = with_own own h.1 n h.2 (length ps) in
+        let f : F h.2.0 = faultless h.2.0 o (bind within ps) e names h.6 (whole h.2.0 (Contains-push h.0 h.2.0) o h.6) (locals_bind (λ j. j ≢ h.2.0 → F j) within ps (locals_own F own h.1 n h.2 (length ps) a.1)) are h.5 in
         (subst (λ (l : List ℕ). All F l) (sym h.7) (All-push F h.0 h.2.0 a.0 f), subst (λ (l : List Local). Around l) (sym h.8) (locals_more F h.1 (Defined n h.2 (length ps)) a.1 f))
 
 pub mentioned_are_faultless : MentionedAreFaultless
@@ -256,11 +260,11 @@ mentioned_are_faultless known ops sc t e names program s are m h k w =
     mentioned_are (IsFaultless known ops) e k w 0 (go known ops names are program sc 0 t e s r m)
 
 pub definitions_are_faultless : DefinitionsAreFaultless
-definitions_are_faultless known ops k o ps t names is h are m = faultless k o (bind [] ps) t names is h (locals_bind (IsFaultless known ops) [] ps (λ n d p c. absurd (contains_nothing (Defined n d p) c))) are m
+definitions_are_faultless known ops k o ps t names is h are m = faultless k o (bind [] ps) t names is h (λ n d p c ne. locals_bind (IsFaultless known ops) [] ps (λ m e q b. absurd (contains_nothing (Defined m e q) b)) n d p c) are m
 
 pub bodies_are_faultless : BodiesAreFaultless
 bodies_are_faultless known ops _ o j program (faultless k p sc t names is fine s are m) q w =
-    same_row (λ (r : Operator). Mentions r.body j → IsFaultless known ops j) ops k p o is q (mentioned_are_faultless known ops sc t p.body names program s are m fine j) w
+    same_row (λ (r : Operator). Mentions r.body j → IsFaultless known ops j) ops k p o is q (mentioned_are_faultless known ops sc t p.body names program (λ n d a c. or_itself (IsFaultless known ops) k d.0 (faultless k p sc t names is fine s are m) (s n d a c)) are m fine j) w
 
 has_no_fault : (known : NameMeanings) (ops : List Operator) (k : ℕ) (o : Operator) → IsFaultless known ops k → slice_get ops k ≡ Some o → HasNoFault ops o.body
 has_no_fault known ops _ o (faultless k p sc t names is fine s are m) q = same_row (λ (r : Operator). HasNoFault ops r.body) ops k p o is q fine

@@ -1,11 +1,13 @@
 -- Each definition that a tree's meaning mentions has a meaning, where those of the names around have.
-use Rattle.std.proofs.Common.{◌≡◌, ◌∙◌, sym, refl, subst, List, [], ◌∷◌, ◌++◌, length, inl, inr}
-use Rattle.std.specs.Prelude.{ℕ, suc, Contains, Some, None, slice_get}
+use Rattle.std.proofs.Common.{◌≡◌, ◌∙◌, ap, sym, refl, subst, List, [], ◌∷◌, ◌++◌, length, inl, inr}
+use Rattle.std.specs.Prelude.{◌≢◌, ◌+◌, ℕ, suc, Contains, Some, None, slice_get}
 use Rattle.std.specs.Str.{bytes_eq}
 use Rattle.std.proofs.lemmas.List.Elements.{Contains-push_cases}
 use Rattle.tla_ast.specs.Trees.{Tree}
 use Rattle.tla_terms.specs.declared.ids.DefId.{DefId}
 use Rattle.tla_terms.specs.declared.operator.Operator.{Operator}
+use Rattle.tla_terms.specs.declared.operator.Own.{Own}
+use Rattle.tla_terms.specs.declared.operator.Own.TheVariants as owns
 use Rattle.tla_terms.specs.Terms as term
 use Rattle.tla_terms.specs.Terms.{Term, Terms, Meaning, level_of}
 use Rattle.term_parts.proofs.Contained.{contains_head, contains_tail}
@@ -18,14 +20,14 @@ use Rattle.tla_scopes.specs.declared.meant.Entry.{Entry}
 use Rattle.tla_scopes.specs.Scopes as scopes
 use Rattle.tla_scopes.specs.Scopes.{named, bound_from, bound, among, bind, slots}
 use Rattle.tla_names.specs.Complaints.{complaint}
-use Rattle.tla_names.specs.Means.{Means, local_operator}
+use Rattle.tla_names.specs.Means.{Means, local_operator, own_level, with_own}
 use Rattle.tla_names.specs.Outcomes.{takes_in}
 use Rattle.spec_laws.specs.Formed.{IsFormed}
 use Rattle.spec_laws.specs.Meanings.{NameMeanings, ScopeFits, HasMeaning, meaning, NamesHaveMeaning}
 use Rattle.spec_laws.specs.Laws.{MentionedHaveMeaning}
-use Rattle.spec_laws.proofs.Ordered.{last_bound, either_way, fit_bound, fit_bind, fit_local}
+use Rattle.spec_laws.proofs.Ordered.{last_bound, either_way, fit_bound, fit_bind, fit_local, fit_own}
 use Rattle.spec_laws.proofs.Somewhere.{OwnAre, OwnRows, mentioned_are}
-use Rattle.spec_laws.proofs.Walk.{Rows, IsPlain, slots_bind, of_tree}
+use Rattle.spec_laws.proofs.Walk.{Rows, IsPlain, slots_bind, slots_own, of_tree}
 
 -- the definition that is meant, if it is one, is such
 abbrev pub MeantIs : (ℕ → Type 0) → Meant → Type 0
@@ -39,6 +41,10 @@ LocalIs Q (Defined n k p) = Q k.0
 -- each definition of the scope is such
 abbrev pub LocalsAre : (ℕ → Type 0) → List Local → Type 0
 LocalsAre Q sc = (n : List ℕ) (d : DefId) (p : ℕ) → Contains sc (Defined n d p) → Q d.0
+
+abbrev number_of_local : Local → ℕ
+number_of_local (Bound n) = 0
+number_of_local (Defined n k p) = k.0
 
 module _ (Q : ℕ → Type 0) where
   pub bound_is : (i : ℕ) (sc : List Local) (n : List ℕ) (w : Named) → LocalsAre Q sc → bound_from i sc n ≡ Some w → MeantIs Q w.meant
@@ -75,6 +81,18 @@ module _ (Q : ℕ → Type 0) where
   locals_bind sc [] h = h
   locals_bind sc (n ∷ ns) h = locals_bind (sc ++ Bound n ∷ []) ns (locals_more sc (Bound n) h tt)
 
+  but_last : (sc : List Local) (n : List ℕ) (k : DefId) (p : ℕ) → LocalsAre Q sc → (m : List ℕ) (d : DefId) (r : ℕ) → Contains (sc ++ Defined n k p ∷ []) (Defined m d r) → d.0 ≢ k.0 → Q d.0
+  but_last sc n k p h m d r c ne = elim (Contains-push_cases sc (Defined n k p) (Defined m d r) c) [
+    | inl a ↦ h m d r a
+    | inr b ↦ absurd (ne (sym (ap number_of_local b)))
+  ]
+
+  -- in the body of a definition of a LET: but itself
+  pub locals_own : (own : Own) (sc : List Local) (n : List ℕ) (k : DefId) (p : ℕ) → LocalsAre Q sc → (m : List ℕ) (d : DefId) (r : ℕ) → Contains (with_own own sc n k p) (Defined m d r) → d.0 ≢ k.0 → Q d.0
+  locals_own owns.Apart sc n k p h m d r c ne = h m d r c
+  locals_own owns.Itself sc n k p h m d r c ne = but_last sc n k p h m d r c ne
+  locals_own owns.Function sc n k p h m d r c ne = but_last sc n k p h m d r c ne
+
   pub program_is : (o : Meant) → ((d : DefId) → o ≡ meant.Definition d → Q d.0) → MeantIs Q o
   program_is (meant.Slot i) h = tt
   program_is (meant.Variable x) h = tt
@@ -90,9 +108,10 @@ module _ (known : NameMeanings) (ops : List Operator) where
   abbrev InScope : List Local → Type 0
   InScope sc = ScopeFits ops sc × LocalsAre Has sc
 
-  of_local : (names : List Entry) → ((n : List ℕ) → among names n ≡ known n) → (sc : List Local) (k : DefId) (ps : List (List ℕ)) (t : Tree) (x : Term) → InScope sc → slice_get ops k.0 ≡ Some (local_operator (slots sc) (length ps) x) → IsFormed t → complaint (takes_in names (bind sc ps)) t ≡ None → Means names ops (bind sc ps) t x → Has k.0
-  of_local names are sc k ps t x h q f c m =
-      meaning k.0 (local_operator (slots sc) (length ps) x) (bind sc ps) t q refl (slots_bind sc ps) (fit_bind ops sc ps h.0) (locals_bind Has sc ps h.1)
+  of_local : (names : List Entry) → ((n : List ℕ) → among names n ≡ known n) → (sc : List Local) (n : List ℕ) (k : DefId) (own : Own) (ps : List (List ℕ)) (t : Tree) (x : Term) → InScope sc → slice_get ops k.0 ≡ Some (local_operator (slots sc) (length ps) own x) → own_level own x ≡ level_of x → IsFormed t → complaint (takes_in ops names (bind (with_own own sc n k (length ps)) ps)) t ≡ None → Means names ops (bind (with_own own sc n k (length ps)) ps) t x → Has k.0
+  of_local names are sc n k own ps t x h q l f c m =
+      let inner : List Local = with_own own sc n k (length ps) in
+      meaning k.0 (local_operator (slots sc) (length ps) own x) (bind inner ps) t q l (slots_bind inner ps ∙ ap (λ (i : ℕ). i + length ps) (slots_own own sc n k (length ps))) (fit_bind ops inner ps (fit_own ops sc n k (length ps) own own x h.0 q)) (locals_bind (λ j. j ≢ k.0 → Has j) inner ps (locals_own Has own sc n k (length ps) h.1))
       (record { names = names; are = are; formed = f; fine = c; means = m })
 
   rows_of_own : (names : List Entry) → NamesHaveMeaning known ops → ((n : List ℕ) → among names n ≡ known n) → Rows names ops InScope Has (OwnRows Has)
@@ -104,9 +123,9 @@ module _ (known : NameMeanings) (ops : List Operator) where
         of_let = λ i ks e at h. h;
         of_plain = λ i m at p h. own_plain Has m p;
         bound = λ sc n h. (fit_bound ops 0 sc n h.0, locals_more Has sc (Bound n) h.1 tt);
-        defined = λ sc n k ps t x h q f c m.
-            let r : Has k.0 = of_local names are sc k ps t x h q f c m in
-            (r, (fit_local ops sc n k (length ps) x h.0 q, locals_more Has sc (Defined n k (length ps)) h.1 r));
+        defined = λ sc n k own ps t x h q l f c m.
+            let r : Has k.0 = of_local names are sc n k own ps t x h q l f c m in
+            (r, (fit_local ops sc n k (length ps) own x h.0 q, locals_more Has sc (Defined n k (length ps)) h.1 r));
       }
 
 pub mentioned_have_meaning : MentionedHaveMeaning

@@ -5,6 +5,8 @@ use Rattle.std.specs.Str.{bytes_eq}
 use Rattle.trace_base.specs.declared.place.Place.{Place}
 use Rattle.tla_terms.specs.declared.ids.DefId.{DefId}
 use Rattle.tla_terms.specs.declared.operator.Operator.{Operator}
+use Rattle.tla_terms.specs.declared.operator.Own.{Own}
+use Rattle.tla_terms.specs.declared.operator.Own.TheVariants as owns
 use Rattle.tla_terms.specs.Terms as term
 use Rattle.tla_terms.specs.Terms.{Term, Terms, Meaning, count}
 use Rattle.tla_terms.specs.Levels.{level_for}
@@ -16,7 +18,8 @@ use Rattle.tla_scopes.specs.declared.meant.Meant.TheVariants as meant
 use Rattle.tla_scopes.specs.declared.meant.Named.{Named}
 use Rattle.tla_scopes.specs.declared.meant.Entry.{Entry}
 use Rattle.tla_scopes.specs.Scopes.{later, named, used, bound_from, bound, among, bind, slots}
-use Rattle.tla_names.specs.Means.{local_operator}
+use Rattle.tla_names.specs.Means.{local_operator, with_own}
+use Rattle.tla_names.specs.Outcomes.{needs}
 use Rattle.spec_laws.specs.IsSpec.{needed_by, IsInRange, IsRow}
 use Rattle.spec_laws.specs.Meanings.{NameMeanings, IsDefined, MeantFits, NamesFit, FitFrom, ScopeFits}
 use Rattle.spec_laws.specs.Laws.{MeaningsAreInOrder}
@@ -61,7 +64,7 @@ module _ (variables : ℕ) (ops : List Operator) where
   bound_use j i (Defined m k p ∷ sc) n w f le q =
       last_bound (λ x. UseFits variables ops j x.needed x.meant) (bytes_eq m n) (named p (meant.Definition k)) w (bound_from i sc n) (further ops k.0 p i j (omega (arith, le)) f.0) (bound_use j i sc n w f.1 le) q
 
-  use_row : (i needed : ℕ) (w : Meant) (ts : Terms) (at : Place) → UseFits variables ops i needed w → count ts ≡ needed → IsRow variables ops i at (level_for ops (used w ts)) (used w ts)
+  use_row : (i needed : ℕ) (w : Meant) (ts : Terms) (at : Place) → UseFits variables ops i needed w → count ts ≡ needs w needed → IsRow variables ops i at (level_for ops (used w ts)) (used w ts)
   use_row i needed (meant.Slot j) ts at h e = (h, tt, refl)
   use_row i needed (meant.Variable x) ts at h e = (h, tt, refl)
   use_row i needed (meant.Known v) ts at h e = (tt, tt, refl)
@@ -92,9 +95,15 @@ fit_defined ops i (Bound m ∷ sc) n k p j h e d = fit_defined ops (suc i) sc n 
 fit_defined ops i (Defined m q r ∷ sc) n k p j h e d = (h.0, fit_defined ops i sc n k p j h.1 e d)
 
 -- a definition of a LET in the scope behind it
-pub fit_local : (ops : List Operator) (sc : List Local) (n : List ℕ) (k : DefId) (p : ℕ) (x : Term) → ScopeFits ops sc → slice_get ops k.0 ≡ Some (local_operator (slots sc) p x) → ScopeFits ops (sc ++ Defined n k p ∷ [])
-fit_local ops sc n k p x h q =
-    fit_defined ops 0 sc n k p (slots sc) h (omega arith) (record { operator = local_operator (slots sc) p x; is = q; arguments = refl; around = omega arith })
+pub fit_local : (ops : List Operator) (sc : List Local) (n : List ℕ) (k : DefId) (p : ℕ) (own : Own) (x : Term) → ScopeFits ops sc → slice_get ops k.0 ≡ Some (local_operator (slots sc) p own x) → ScopeFits ops (sc ++ Defined n k p ∷ [])
+fit_local ops sc n k p own x h q =
+    fit_defined ops 0 sc n k p (slots sc) h (omega arith) (record { operator = local_operator (slots sc) p own x; is = q; arguments = refl; around = omega arith })
+
+-- in the body of a definition of a LET, which sees itself where it uses itself
+pub fit_own : (ops : List Operator) (sc : List Local) (n : List ℕ) (k : DefId) (p : ℕ) (own seen : Own) (x : Term) → ScopeFits ops sc → slice_get ops k.0 ≡ Some (local_operator (slots sc) p own x) → ScopeFits ops (with_own seen sc n k p)
+fit_own ops sc n k p own owns.Apart x h q = h
+fit_own ops sc n k p own owns.Itself x h q = fit_local ops sc n k p own x h q
+fit_own ops sc n k p own owns.Function x h q = fit_local ops sc n k p own x h q
 
 rows_in_order : (known : NameMeanings) (variables : ℕ) (ops : List Operator) (names : List Entry) → NamesFit known variables ops → ((n : List ℕ) → among names n ≡ known n) → Rows names ops (ScopeFits ops) (λ k. k < length ops) (IsRow variables ops)
 rows_in_order known variables ops names fit are =
@@ -106,7 +115,7 @@ rows_in_order known variables ops names fit are =
       of_let = λ i ks e at h. (h, tt, refl);
       of_plain = λ i m at p h. (plain_row variables ops i m p, h, refl);
       bound = λ sc n h. fit_bound ops 0 sc n h;
-      defined = λ sc n k ps t x h q f c m. (item_within ops k.0 (local_operator (slots sc) (length ps) x) q, fit_local ops sc n k (length ps) x h q);
+      defined = λ sc n k own ps t x h q l f c m. (item_within ops k.0 (local_operator (slots sc) (length ps) own x) q, fit_local ops sc n k (length ps) own x h q);
     }
 
 pub meanings_are_in_order : MeaningsAreInOrder

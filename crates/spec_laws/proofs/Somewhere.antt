@@ -5,7 +5,7 @@ use Rattle.std.proofs.lemmas.List.Elements.{All-contains, Contains-append_cases,
 use Rattle.trace_base.specs.declared.place.Place.{Place}
 use Rattle.tla_terms.specs.declared.level.Level.{Level}
 use Rattle.tla_terms.specs.Terms as term
-use Rattle.tla_terms.specs.Terms.{Term, Placed, Meaning, Terms, width}
+use Rattle.tla_terms.specs.Terms.{Term, Meaning, Terms, width}
 use Rattle.term_parts.specs.Parts.{Part, part, parts, parts_of, listed, operand_list, set_list, value_list, arm_list, is_prime, primes, has_prime, step_parts, steps_parts, change_parts}
 use Rattle.term_parts.specs.Slots.{Mentions, used, listed_in_let, mentioned_in_part}
 use Rattle.term_parts.proofs.Contained.{contains_cons, contains_head, contains_tail, contains_nothing}

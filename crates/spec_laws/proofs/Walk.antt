@@ -14,8 +14,10 @@ use Rattle.tla_ast.specs.Trees.{Tree, place_of}
 use Rattle.tla_terms.specs.declared.ids.DefId.{DefId}
 use Rattle.tla_terms.specs.declared.level.Level.{Level}
 use Rattle.tla_terms.specs.declared.operator.Operator.{Operator}
+use Rattle.tla_terms.specs.declared.operator.Own.{Own}
+use Rattle.tla_terms.specs.declared.operator.Own.TheVariants as owns
 use Rattle.tla_terms.specs.Terms as term
-use Rattle.tla_terms.specs.Terms.{Term, Terms, Meaning, Placed, count, width}
+use Rattle.tla_terms.specs.Terms.{Term, Terms, Meaning, count, level_of, width}
 use Rattle.tla_terms.specs.Levels.{level_for}
 use Rattle.tla_scopes.specs.declared.scope.Local.{Local}
 use Rattle.tla_scopes.specs.declared.scope.Local.TheVariants.{Bound, Defined}
@@ -26,10 +28,12 @@ use Rattle.tla_scopes.specs.declared.meant.Entry.{Entry}
 use Rattle.tla_scopes.specs.Scopes as scopes
 use Rattle.tla_scopes.specs.Scopes.{meaning_in, bind, bind_bounds, slots, at_sign}
 use Rattle.tla_names.specs.declared.fault.NameFault.{NameFault}
-use Rattle.tla_names.specs.Complaints.{Takes, with_name, with_names, with_bounds, with_definitions, or_else, counted, number_of, itself, complaint, complaints, operands_complaint, step_complaint, steps_complaint, bounds_complaint, fields_complaint, changes_complaint, arms_complaint, definitions_complaint}
-use Rattle.tla_names.specs.Means.{Uses, Stands, Means, MeansEach, MeansOperands, MeansStep, MeansSteps, MeansBounds, MeansFields, MeansChanges, MeansArms, Defines, junction, chain, operands_list, builtin_set, local_operator}
-use Rattle.tla_names.specs.Outcomes.{needed_by, takes_in}
-use Rattle.tla_names.proofs.Takes.{takes_bound, takes_bind, takes_defined}
+use Rattle.tla_names.specs.Complaints.{Taken, Takes, bound_name, with_itself, with_name, with_names, with_bounds, with_definitions, or_else, counted, number_of, itself, complaint, complaints, operands_complaint, step_complaint, steps_complaint, bounds_complaint, fields_complaint, changes_complaint, arms_complaint, definitions_complaint}
+use Rattle.tla_names.specs.Means.{Uses, Stands, Means, MeansEach, MeansOperands, MeansStep, MeansSteps, MeansBounds, MeansFields, MeansChanges, MeansArms, Defines, junction, chain, operands_list, builtin_set, local_operator, own_level, with_own}
+use Rattle.tla_names.specs.Outcomes.{needed_by, taken_by, takes_in}
+use Rattle.tla_names.specs.Owning.{own_of}
+use Rattle.tla_names.proofs.Risen.{body_scope, level_kept, made}
+use Rattle.tla_names.proofs.Takes.{takes_bound, takes_bind}
 use Rattle.spec_laws.specs.Everywhere.{Everywhere, Inside, InTerms, InOperands, InStep, InSteps, InBounds, InFields, InChanges, InArms}
 use Rattle.spec_laws.specs.Formed.{IsFormed, AreFormed, ChainIsFormed, StepIsFormed, StepsAreFormed, BoundsAreFormed, FieldsAreFormed, ChangesAreFormed, ArmsAreFormed, DefinitionsAreFormed}
 use Rattle.spec_laws.specs.IsSpec.{HasParts, AreOperands}
@@ -46,19 +50,20 @@ IsPlain m = Unit {0}
 
 -- What is to be shown of the rows `P`, where `S` holds of the scope and `Q` of each definition of a LET.
 pub record Rows (names : List Entry) (ops : List Operator) (S : List Local → Type 0) (Q : ℕ → Type 0) (P : ℕ → Place → Level → Meaning → Type 0) : Type 0 where
-  pub of_name : (sc : List Local) (n : List ℕ) (w : Named) (ts : Terms) (at : Place) → S sc → meaning_in names sc n ≡ Some w → count ts ≡ w.needed
+  pub of_name : (sc : List Local) (n : List ℕ) (w : Named) (ts : Terms) (at : Place) → S sc → meaning_in names sc n ≡ Some w → count ts ≡ needed_by w
       → P (slots sc) at (level_for ops (scopes.used w.meant ts)) (scopes.used w.meant ts)
   pub of_let : (i : ℕ) (ks : List ℕ) (e : Term) (at : Place) → All Q ks → P i at (level_for ops (term.Scoped ks e)) (term.Scoped ks e)
   pub of_plain : (i : ℕ) (m : Meaning) (at : Place) → IsPlain m → HasParts m → P i at (level_for ops m) m
   pub bound : (sc : List Local) (n : List ℕ) → S sc → S (sc ++ Bound n ∷ [])
-  pub defined : (sc : List Local) (n : List ℕ) (k : DefId) (ps : List (List ℕ)) (t : Tree) (x : Term) → S sc
-      → slice_get ops k.0 ≡ Some (local_operator (slots sc) (length ps) x) → IsFormed t → complaint (takes_in names (bind sc ps)) t ≡ None
-      → Means names ops (bind sc ps) t x → Q k.0 × S (sc ++ Defined n k (length ps) ∷ [])
+  pub defined : (sc : List Local) (n : List ℕ) (k : DefId) (own : Own) (ps : List (List ℕ)) (t : Tree) (x : Term) → S sc
+      → slice_get ops k.0 ≡ Some (local_operator (slots sc) (length ps) own x) → own_level own x ≡ level_of x → IsFormed t
+      → complaint (takes_in ops names (bind (with_own own sc n k (length ps)) ps)) t ≡ None
+      → Means names ops (bind (with_own own sc n k (length ps)) ps) t x → Q k.0 × S (sc ++ Defined n k (length ps) ∷ [])
 
 -- a place with so many slots, and how many arguments names take there
-record IsHere (names : List Entry) (S : List Local → Type 0) (g : Takes) (sc : List Local) (i : ℕ) : Type 0 where
+record IsHere (names : List Entry) (ops : List Operator) (S : List Local → Type 0) (g : Takes) (sc : List Local) (i : ℕ) : Type 0 where
   holds : S sc
-  takes : takes_in names sc ≡ g
+  takes : takes_in ops names sc ≡ g
   taken : slots sc ≡ i
 
 none_first : {A : Type 0} (a b : Option A) → or_else a b ≡ None → a ≡ None
@@ -77,9 +82,11 @@ same_number : (a b : ℕ) → (a == b) ≡ true → a ≡ b
 same_number a b e = grind (arith, nat_tests)
 
 -- a name with which nothing is wrong stands with as many arguments as it takes
-as_taken : (n : List ℕ) (at : Place) (found : ℕ) (o : Option ℕ) (needed : ℕ) → counted n at found o ≡ None → o ≡ Some needed → found ≡ needed
-as_taken n at found None needed c e = absurd (cc)
-as_taken n at found (Some k) needed c e = let r : found ≡ k = same_number found k (if_none (found == k) _ c) in cc
+as_taken : (n : List ℕ) (at : Place) (found : ℕ) (o : Option Taken) (w : Taken) → counted n at found o ≡ None → o ≡ Some w → found ≡ w.needed
+as_taken n at found None w c e = absurd (cc)
+as_taken n at found (Some k) w c e =
+    let same : k ≡ w = cc in
+    same_number found k.needed (if_none (found == k.needed) _ c) ∙ ap (λ (x : Taken). x.needed) same
 
 slots_bound : (sc : List Local) (n : List ℕ) → slots (sc ++ Bound n ∷ []) ≡ suc (slots sc)
 slots_bound [] n = refl
@@ -91,6 +98,12 @@ slots_defined [] n k p = refl
 slots_defined (Bound m ∷ sc) n k p = ap suc (slots_defined sc n k p)
 slots_defined (Defined m j q ∷ sc) n k p = slots_defined sc n k p
 
+-- in the body of a definition of a LET
+pub slots_own : (own : Own) (sc : List Local) (n : List ℕ) (k : DefId) (p : ℕ) → slots (with_own own sc n k p) ≡ slots sc
+slots_own owns.Apart sc n k p = refl
+slots_own owns.Itself sc n k p = slots_defined sc n k p
+slots_own owns.Function sc n k p = slots_defined sc n k p
+
 pub slots_bind : (sc : List Local) (ns : List (List ℕ)) → slots (bind sc ns) ≡ slots sc + length ns
 slots_bind sc [] = omega arith
 slots_bind sc (n ∷ ns) =
@@ -99,10 +112,10 @@ slots_bind sc (n ∷ ns) =
 
 module _ (names : List Entry) (ops : List Operator) (S : List Local → Type 0) (Q : ℕ → Type 0) (P : ℕ → Place → Level → Meaning → Type 0) (rows : Rows names ops S Q P) where
   abbrev Here : Takes → List Local → ℕ → Type 0
-  Here g sc i = IsHere names S g sc i
+  Here g sc i = IsHere names ops S g sc i
 
-  here_bound : (g : Takes) (sc : List Local) (i : ℕ) (n : List ℕ) → Here g sc i → Here (with_name g n 0) (sc ++ Bound n ∷ []) (suc i)
-  here_bound g sc i n h = record { holds = rows.bound sc n h.holds; takes = takes_bound names sc n ∙ ap (λ (f : Takes). with_name f n 0) h.takes; taken = slots_bound sc n ∙ ap suc h.taken }
+  here_bound : (g : Takes) (sc : List Local) (i : ℕ) (n : List ℕ) → Here g sc i → Here (with_name g n bound_name) (sc ++ Bound n ∷ []) (suc i)
+  here_bound g sc i n h = record { holds = rows.bound sc n h.holds; takes = takes_bound ops names sc n ∙ ap (λ (f : Takes). with_name f n bound_name) h.takes; taken = slots_bound sc n ∙ ap suc h.taken }
 
   holds_bind : (sc : List Local) (ns : List (List ℕ)) → S sc → S (bind sc ns)
   holds_bind sc [] h = h
@@ -110,7 +123,7 @@ module _ (names : List Entry) (ops : List Operator) (S : List Local → Type 0) 
 
   here_bind : (g : Takes) (sc : List Local) (i : ℕ) (ns : List (List ℕ)) → Here g sc i → Here (with_names g ns) (bind sc ns) (i + length ns)
   here_bind g sc i ns h =
-      record { holds = holds_bind sc ns h.holds; takes = takes_bind names sc ns ∙ ap (λ (f : Takes). with_names f ns) h.takes; taken = slots_bind sc ns ∙ ap (λ j. j + length ns) h.taken }
+      record { holds = holds_bind sc ns h.holds; takes = takes_bind ops names sc ns ∙ ap (λ (f : Takes). with_names f ns) h.takes; taken = slots_bind sc ns ∙ ap (λ j. j + length ns) h.taken }
 
   here_at : (g : Takes) (sc : List Local) (i j : ℕ) → i ≡ j → Here g sc i → Here g sc j
   here_at g sc i j e h = record { holds = h.holds; takes = h.takes; taken = h.taken ∙ e }
@@ -139,10 +152,10 @@ module _ (names : List Entry) (ops : List Operator) (S : List Local → Type 0) 
   inside_used i (meant.Standard o) ts h = h
   inside_used i (meant.Definition d) ts h = h
 
-  as_needed : (g : Takes) (sc : List Local) (i : ℕ) (n : List ℕ) (at : Place) (found : ℕ) (w : Named) → Here g sc i → counted n at found (g n) ≡ None → meaning_in names sc n ≡ Some w → found ≡ w.needed
+  as_needed : (g : Takes) (sc : List Local) (i : ℕ) (n : List ℕ) (at : Place) (found : ℕ) (w : Named) → Here g sc i → counted n at found (g n) ≡ None → meaning_in names sc n ≡ Some w → found ≡ needed_by w
   as_needed g sc i n at found w h c q =
-      let r : g n ≡ Some w.needed = sym (ap (λ (f : Takes). f n) h.takes) ∙ ap (λ (o : Option Named). option_map needed_by o) q in
-      as_taken n at found (g n) w.needed c r
+      let r : g n ≡ Some (taken_by ops w) = sym (ap (λ (f : Takes). f n) h.takes) ∙ ap (λ (o : Option Named). option_map (taken_by ops) o) q in
+      as_taken n at found (g n) (taken_by ops w) c r
 
   of_use : (g : Takes) (sc : List Local) (i : ℕ) (t : Tree) (n : List ℕ) (at : Place) (found : ℕ) (ts : Terms) (m : Meaning) (e : Term) → Here g sc i → counted n at found (g n) ≡ None → count ts ≡ found → Uses names sc n ts m → InTerms P i ts → Stands names ops t m e → Everywhere P i e
   of_use g sc i t n at found ts m e h c k u terms q =
@@ -187,7 +200,7 @@ module _ (names : List Entry) (ops : List Operator) (S : List Local → Type 0) 
     in_order g sc i (tree.SetOf at es) y w f c h = plain (tree.SetOf at es) (term.SetOf h.0) y i h.2 tt tt (each_in g sc i es h.0 w f c h.1)
     in_order g sc i (tree.Filter at n a b) y w f c h =
         plain (tree.Filter at n a b) (term.Filter h.0 h.1) y i h.4 tt tt
-        (in_order g sc i a h.0 w f.0 (none_first (complaint g a) (complaint (with_name g n 0) b) c) h.2, in_order (with_name g n 0) (sc ++ Bound n ∷ []) (suc i) b h.1 (here_bound g sc i n w) f.1 (none_second (complaint g a) (complaint (with_name g n 0) b) c) h.3)
+        (in_order g sc i a h.0 w f.0 (none_first (complaint g a) (complaint (with_name g n bound_name) b) c) h.2, in_order (with_name g n bound_name) (sc ++ Bound n ∷ []) (suc i) b h.1 (here_bound g sc i n w) f.1 (none_second (complaint g a) (complaint (with_name g n bound_name) b) c) h.3)
     in_order g sc i (tree.Map at a bs) y w f c h =
         plain (tree.Map at a bs) (term.Map h.0 h.1) y i h.4 tt (are_bounds names ops sc bs h.1 f.0 f.1 h.3)
         (in_order (with_bounds g bs) (bind_bounds sc bs) (i + width h.1) a h.0 (here_bounds sc g sc i bs h.1 w h.3) f.2 (none_first (complaint (with_bounds g bs) a) (bounds_complaint g bs) c) h.2, bounds_in g sc i bs h.1 w f.1 (none_second (complaint (with_bounds g bs) a) (bounds_complaint g bs) c) h.3)
@@ -207,7 +220,7 @@ module _ (names : List Entry) (ops : List Operator) (S : List Local → Type 0) 
         (bounds_in g sc i bs h.0 w f.1 (none_first (bounds_complaint g bs) (complaint (with_bounds g bs) a) c) h.2, in_order (with_bounds g bs) (bind_bounds sc bs) (i + width h.0) a h.1 (here_bounds sc g sc i bs h.0 w h.2) f.2 (none_second (bounds_complaint g bs) (complaint (with_bounds g bs) a) c) h.3)
     in_order g sc i (tree.Choose at n a b) y w f c h =
         plain (tree.Choose at n a b) (term.Choose h.0 h.1) y i h.4 tt tt
-        (in_order g sc i a h.0 w f.0 (none_first (complaint g a) (complaint (with_name g n 0) b) c) h.2, in_order (with_name g n 0) (sc ++ Bound n ∷ []) (suc i) b h.1 (here_bound g sc i n w) f.1 (none_second (complaint g a) (complaint (with_name g n 0) b) c) h.3)
+        (in_order g sc i a h.0 w f.0 (none_first (complaint g a) (complaint (with_name g n bound_name) b) c) h.2, in_order (with_name g n bound_name) (sc ++ Bound n ∷ []) (suc i) b h.1 (here_bound g sc i n w) f.1 (none_second (complaint g a) (complaint (with_name g n bound_name) b) c) h.3)
     in_order g sc i (tree.If at p a b) y w f c h =
         let d : or_else (complaint g a) (complaint g b) ≡ None = none_second (complaint g p) (or_else (complaint g a) (complaint g b)) c in
         plain (tree.If at p a b) (term.If h.0 h.1 h.2) y i h.6 tt tt
@@ -260,9 +273,9 @@ module _ (names : List Entry) (ops : List Operator) (S : List Local → Type 0) 
     changes_in : (g : Takes) (sc : List Local) (i : ℕ) (cs : tree.Changes) (ys : term.Changes) → Here g sc i → ChangesAreFormed cs → changes_complaint g cs ≡ None → MeansChanges names ops sc cs ys → InChanges P i ys
     changes_in g sc i tree.NoChanges ys w f c h = subst (λ (z : term.Changes). InChanges P i z) (sym h) tt
     changes_in g sc i (tree.MoreChanges cs path e) ys w f c h =
-        let d : or_else (steps_complaint g path) (complaint (with_name g at_sign 0) e) ≡ None = none_second (changes_complaint g cs) (or_else (steps_complaint g path) (complaint (with_name g at_sign 0) e)) c in
+        let d : or_else (steps_complaint g path) (complaint (with_name g at_sign bound_name) e) ≡ None = none_second (changes_complaint g cs) (or_else (steps_complaint g path) (complaint (with_name g at_sign bound_name) e)) c in
         subst (λ (z : term.Changes). InChanges P i z) (sym h.3)
-        (changes_in g sc i cs h.0 w f.0 (none_first (changes_complaint g cs) (or_else (steps_complaint g path) (complaint (with_name g at_sign 0) e)) c) h.4, steps_in g sc i path h.1 w f.2 (none_first (steps_complaint g path) (complaint (with_name g at_sign 0) e) d) h.5, in_order (with_name g at_sign 0) (sc ++ Bound at_sign ∷ []) (suc i) e h.2 (here_bound g sc i at_sign w) f.3 (none_second (steps_complaint g path) (complaint (with_name g at_sign 0) e) d) h.6)
+        (changes_in g sc i cs h.0 w f.0 (none_first (changes_complaint g cs) (or_else (steps_complaint g path) (complaint (with_name g at_sign bound_name) e)) c) h.4, steps_in g sc i path h.1 w f.2 (none_first (steps_complaint g path) (complaint (with_name g at_sign bound_name) e) d) h.5, in_order (with_name g at_sign bound_name) (sc ++ Bound at_sign ∷ []) (suc i) e h.2 (here_bound g sc i at_sign w) f.3 (none_second (steps_complaint g path) (complaint (with_name g at_sign bound_name) e) d) h.6)
 
     arms_in : (g : Takes) (sc : List Local) (i : ℕ) (arms : tree.Arms) (ys : term.Arms) → Here g sc i → ArmsAreFormed arms → arms_complaint g arms ≡ None → MeansArms names ops sc arms ys → InArms P i ys
     arms_in g sc i tree.NoArms ys w f c h = subst (λ (z : term.Arms). InArms P i z) (sym h) tt
@@ -274,15 +287,25 @@ module _ (names : List Entry) (ops : List Operator) (S : List Local → Type 0) 
     definitions_in : (g : Takes) (sc : List Local) (i : ℕ) (ds : tree.Definitions) (ks : List ℕ) (inner : List Local) → Here g sc i → DefinitionsAreFormed ds → definitions_complaint g ds ≡ None → Defines names ops sc ds ks inner → All Q ks × Here (with_definitions g ds) inner i
     definitions_in g sc i tree.NoDefinitions ks inner w f c h = (subst (λ (l : List ℕ). All Q l) (sym h.0) (All-nil Q), subst (λ (s : List Local). Here g s i) (sym h.1) w)
     definitions_in g sc i (tree.MoreDefinitions ds n at ps form e) ks inner w f c h =
-        let a : All Q h.0 × Here (with_definitions g ds) h.1 i = definitions_in g sc i ds h.0 h.1 w f.0 (none_first (definitions_complaint g ds) (or_else (itself n at ps e) (complaint (with_names (with_definitions g ds) ps) e)) c) h.4 in
-        let d : or_else (itself n at ps e) (complaint (with_names (with_definitions g ds) ps) e) ≡ None = none_second (definitions_complaint g ds) (or_else (itself n at ps e) (complaint (with_names (with_definitions g ds) ps) e)) c in
-        let t : takes_in names (bind h.1 ps) ≡ with_names (with_definitions g ds) ps = takes_bind names h.1 ps ∙ ap (λ (q : Takes). with_names q ps) a.1.takes in
-        let fine : complaint (takes_in names (bind h.1 ps)) e ≡ None = subst (λ (q : Takes). complaint q e ≡ None) (sym t) (none_second (itself n at ps e) (complaint (with_names (with_definitions g ds) ps) e) d) in
-        let r : Q h.2.0 × S (h.1 ++ Defined n h.2 (length ps) ∷ []) = rows.defined h.1 n h.2 ps e h.3 a.1.holds h.6 f.1 fine h.5 in (
+        let gd : Takes = with_definitions g ds in
+        let own : Own = own_of form n ps e in
+        let body : Option NameFault = complaint (with_names (with_itself own gd n (length ps)) ps) e in
+        let a : All Q h.0 × Here gd h.1 i = definitions_in g sc i ds h.0 h.1 w f.0 (none_first (definitions_complaint g ds) (or_else (itself gd form n at ps e) body) c) h.4 in
+        let d : or_else (itself gd form n at ps e) body ≡ None = none_second (definitions_complaint g ds) (or_else (itself gd form n at ps e) body) c in
+        let alone : itself gd form n at ps e ≡ None = none_first (itself gd form n at ps e) body d in
+        let none : body ≡ None = none_second (itself gd form n at ps e) body d in
+        let t : takes_in ops names (bind (with_own own h.1 n h.2 (length ps)) ps) ≡ with_names (with_itself own gd n (length ps)) ps = body_scope names ops h.1 gd n h.2 ps h.3 own a.1.takes h.6 in
+        let fine : complaint (takes_in ops names (bind (with_own own h.1 n h.2 (length ps)) ps)) e ≡ None = subst (λ (q : Takes). complaint q e ≡ None) (sym t) none in
+        let level : own_level own h.3 ≡ level_of h.3 = level_kept names ops (bind (with_own own h.1 n h.2 (length ps)) ps) gd form n at ps e h.3 own refl alone t none h.5 in
+        let r : Q h.2.0 × S (h.1 ++ Defined n h.2 (length ps) ∷ []) = rows.defined h.1 n h.2 own ps e h.3 a.1.holds h.6 level f.1 fine h.5 in (
           subst (λ (l : List ℕ). All Q l) (sym h.7) (All-push Q h.0 h.2.0 a.0 r.0),
-          subst (λ (s : List Local). Here (with_name (with_definitions g ds) n (length ps)) s i) (sym h.8) (record { holds = r.1; takes = takes_defined names h.1 n h.2 (length ps) ∙ ap (λ (q : Takes). with_name q n (length ps)) a.1.takes; taken = slots_defined h.1 n h.2 (length ps) ∙ a.1.taken }),
+          record {
+            holds = subst (λ (s : List Local). S s) (sym h.8) r.1;
+            takes = made names ops (tree.MoreDefinitions ds n at ps form e) sc g ks inner w.takes c h;
+            taken = ap slots h.8 ∙ slots_defined h.1 n h.2 (length ps) ∙ a.1.taken;
+          },
         )
 
   -- of a whole tree
-  pub of_tree : (sc : List Local) (t : Tree) (y : Term) → S sc → IsFormed t → complaint (takes_in names sc) t ≡ None → Means names ops sc t y → Everywhere P (slots sc) y
-  of_tree sc t y s f c h = in_order (takes_in names sc) sc (slots sc) t y (record { holds = s; takes = refl; taken = refl }) f c h
+  pub of_tree : (sc : List Local) (t : Tree) (y : Term) → S sc → IsFormed t → complaint (takes_in ops names sc) t ≡ None → Means names ops sc t y → Everywhere P (slots sc) y
+  of_tree sc t y s f c h = in_order (takes_in ops names sc) sc (slots sc) t y (record { holds = s; takes = refl; taken = refl }) f c h

@@ -1,5 +1,5 @@
 -- Definitions with nothing wrong in their levels.
-use Rattle.std.specs.Prelude.{◌≡◌, ℕ, List, [], Contains, Some, slice_get}
+use Rattle.std.specs.Prelude.{◌≡◌, ◌≢◌, ℕ, List, [], Contains, Some, slice_get}
 use Rattle.tla_ast.specs.Trees.{Tree}
 use Rattle.tla_terms.specs.declared.ids.DefId.{DefId}
 use Rattle.tla_terms.specs.declared.operator.Operator.{Operator}
@@ -22,10 +22,10 @@ use Rattle.spec_laws.specs.Meanings.{NameMeanings}
 abbrev pub HasNoFault : List Operator → Term → Type 0
 HasNoFault ops e = (f : LevelFault) → IsFault ops e f → ⊥
 
--- Nothing is wrong with the definition, whose body is what some tree means, nor with any that is bound around it.
+-- Nothing is wrong with the definition, whose body is what some tree means, nor with any other that is bound around it.
 pub data IsFaultless (known : NameMeanings) (ops : List Operator) : ℕ → Type 0 where
   faultless : (k : ℕ) (o : Operator) (scope : List Local) (t : Tree) (names : List Entry) → slice_get ops k ≡ Some o → HasNoFault ops o.body
-      → ((n : List ℕ) (d : DefId) (p : ℕ) → Contains scope (Defined n d p) → IsFaultless known ops d.0)
+      → ((n : List ℕ) (d : DefId) (p : ℕ) → Contains scope (Defined n d p) → d.0 ≢ k → IsFaultless known ops d.0)
       → ((n : List ℕ) → among names n ≡ known n) → Means names ops scope t o.body → IsFaultless known ops k
 
 -- nothing is wrong with the definitions that names of a program mean

@@ -11,7 +11,7 @@ use Rattle.tla_terms.specs.declared.standard.StandardOperator.{StandardOperator}
 use Rattle.tla_terms.specs.declared.standard.StandardOperator.TheVariants as operators
 use Rattle.tla_terms.specs.declared.spec.Spec.{Spec}
 use Rattle.tla_terms.specs.Terms as term
-use Rattle.tla_terms.specs.Terms.{Term, Meaning, Terms, Operands, Step, Steps, Bounds, Fields, Changes, Arms, count, level_of}
+use Rattle.tla_terms.specs.Terms.{Term, Meaning, Terms, Operands, Step, Steps, Bounds, Fields, Changes, count, level_of}
 use Rattle.tla_terms.specs.Levels.{level_for}
 use Rattle.tla_terms.specs.Lists.{terms_list, fields_list, bounds_list}
 use Rattle.term_parts.specs.declared.fault.LevelFault.{LevelFault}

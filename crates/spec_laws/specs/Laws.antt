@@ -10,7 +10,7 @@ use Rattle.tla_scopes.specs.declared.scope.Local.{Local}
 use Rattle.tla_scopes.specs.Scopes.{among, bind, slots}
 use Rattle.tla_names.specs.Complaints.{Takes, complaint, with_names}
 use Rattle.tla_names.specs.Means.{Means}
-use Rattle.tla_names.specs.Outcomes.{needed_by}
+use Rattle.tla_names.specs.Outcomes.{taken_by}
 use Rattle.spec_laws.specs.Everywhere.{Everywhere}
 use Rattle.spec_laws.specs.Formed.{IsFormed}
 use Rattle.spec_laws.specs.IsSpec.{IsRow, IsNeeded, IsReached}
@@ -30,10 +30,10 @@ MentionedHaveMeaning =
 abbrev pub IsOrderly : ℕ → List Operator → Operator → Type 0
 IsOrderly variables ops o = Everywhere (IsRow variables ops) (o.outer + o.params) o.body × (o.level ≡ level_of o.body)
 
--- What a tree of a program means under parameters, where names take as many arguments as they do in the program and nothing is wrong with them.
+-- What a tree of a program means under parameters, where of names the same is known as in the program, and nothing is wrong with them.
 abbrev pub TreesHaveTerms : Type 0
 TreesHaveTerms =
-    (known : NameMeanings) (ops : List Operator) (names : List Entry) (takes : Takes) (params : List (List ℕ)) (t : Tree) (e : Term) → ((n : List ℕ) → among names n ≡ known n) → ((n : List ℕ) → option_map needed_by (known n) ≡ takes n) → IsFormed t → complaint (with_names takes params) t ≡ None → Means names ops (bind [] params) t e → HasTerm known ops (bind [] params) t e
+    (known : NameMeanings) (ops : List Operator) (names : List Entry) (takes : Takes) (params : List (List ℕ)) (t : Tree) (e : Term) → ((n : List ℕ) → among names n ≡ known n) → ((n : List ℕ) → option_map (taken_by ops) (known n) ≡ takes n) → IsFormed t → complaint (with_names takes params) t ≡ None → Means names ops (bind [] params) t e → HasTerm known ops (bind [] params) t e
 
 -- a definition of a program, under its parameters
 abbrev pub DefinitionsHaveMeaning : Type 0

@@ -1,5 +1,5 @@
 -- What definitions of a table mean: each body of one is what a tree means, among the names of a program and those that are bound around it.
-use Rattle.std.specs.Prelude.{◌≡◌, ◌<◌, ◌≤◌, ◌+◌, ℕ, suc, List, [], ◌∷◌, Contains, Option, Some, None, slice_get}
+use Rattle.std.specs.Prelude.{◌≡◌, ◌≢◌, ◌<◌, ◌≤◌, ◌+◌, ℕ, suc, List, [], ◌∷◌, Contains, Option, Some, None, slice_get}
 use Rattle.tla_ast.specs.Trees.{Tree}
 use Rattle.tla_terms.specs.declared.ids.DefId.{DefId}
 use Rattle.tla_terms.specs.declared.operator.Operator.{Operator}
@@ -26,7 +26,7 @@ pub record HasTerm (known : NameMeanings) (ops : List Operator) (scope : List Lo
   pub names : List Entry
   pub are : (n : List ℕ) → among names n ≡ known n
   pub formed : IsFormed t
-  pub fine : complaint (takes_in names scope) t ≡ None
+  pub fine : complaint (takes_in ops names scope) t ≡ None
   pub means : Means names ops scope t e
 
 -- the definition of that number takes so many arguments, and so many slots around it at most
@@ -58,11 +58,11 @@ abbrev pub ScopeFits : List Operator → List Local → Type 0
 ScopeFits ops scope = FitFrom ops 0 scope
 
 -- The body of the definition is what some tree means where as many slots are taken as the definition has around it and as parameters. The
--- definitions that are bound there have meanings too.
+-- definitions that are bound there have meanings too; itself may be one of them, if it is a function that its body applies.
 pub data HasMeaning (known : NameMeanings) (ops : List Operator) : ℕ → Type 0 where
   meaning : (k : ℕ) (o : Operator) (scope : List Local) (t : Tree) → slice_get ops k ≡ Some o → o.level ≡ level_of o.body
       → slots scope ≡ o.outer + o.params → ScopeFits ops scope
-      → ((n : List ℕ) (d : DefId) (p : ℕ) → Contains scope (Defined n d p) → HasMeaning known ops d.0)
+      → ((n : List ℕ) (d : DefId) (p : ℕ) → Contains scope (Defined n d p) → d.0 ≢ k → HasMeaning known ops d.0)
       → HasTerm known ops scope t o.body → HasMeaning known ops k
 
 -- each definition that a name of the program means has a meaning

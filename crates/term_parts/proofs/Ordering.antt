@@ -43,7 +43,7 @@ pub body_within : (ops : List Operator) (k : ℕ) (o : Operator) → UsesSmaller
 body_within ops k o smaller is = in_order_within (length ops) k o.own o.body (item_within ops k o is) (smaller k o is)
 
 -- an item of a list with one more
-item_or_last : {A : Type 0} (xs : List A) (y : A) (k : ℕ) (x : A) → slice_get (xs ++ y ∷ []) k ≡ Some x → (slice_get xs k ≡ Some x) ⊎ ((length xs ≡ k) × (y ≡ x))
+pub item_or_last : {A : Type 0} (xs : List A) (y : A) (k : ℕ) (x : A) → slice_get (xs ++ y ∷ []) k ≡ Some x → (slice_get xs k ≡ Some x) ⊎ ((length xs ≡ k) × (y ≡ x))
 item_or_last [] y zero x q = inr (refl, cc)
 item_or_last [] y (suc k) x q = absurd (cc)
 item_or_last (z ∷ xs) y zero x q = inl q

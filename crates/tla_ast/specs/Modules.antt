@@ -3,8 +3,7 @@
 --
 -- 1. A module is dashes, MODULE, its name, dashes, EXTENDS and names where it extends others, units, equals signs and the End.
 -- 2. Declared names stand behind VARIABLE, VARIABLES, CONSTANT or CONSTANTS, with commas between them.
--- 3. Declared operators stand behind RECURSIVE, with commas between them. Each is a name, and `_` for each of its parameters. No module has
---    such a unit yet: what follows the reader does not know it.
+-- 3. Declared operators stand behind RECURSIVE, with commas between them. Each is a name, and `_` for each of its parameters.
 -- 4. A definition is its name and what stands behind it.
 -- 5. ASSUME, ASSUMPTION or AXIOM has an expression behind it, and a name and `==` before that or not.
 -- 6. Passed over are dashes, and THEOREM, LEMMA, PROPOSITION or COROLLARY with what stands behind it, which is as behind ASSUME.
@@ -72,15 +71,14 @@ variable_word = either (word words.Variable) (word words.Variables)
 abbrev pub constant_word : Span
 constant_word = either (word words.Constant) (word words.Constants)
 
+abbrev pub recursive_word : Span
+recursive_word = some_token (kinds.Foreign foreign.Recursive)
+
 abbrev pub assume_word : Span
 assume_word = either (word words.Assume) (either (word words.Assumption) (word words.Axiom))
 
 abbrev pub theorem_word : Span
 theorem_word = either (either (word words.Theorem) (word words.Lemma)) (either (word words.Proposition) (word words.Corollary))
-
--- RECURSIVE
-abbrev pub recursive_word : Span
-recursive_word = some_token (kinds.Foreign foreign.Recursive)
 
 -- some expression, whichever it is
 abbrev pub SomeExpression : Span
@@ -94,7 +92,7 @@ SomeText xs ys = (e : Tree) × Text e xs ys
 abbrev pub UnitTextBy : Span → ModuleUnit → Span
 UnitTextBy some (Variables ds) = variable_word ⨟ DeclaredNamesText ds
 UnitTextBy some (Constants ds) = constant_word ⨟ DeclaredNamesText ds
-UnitTextBy some (Recursive ds) = never
+UnitTextBy some (Recursive ds) = recursive_word ⨟ DeclaredOperatorsText ds
 UnitTextBy some (Define d) = token d.at (kinds.Name d.name) ⨟ DefinitionRest d.params d.form d.body
 UnitTextBy some (Assume e) = assume_word ⨟ MaybeTitle ⨟ Text e
 UnitTextBy some Passed = either (some_token kinds.Dashes) (theorem_word ⨟ MaybeTitle ⨟ some)

@@ -1,5 +1,7 @@
 pub mod Takes
+pub mod StandingOn
 pub mod Reading
+pub mod Risen
 pub mod Closing
 pub mod ListReads
 pub mod Within
@@ -9,3 +11,5 @@ pub mod Defining
 pub mod AroundLemmas
 pub mod MeansBelow
 pub mod Whole
+pub mod ToldNames
+pub mod OwnCalls

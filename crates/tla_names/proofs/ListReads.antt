@@ -14,8 +14,8 @@ use Rattle.tla_terms.specs.Terms as term
 use Rattle.tla_terms.specs.Terms.{Term}
 use Rattle.tla_names.specs.declared.fault.NameFault.{NameFault}
 use Rattle.tla_scopes.specs.declared.scope.Local.TheVariants.{Bound as Slot}
-use Rattle.tla_names.specs.Around.{Here, Around, takes}
-use Rattle.tla_names.specs.Complaints.{Takes, or_else, with_name, complaint, complaints, operands_complaint, step_complaint, steps_complaint, bounds_complaint, fields_complaint, changes_complaint, arms_complaint}
+use Rattle.tla_names.specs.Around.{Around, takes}
+use Rattle.tla_names.specs.Complaints.{Takes, bound_name, or_else, with_name, complaint, complaints, operands_complaint, step_complaint, steps_complaint, bounds_complaint, fields_complaint, changes_complaint, arms_complaint}
 use Rattle.tla_names.specs.Means.{Means, MeansStep, MeansSteps}
 use Rattle.tla_names.specs.Outcomes.{Complains}
 use Rattle.tla_names.specs.Reads.{Reads, Resolves, ResolvesEach, ResolvesOperands, ResolvesSteps, ResolvesBounds, ResolvesFields, ResolvesChanges, ResolvesArms, ResolvesOthers, RefusesOthers}
@@ -37,7 +37,7 @@ pub record EachRead (w v : Around) (items : List Tree) (i : ℕ) (ys : term.Term
 pub trees_begin : (w : Around) (items : List Tree) → EachRead w w items 0 term.NoTerms
 trees_begin w items = record { so_far = tree.NoTrees; whole = refl; read = nothing w (λ all g. refl) refl }
 
-pub trees_pushed : (w m v : Around) (items : List Tree) (i : ℕ) (ys new : term.Terms) (x : Tree) (X : Term) → new ≡ term.MoreTerms ys X → i < length items → x ≡ get_or items i x → EachRead w m items i ys → Reads m v (λ h. let g : Takes = takes h in complaint g x) (λ h all. Means h.names all h.scope x X) → EachRead w v items (i + 1) new
+pub trees_pushed : (w m v : Around) (items : List Tree) (i : ℕ) (ys new : term.Terms) (x : Tree) (X : Term) → new ≡ term.MoreTerms ys X → i < length items → x ≡ get_or items i x → EachRead w m items i ys → Reads m v (λ g. complaint g x) (λ h all. Means h.names all h.scope x X) → EachRead w v items (i + 1) new
 trees_pushed w m v items i ys new x X e lt at h r =
     record {
       so_far = tree.MoreTrees h.so_far x;
@@ -45,10 +45,10 @@ trees_pushed w m v items i ys new x X e lt at h r =
       read = so w v (and_then w m v h.read r) (λ h all p. (ys, X, e, p.0, p.1));
     }
 
-pub trees_refused : (w m : Around) (items : List Tree) (all : tree.Trees) (i : ℕ) (ys : term.Terms) (x : Tree) (f : NameFault) → trees_of items ≡ all → i < length items → x ≡ get_or items i x → EachRead w m items i ys → Complains (let g : Takes = takes m.here in complaint g x) f → Complains (complaints (takes w.here) all) f
+pub trees_refused : (w m : Around) (items : List Tree) (all : tree.Trees) (i : ℕ) (ys : term.Terms) (x : Tree) (f : NameFault) → trees_of items ≡ all → i < length items → x ≡ get_or items i x → EachRead w m items i ys → Complains (let g : Takes = takes m in complaint g x) f → Complains (complaints (takes w) all) f
 trees_refused w m items all i ys x f e lt at h c =
-    subst (λ (l : tree.Trees). Complains (complaints (takes w.here) l) f) (ap (λ ts. trees_from h.so_far ts) (sym (cut_at items i x lt at)) ∙ h.whole ∙ e)
-    (trees_complain_on (takes w.here) (tree.MoreTrees h.so_far x) (drop (i + 1) items) f (refused_later w m (λ (h : Here). let g : Takes = takes h in complaint g x) f h.read c))
+    subst (λ (l : tree.Trees). Complains (complaints (takes w) l) f) (ap (λ ts. trees_from h.so_far ts) (sym (cut_at items i x lt at)) ∙ h.whole ∙ e)
+    (trees_complain_on (takes w) (tree.MoreTrees h.so_far x) (drop (i + 1) items) f (refused_later w m (λ (g : Takes). complaint g x) f h.read c))
 
 pub trees_end : (w v : Around) (items : List Tree) (all : tree.Trees) (i : ℕ) (ys : term.Terms) → trees_of items ≡ all → length items ≤ i → EachRead w v items i ys → ResolvesEach w v all ys
 trees_end w v items all i ys e le h =
@@ -66,7 +66,7 @@ pub record StepsRead (w v : Around) (items : List StepAt) (i : ℕ) (ys : term.S
 pub steps_begin : (w : Around) (items : List StepAt) → StepsRead w w items 0 term.NoSteps
 steps_begin w items = record { so_far = tree.NoSteps; whole = refl; read = nothing w (λ all g. refl) refl }
 
-pub steps_pushed : (w m v : Around) (items : List StepAt) (i : ℕ) (ys new : term.Steps) (x : StepAt) (X : term.Step) → new ≡ term.MoreSteps ys x.at X → i < length items → x ≡ get_or items i x → StepsRead w m items i ys → Reads m v (λ h. let g : Takes = takes h in step_complaint g (step_view x.step)) (λ h all. MeansStep h.names all h.scope (step_view x.step) X) → StepsRead w v items (i + 1) new
+pub steps_pushed : (w m v : Around) (items : List StepAt) (i : ℕ) (ys new : term.Steps) (x : StepAt) (X : term.Step) → new ≡ term.MoreSteps ys x.at X → i < length items → x ≡ get_or items i x → StepsRead w m items i ys → Reads m v (λ g. step_complaint g (step_view x.step)) (λ h all. MeansStep h.names all h.scope (step_view x.step) X) → StepsRead w v items (i + 1) new
 steps_pushed w m v items i ys new x X e lt at h r =
     record {
       so_far = tree.MoreSteps h.so_far x.at (step_view x.step);
@@ -74,10 +74,10 @@ steps_pushed w m v items i ys new x X e lt at h r =
       read = so w v (and_then w m v h.read r) (λ h all p. (ys, X, e, p.0, p.1));
     }
 
-pub steps_refused : (w m : Around) (items : List StepAt) (all : tree.Steps) (i : ℕ) (ys : term.Steps) (x : StepAt) (f : NameFault) → steps_of items ≡ all → i < length items → x ≡ get_or items i x → StepsRead w m items i ys → Complains (let g : Takes = takes m.here in step_complaint g (step_view x.step)) f → Complains (steps_complaint (takes w.here) all) f
+pub steps_refused : (w m : Around) (items : List StepAt) (all : tree.Steps) (i : ℕ) (ys : term.Steps) (x : StepAt) (f : NameFault) → steps_of items ≡ all → i < length items → x ≡ get_or items i x → StepsRead w m items i ys → Complains (let g : Takes = takes m in step_complaint g (step_view x.step)) f → Complains (steps_complaint (takes w) all) f
 steps_refused w m items all i ys x f e lt at h c =
-    subst (λ (l : tree.Steps). Complains (steps_complaint (takes w.here) l) f) (ap (λ ts. steps_from h.so_far ts) (sym (cut_at items i x lt at)) ∙ h.whole ∙ e)
-    (steps_complain_on (takes w.here) (tree.MoreSteps h.so_far x.at (step_view x.step)) (drop (i + 1) items) f (refused_later w m (λ (h : Here). let g : Takes = takes h in step_complaint g (step_view x.step)) f h.read c))
+    subst (λ (l : tree.Steps). Complains (steps_complaint (takes w) l) f) (ap (λ ts. steps_from h.so_far ts) (sym (cut_at items i x lt at)) ∙ h.whole ∙ e)
+    (steps_complain_on (takes w) (tree.MoreSteps h.so_far x.at (step_view x.step)) (drop (i + 1) items) f (refused_later w m (λ (g : Takes). step_complaint g (step_view x.step)) f h.read c))
 
 pub steps_end : (w v : Around) (items : List StepAt) (all : tree.Steps) (i : ℕ) (ys : term.Steps) → steps_of items ≡ all → length items ≤ i → StepsRead w v items i ys → ResolvesSteps w v all ys
 steps_end w v items all i ys e le h =
@@ -95,7 +95,7 @@ pub record BoundsRead (w v : Around) (items : List Bound) (i : ℕ) (ys : term.B
 pub bounds_begin : (w : Around) (items : List Bound) → BoundsRead w w items 0 term.NoBounds
 bounds_begin w items = record { so_far = tree.NoBounds; whole = refl; read = nothing w (λ all g. refl) refl }
 
-pub bounds_pushed : (w m v : Around) (items : List Bound) (i : ℕ) (ys new : term.Bounds) (x : Bound) (X : Term) → new ≡ term.MoreBounds ys (length x.names) X → i < length items → x ≡ get_or items i x → BoundsRead w m items i ys → Reads m v (λ h. let g : Takes = takes h in complaint g x.set) (λ h all. Means h.names all h.scope x.set X) → BoundsRead w v items (i + 1) new
+pub bounds_pushed : (w m v : Around) (items : List Bound) (i : ℕ) (ys new : term.Bounds) (x : Bound) (X : Term) → new ≡ term.MoreBounds ys (length x.names) X → i < length items → x ≡ get_or items i x → BoundsRead w m items i ys → Reads m v (λ g. complaint g x.set) (λ h all. Means h.names all h.scope x.set X) → BoundsRead w v items (i + 1) new
 bounds_pushed w m v items i ys new x X e lt at h r =
     record {
       so_far = tree.MoreBounds h.so_far x.names x.set;
@@ -103,10 +103,10 @@ bounds_pushed w m v items i ys new x X e lt at h r =
       read = so w v (and_then w m v h.read r) (λ h all p. (ys, X, e, p.0, p.1));
     }
 
-pub bounds_refused : (w m : Around) (items : List Bound) (all : tree.Bounds) (i : ℕ) (ys : term.Bounds) (x : Bound) (f : NameFault) → bounds_of items ≡ all → i < length items → x ≡ get_or items i x → BoundsRead w m items i ys → Complains (let g : Takes = takes m.here in complaint g x.set) f → Complains (bounds_complaint (takes w.here) all) f
+pub bounds_refused : (w m : Around) (items : List Bound) (all : tree.Bounds) (i : ℕ) (ys : term.Bounds) (x : Bound) (f : NameFault) → bounds_of items ≡ all → i < length items → x ≡ get_or items i x → BoundsRead w m items i ys → Complains (let g : Takes = takes m in complaint g x.set) f → Complains (bounds_complaint (takes w) all) f
 bounds_refused w m items all i ys x f e lt at h c =
-    subst (λ (l : tree.Bounds). Complains (bounds_complaint (takes w.here) l) f) (ap (λ ts. bounds_from h.so_far ts) (sym (cut_at items i x lt at)) ∙ h.whole ∙ e)
-    (bounds_complain_on (takes w.here) (tree.MoreBounds h.so_far x.names x.set) (drop (i + 1) items) f (refused_later w m (λ (h : Here). let g : Takes = takes h in complaint g x.set) f h.read c))
+    subst (λ (l : tree.Bounds). Complains (bounds_complaint (takes w) l) f) (ap (λ ts. bounds_from h.so_far ts) (sym (cut_at items i x lt at)) ∙ h.whole ∙ e)
+    (bounds_complain_on (takes w) (tree.MoreBounds h.so_far x.names x.set) (drop (i + 1) items) f (refused_later w m (λ (g : Takes). complaint g x.set) f h.read c))
 
 pub bounds_end : (w v : Around) (items : List Bound) (all : tree.Bounds) (i : ℕ) (ys : term.Bounds) → bounds_of items ≡ all → length items ≤ i → BoundsRead w v items i ys → ResolvesBounds w v all ys
 bounds_end w v items all i ys e le h =
@@ -124,7 +124,7 @@ pub record FieldsRead (w v : Around) (items : List Field) (i : ℕ) (ys : term.F
 pub fields_begin : (w : Around) (items : List Field) → FieldsRead w w items 0 term.NoFields
 fields_begin w items = record { so_far = tree.NoFields; whole = refl; read = nothing w (λ all g. refl) refl }
 
-pub fields_pushed : (w m v : Around) (items : List Field) (i : ℕ) (ys new : term.Fields) (x : Field) (X : Term) → new ≡ term.MoreFields ys x.name X → i < length items → x ≡ get_or items i x → FieldsRead w m items i ys → Reads m v (λ h. let g : Takes = takes h in complaint g x.value) (λ h all. Means h.names all h.scope x.value X) → FieldsRead w v items (i + 1) new
+pub fields_pushed : (w m v : Around) (items : List Field) (i : ℕ) (ys new : term.Fields) (x : Field) (X : Term) → new ≡ term.MoreFields ys x.name X → i < length items → x ≡ get_or items i x → FieldsRead w m items i ys → Reads m v (λ g. complaint g x.value) (λ h all. Means h.names all h.scope x.value X) → FieldsRead w v items (i + 1) new
 fields_pushed w m v items i ys new x X e lt at h r =
     record {
       so_far = tree.MoreFields h.so_far x.name x.value;
@@ -132,10 +132,10 @@ fields_pushed w m v items i ys new x X e lt at h r =
       read = so w v (and_then w m v h.read r) (λ h all p. (ys, X, e, p.0, p.1));
     }
 
-pub fields_refused : (w m : Around) (items : List Field) (all : tree.Fields) (i : ℕ) (ys : term.Fields) (x : Field) (f : NameFault) → fields_of items ≡ all → i < length items → x ≡ get_or items i x → FieldsRead w m items i ys → Complains (let g : Takes = takes m.here in complaint g x.value) f → Complains (fields_complaint (takes w.here) all) f
+pub fields_refused : (w m : Around) (items : List Field) (all : tree.Fields) (i : ℕ) (ys : term.Fields) (x : Field) (f : NameFault) → fields_of items ≡ all → i < length items → x ≡ get_or items i x → FieldsRead w m items i ys → Complains (let g : Takes = takes m in complaint g x.value) f → Complains (fields_complaint (takes w) all) f
 fields_refused w m items all i ys x f e lt at h c =
-    subst (λ (l : tree.Fields). Complains (fields_complaint (takes w.here) l) f) (ap (λ ts. fields_from h.so_far ts) (sym (cut_at items i x lt at)) ∙ h.whole ∙ e)
-    (fields_complain_on (takes w.here) (tree.MoreFields h.so_far x.name x.value) (drop (i + 1) items) f (refused_later w m (λ (h : Here). let g : Takes = takes h in complaint g x.value) f h.read c))
+    subst (λ (l : tree.Fields). Complains (fields_complaint (takes w) l) f) (ap (λ ts. fields_from h.so_far ts) (sym (cut_at items i x lt at)) ∙ h.whole ∙ e)
+    (fields_complain_on (takes w) (tree.MoreFields h.so_far x.name x.value) (drop (i + 1) items) f (refused_later w m (λ (g : Takes). complaint g x.value) f h.read c))
 
 pub fields_end : (w v : Around) (items : List Field) (all : tree.Fields) (i : ℕ) (ys : term.Fields) → fields_of items ≡ all → length items ≤ i → FieldsRead w v items i ys → ResolvesFields w v all ys
 fields_end w v items all i ys e le h =
@@ -143,7 +143,7 @@ fields_end w v items all i ys e le h =
 
 changes_complain_on : (g : Takes) (l : tree.Changes) (xs : List Change) (f : NameFault) → Complains (changes_complaint g l) f → Complains (changes_complaint g (changes_from l xs)) f
 changes_complain_on g l [] f c = c
-changes_complain_on g l (x ∷ xs) f c = changes_complain_on g (tree.MoreChanges l x.path x.value) xs f (complains_first (changes_complaint g l) (or_else (steps_complaint g x.path) (complaint (with_name g at_sign 0) x.value)) f c)
+changes_complain_on g l (x ∷ xs) f c = changes_complain_on g (tree.MoreChanges l x.path x.value) xs f (complains_first (changes_complaint g l) (or_else (steps_complaint g x.path) (complaint (with_name g at_sign bound_name) x.value)) f c)
 
 pub record ChangesRead (w v : Around) (items : List Change) (i : ℕ) (ys : term.Changes) : Type 0 where
   pub so_far : tree.Changes
@@ -153,7 +153,7 @@ pub record ChangesRead (w v : Around) (items : List Change) (i : ℕ) (ys : term
 pub changes_begin : (w : Around) (items : List Change) → ChangesRead w w items 0 term.NoChanges
 changes_begin w items = record { so_far = tree.NoChanges; whole = refl; read = nothing w (λ all g. refl) refl }
 
-pub changes_pushed : (w m v : Around) (items : List Change) (i : ℕ) (ys new : term.Changes) (x : Change) (P : term.Steps) (X : Term) → new ≡ term.MoreChanges ys P X → i < length items → x ≡ get_or items i x → ChangesRead w m items i ys → Reads m v (λ h. let g : Takes = takes h in or_else (steps_complaint g x.path) (complaint (with_name g at_sign 0) x.value)) (λ h all. MeansSteps h.names all h.scope x.path P × Means h.names all (h.scope ++ Slot at_sign ∷ []) x.value X) → ChangesRead w v items (i + 1) new
+pub changes_pushed : (w m v : Around) (items : List Change) (i : ℕ) (ys new : term.Changes) (x : Change) (P : term.Steps) (X : Term) → new ≡ term.MoreChanges ys P X → i < length items → x ≡ get_or items i x → ChangesRead w m items i ys → Reads m v (λ g. or_else (steps_complaint g x.path) (complaint (with_name g at_sign bound_name) x.value)) (λ h all. MeansSteps h.names all h.scope x.path P × Means h.names all (h.scope ++ Slot at_sign ∷ []) x.value X) → ChangesRead w v items (i + 1) new
 changes_pushed w m v items i ys new x P X e lt at h r =
     record {
       so_far = tree.MoreChanges h.so_far x.path x.value;
@@ -161,10 +161,10 @@ changes_pushed w m v items i ys new x P X e lt at h r =
       read = so w v (and_then w m v h.read r) (λ h all p. (ys, P, X, e, p.0, p.1.0, p.1.1));
     }
 
-pub changes_refused : (w m : Around) (items : List Change) (all : tree.Changes) (i : ℕ) (ys : term.Changes) (x : Change) (f : NameFault) → changes_of items ≡ all → i < length items → x ≡ get_or items i x → ChangesRead w m items i ys → Complains (let g : Takes = takes m.here in or_else (steps_complaint g x.path) (complaint (with_name g at_sign 0) x.value)) f → Complains (changes_complaint (takes w.here) all) f
+pub changes_refused : (w m : Around) (items : List Change) (all : tree.Changes) (i : ℕ) (ys : term.Changes) (x : Change) (f : NameFault) → changes_of items ≡ all → i < length items → x ≡ get_or items i x → ChangesRead w m items i ys → Complains (let g : Takes = takes m in or_else (steps_complaint g x.path) (complaint (with_name g at_sign bound_name) x.value)) f → Complains (changes_complaint (takes w) all) f
 changes_refused w m items all i ys x f e lt at h c =
-    subst (λ (l : tree.Changes). Complains (changes_complaint (takes w.here) l) f) (ap (λ ts. changes_from h.so_far ts) (sym (cut_at items i x lt at)) ∙ h.whole ∙ e)
-    (changes_complain_on (takes w.here) (tree.MoreChanges h.so_far x.path x.value) (drop (i + 1) items) f (refused_later w m (λ (h : Here). let g : Takes = takes h in or_else (steps_complaint g x.path) (complaint (with_name g at_sign 0) x.value)) f h.read c))
+    subst (λ (l : tree.Changes). Complains (changes_complaint (takes w) l) f) (ap (λ ts. changes_from h.so_far ts) (sym (cut_at items i x lt at)) ∙ h.whole ∙ e)
+    (changes_complain_on (takes w) (tree.MoreChanges h.so_far x.path x.value) (drop (i + 1) items) f (refused_later w m (λ (g : Takes). or_else (steps_complaint g x.path) (complaint (with_name g at_sign bound_name) x.value)) f h.read c))
 
 pub changes_end : (w v : Around) (items : List Change) (all : tree.Changes) (i : ℕ) (ys : term.Changes) → changes_of items ≡ all → length items ≤ i → ChangesRead w v items i ys → ResolvesChanges w v all ys
 changes_end w v items all i ys e le h =
@@ -182,7 +182,7 @@ pub record ArmsRead (w v : Around) (items : List Arm) (i : ℕ) (ys : term.Arms)
 pub arms_begin : (w : Around) (items : List Arm) → ArmsRead w w items 0 term.NoArms
 arms_begin w items = record { so_far = tree.NoArms; whole = refl; read = nothing w (λ all g. refl) refl }
 
-pub arms_pushed : (w m v : Around) (items : List Arm) (i : ℕ) (ys new : term.Arms) (x : Arm) (X : Term) (Y : Term) → new ≡ term.MoreArms ys X Y → i < length items → x ≡ get_or items i x → ArmsRead w m items i ys → Reads m v (λ h. let g : Takes = takes h in or_else (complaint g x.test) (complaint g x.value)) (λ h all. Means h.names all h.scope x.test X × Means h.names all h.scope x.value Y) → ArmsRead w v items (i + 1) new
+pub arms_pushed : (w m v : Around) (items : List Arm) (i : ℕ) (ys new : term.Arms) (x : Arm) (X : Term) (Y : Term) → new ≡ term.MoreArms ys X Y → i < length items → x ≡ get_or items i x → ArmsRead w m items i ys → Reads m v (λ g. or_else (complaint g x.test) (complaint g x.value)) (λ h all. Means h.names all h.scope x.test X × Means h.names all h.scope x.value Y) → ArmsRead w v items (i + 1) new
 arms_pushed w m v items i ys new x X Y e lt at h r =
     record {
       so_far = tree.MoreArms h.so_far x.test x.value;
@@ -190,10 +190,10 @@ arms_pushed w m v items i ys new x X Y e lt at h r =
       read = so w v (and_then w m v h.read r) (λ h all p. (ys, X, Y, e, p.0, p.1.0, p.1.1));
     }
 
-pub arms_refused : (w m : Around) (items : List Arm) (all : tree.Arms) (i : ℕ) (ys : term.Arms) (x : Arm) (f : NameFault) → arms_of items ≡ all → i < length items → x ≡ get_or items i x → ArmsRead w m items i ys → Complains (let g : Takes = takes m.here in or_else (complaint g x.test) (complaint g x.value)) f → Complains (arms_complaint (takes w.here) all) f
+pub arms_refused : (w m : Around) (items : List Arm) (all : tree.Arms) (i : ℕ) (ys : term.Arms) (x : Arm) (f : NameFault) → arms_of items ≡ all → i < length items → x ≡ get_or items i x → ArmsRead w m items i ys → Complains (let g : Takes = takes m in or_else (complaint g x.test) (complaint g x.value)) f → Complains (arms_complaint (takes w) all) f
 arms_refused w m items all i ys x f e lt at h c =
-    subst (λ (l : tree.Arms). Complains (arms_complaint (takes w.here) l) f) (ap (λ ts. arms_from h.so_far ts) (sym (cut_at items i x lt at)) ∙ h.whole ∙ e)
-    (arms_complain_on (takes w.here) (tree.MoreArms h.so_far x.test x.value) (drop (i + 1) items) f (refused_later w m (λ (h : Here). let g : Takes = takes h in or_else (complaint g x.test) (complaint g x.value)) f h.read c))
+    subst (λ (l : tree.Arms). Complains (arms_complaint (takes w) l) f) (ap (λ ts. arms_from h.so_far ts) (sym (cut_at items i x lt at)) ∙ h.whole ∙ e)
+    (arms_complain_on (takes w) (tree.MoreArms h.so_far x.test x.value) (drop (i + 1) items) f (refused_later w m (λ (g : Takes). or_else (complaint g x.test) (complaint g x.value)) f h.read c))
 
 pub arms_end : (w v : Around) (items : List Arm) (all : tree.Arms) (i : ℕ) (ys : term.Arms) → arms_of items ≡ all → length items ≤ i → ArmsRead w v items i ys → ResolvesArms w v all ys
 arms_end w v items all i ys e le h =
@@ -220,11 +220,11 @@ others_pushed w m v items i before os new x X e lt at h r =
           (tree.Next n.0 x.at x.value, ap (λ ts. operands_from n.0 ts) (sym (cut_at items i x lt at)) ∙ n.1, so first v (and_then first m v n.2 r) (λ h all p. (os, X, e, p.0, p.1)));
     }
 
-pub others_refused : (w m : Around) (items : List Operand) (all : tree.Operands) (i : ℕ) (before os : term.Operands) (x : Operand) (f : NameFault) → operands_of (first_of all) items ≡ all → i < length items → x ≡ get_or items i x → OthersRead w m items i before os → Complains (complaint (takes m.here) x.value) f → RefusesOthers w all before f
+pub others_refused : (w m : Around) (items : List Operand) (all : tree.Operands) (i : ℕ) (before os : term.Operands) (x : Operand) (f : NameFault) → operands_of (first_of all) items ≡ all → i < length items → x ≡ get_or items i x → OthersRead w m items i before os → Complains (complaint (takes m) x.value) f → RefusesOthers w all before f
 others_refused w m items all i before os x f e lt at h c = λ first b.
     let n : (so_far : tree.Operands) × (operands_from so_far (drop i items) ≡ operands_of (first_of all) items) × ResolvesOperands first m so_far os = h.read first (tree.First (first_of all)) b in
-    subst (λ (l : tree.Operands). Complains (operands_complaint (takes first.here) l) f) (ap (λ ts. operands_from n.0 ts) (sym (cut_at items i x lt at)) ∙ n.1 ∙ e)
-    (operands_complain_on (takes first.here) (tree.Next n.0 x.at x.value) (drop (i + 1) items) f (refused_later first m (λ (h : Here). complaint (takes h) x.value) f n.2 c))
+    subst (λ (l : tree.Operands). Complains (operands_complaint (takes first) l) f) (ap (λ ts. operands_from n.0 ts) (sym (cut_at items i x lt at)) ∙ n.1 ∙ e)
+    (operands_complain_on (takes first) (tree.Next n.0 x.at x.value) (drop (i + 1) items) f (refused_later first m (λ (g : Takes). complaint g x.value) f n.2 c))
 
 pub others_end : (w v : Around) (items : List Operand) (all : tree.Operands) (i : ℕ) (before os : term.Operands) → operands_of (first_of all) items ≡ all → length items ≤ i → OthersRead w v items i before os → ResolvesOthers w v all before os
 others_end w v items all i before os e le h = λ first b.
@@ -235,9 +235,9 @@ others_end w v items all i before os e le h = λ first b.
 pub first_read : (w v : Around) (first : Tree) (x : Term) (os : term.Operands) → os ≡ term.First x → Resolves w v first x → ResolvesOperands w v (tree.First first) os
 first_read w v first x os e r = so w v r (λ h all p. (x, e, p))
 
-pub first_refused : (w : Around) (first : Tree) (xs : List Operand) (all : tree.Operands) (f : NameFault) → operands_of first xs ≡ all → Complains (complaint (takes w.here) first) f → Complains (operands_complaint (takes w.here) all) f
+pub first_refused : (w : Around) (first : Tree) (xs : List Operand) (all : tree.Operands) (f : NameFault) → operands_of first xs ≡ all → Complains (complaint (takes w) first) f → Complains (operands_complaint (takes w) all) f
 first_refused w first xs all f e c =
-    subst (λ (l : tree.Operands). Complains (operands_complaint (takes w.here) l) f) e (operands_complain_on (takes w.here) (tree.First first) xs f c)
+    subst (λ (l : tree.Operands). Complains (operands_complaint (takes w) l) f) e (operands_complain_on (takes w) (tree.First first) xs f c)
 
 -- the first operand, and those behind it
 
@@ -245,10 +245,10 @@ pub rest_read : (w m v : Around) (first : Tree) (xs : List Operand) (all : tree.
 rest_read w m v first xs all x before os e b r o =
     o w (subst (λ (t : Tree). ResolvesOperands w m (tree.First t) before) (sym (first_is first xs all e)) (first_read w m first x before b r))
 
-pub rest_refused : (w m : Around) (first : Tree) (xs : List Operand) (all : tree.Operands) (x : Term) (before : term.Operands) (f : NameFault) → operands_of first xs ≡ all → before ≡ term.First x → Resolves w m first x → RefusesOthers m all before f → Complains (operands_complaint (takes w.here) all) f
+pub rest_refused : (w m : Around) (first : Tree) (xs : List Operand) (all : tree.Operands) (x : Term) (before : term.Operands) (f : NameFault) → operands_of first xs ≡ all → before ≡ term.First x → Resolves w m first x → RefusesOthers m all before f → Complains (operands_complaint (takes w) all) f
 rest_refused w m first xs all x before f e b r o =
     o w (subst (λ (t : Tree). ResolvesOperands w m (tree.First t) before) (sym (first_is first xs all e)) (first_read w m first x before b r))
 
 -- a tree is refused where a name is bound
 abbrev pub IsRefusedUnder : Around → List ℕ → Tree → NameFault → Type 0
-IsRefusedUnder w n t f = Complains (complaint (with_name (takes w.here) n 0) t) f
+IsRefusedUnder w n t f = Complains (complaint (with_name (takes w) n bound_name) t) f

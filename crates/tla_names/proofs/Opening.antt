@@ -19,15 +19,17 @@ use Rattle.tla_names.specs.declared.pending.Pending.{Pending}
 use Rattle.tla_names.specs.declared.pending.Pending.TheVariants as pending
 use Rattle.tla_scopes.specs.declared.scope.Local.{Local}
 use Rattle.tla_scopes.specs.declared.scope.Local.TheVariants.{Bound, Defined}
-use Rattle.tla_names.specs.Around.{Here, Around, takes}
-use Rattle.tla_names.specs.Complaints.{Takes, or_else, with_name, with_bounds, with_definitions, complaint, bounds_complaint, definitions_complaint}
+use Rattle.tla_names.specs.Around.{Here, Around, IsAround, takes}
+use Rattle.tla_names.specs.Complaints.{Takes, or_else, bound_name, with_name, with_bounds, with_definitions, complaint, bounds_complaint, definitions_complaint}
 use Rattle.tla_names.specs.Means.{Means, Defines}
-use Rattle.tla_names.specs.Outcomes.{takes_in, Complains, Grows, named_in, KeepsOrder}
+use Rattle.tla_names.specs.Outcomes.{takes_in, Complains, Grows, named_in, KeepsOrder, StandsOn}
 use Rattle.tla_names.specs.Pendings.{closed, closed_all, Opens, OpensRow, StaysClosed}
 use Rattle.tla_names.specs.Reads.{Reads, Resolves, ResolvesRow, ResolvesBounds, ResolvesDefinitions, ResolvesTo, cut}
 use Rattle.tla_scopes.specs.Scopes.{bind, bind_bounds}
-use Rattle.tla_names.proofs.Takes.{takes_bound, takes_bounds, takes_definitions}
+use Rattle.tla_names.proofs.AroundLemmas.{around_cut, takes_grown}
+use Rattle.tla_names.proofs.Takes.{takes_bound, takes_bounds}
 use Rattle.tla_names.proofs.Reading.{grows_same, grows_on}
+use Rattle.tla_names.proofs.StandingOn.{stands_same, stands_grown, stands_later}
 use Rattle.tla_names.proofs.Within.{bounds_add}
 use Rattle.tla_names.proofs.Closing.{closed_behind}
 
@@ -42,7 +44,7 @@ only_third None b c e = ap (λ x. or_else x c) e
 
 -- Rows.
 
-pub if_opens : (w v : Around) (rows new : List Pending) (at : Place) (p a last t : Tree) (x y : Term) → tree.If at p a last ≡ t → new ≡ rows ++ pending.If at x y ∷ [] → Reads w v (λ h. or_else (complaint (takes h) p) (complaint (takes h) a)) (λ h all. Means h.names all h.scope p x × Means h.names all h.scope a y) → OpensRow w v rows new t last
+pub if_opens : (w v : Around) (rows new : List Pending) (at : Place) (p a last t : Tree) (x y : Term) → tree.If at p a last ≡ t → new ≡ rows ++ pending.If at x y ∷ [] → Reads w v (λ g. or_else (complaint g p) (complaint g a)) (λ h all. Means h.names all h.scope p x × Means h.names all h.scope a y) → OpensRow w v rows new t last
 if_opens w v rows new at p a last t x y e n r =
     subst (λ (u : Tree). OpensRow w v rows new u last) e
     (record {
@@ -55,7 +57,7 @@ if_opens w v rows new at p a last t x y e n r =
       unnamed = r.unnamed;
       ordered = r.ordered;
       means = λ all g z q. (x, y, z, (r.means all g).0, (r.means all g).1, subst (λ (h : Here). Means h.names all h.scope last z) r.kept q, refl);
-      same = only_third (complaint (takes w.here) p) (complaint (takes w.here) a) (complaint (takes w.here) last) r.fine ∙ ap (λ (h : Here). complaint (takes h) last) (sym r.kept);
+      same = only_third (complaint (takes w) p) (complaint (takes w) a) (complaint (takes w) last) r.fine ∙ ap (λ (g : Takes). complaint g last) (sym r.taken);
       within = omega arith;
     })
 
@@ -77,8 +79,8 @@ quantified_opens w m v rows new at q bs a t ys e n r b =
       unnamed = ap named_in table ∙ r.unnamed;
       ordered = subst (λ (x : List Operator). KeepsOrder w.table x) (sym table) r.ordered;
       means = λ all g z k.
-          (ys, z, r.means all (subst (λ (x : List Operator). Grows x all) table g), subst (λ (x : List Entry). Means x all (bind_bounds w.here.scope bs) a z) names (subst (λ (x : List Local). Means v.here.names all x a z) scope k), refl);
-      same = only_last (bounds_complaint (takes w.here) bs) (complaint (with_bounds (takes w.here) bs) a) r.fine ∙ ap (λ (g : Takes). complaint g a) (sym (ap (λ (x : List Entry). takes_in x v.here.scope) names ∙ ap (λ (x : List Local). takes_in w.here.names x) scope ∙ takes_bounds w.here.names w.here.scope bs));
+          (ys, z, r.means all (subst (λ (x : List Operator). StandsOn (length w.table) x all) table g), subst (λ (x : List Entry). Means x all (bind_bounds w.here.scope bs) a z) names (subst (λ (x : List Local). Means v.here.names all x a z) scope k), refl);
+      same = only_last (bounds_complaint (takes w) bs) (complaint (with_bounds (takes w) bs) a) r.fine ∙ ap (λ (g : Takes). complaint g a) (sym (ap takes b ∙ takes_bounds m.table m.here.names m.here.scope bs ∙ ap (λ (g : Takes). with_bounds g bs) r.taken));
       within = omega arith;
     })
 
@@ -99,8 +101,8 @@ choose_opens w m v rows new at n s a t y e j r b =
       unnamed = ap named_in table ∙ r.unnamed;
       ordered = subst (λ (x : List Operator). KeepsOrder w.table x) (sym table) r.ordered;
       means = λ all g z k.
-          (y, z, r.means all (subst (λ (x : List Operator). Grows x all) table g), subst (λ (x : List Entry). Means x all (w.here.scope ++ Bound n ∷ []) a z) names (subst (λ (x : List Local). Means v.here.names all x a z) scope k), refl);
-      same = only_last (complaint (takes w.here) s) (complaint (with_name (takes w.here) n 0) a) r.fine ∙ ap (λ (g : Takes). complaint g a) (sym (ap (λ (x : List Entry). takes_in x v.here.scope) names ∙ ap (λ (x : List Local). takes_in w.here.names x) scope ∙ takes_bound w.here.names w.here.scope n));
+          (y, z, r.means all (subst (λ (x : List Operator). StandsOn (length w.table) x all) table g), subst (λ (x : List Entry). Means x all (w.here.scope ++ Bound n ∷ []) a z) names (subst (λ (x : List Local). Means v.here.names all x a z) scope k), refl);
+      same = only_last (complaint (takes w) s) (complaint (with_name (takes w) n bound_name) a) r.fine ∙ ap (λ (g : Takes). complaint g a) (sym (ap takes b ∙ takes_bound m.table m.here.names m.here.scope n ∙ ap (λ (g : Takes). with_name g n bound_name) r.taken));
       within = omega arith;
     })
 
@@ -113,7 +115,7 @@ defines_add names ops sc (tree.MoreDefinitions ds n at ps form e) ks inner d =
 
 pub let_opens : (w v : Around) (rows new : List Pending) (at : Place) (ds : tree.Definitions) (a t : Tree) (ks : List ℕ) → tree.Let at ds a ≡ t → new ≡ rows ++ pending.Scoped at ks ∷ [] → ResolvesDefinitions w v ds ks → OpensRow w v rows new t a
 let_opens w v rows new at ds a t ks e n r =
-    let d : Defines w.here.names v.table w.here.scope ds ks v.here.scope = r.means v.table (grows_same v.table) in
+    let d : Defines w.here.names v.table w.here.scope ds ks v.here.scope = r.means v.table (stands_same (length w.table) v.table) in
     let more : (more : List Local) × (v.here.scope ≡ w.here.scope ++ more) = defines_add w.here.names v.table w.here.scope ds ks v.here.scope d in
     subst (λ (u : Tree). OpensRow w v rows new u a) e
     (record {
@@ -126,7 +128,7 @@ let_opens w v rows new at ds a t ks e n r =
       unnamed = r.unnamed;
       ordered = r.ordered;
       means = λ all g z k. (ks, v.here.scope, z, r.means all g, subst (λ (x : List Entry). Means x all v.here.scope a z) r.kept k, refl);
-      same = only_last (definitions_complaint (takes w.here) ds) (complaint (with_definitions (takes w.here) ds) a) r.fine ∙ ap (λ (g : Takes). complaint g a) (sym (ap (λ (x : List Entry). takes_in x v.here.scope) r.kept ∙ takes_definitions w.here.names v.table w.here.scope ds ks v.here.scope d));
+      same = only_last (definitions_complaint (takes w) ds) (complaint (with_definitions (takes w) ds) a) r.fine ∙ ap (λ (g : Takes). complaint g a) (sym r.taken);
       within = omega arith;
     })
 
@@ -157,7 +159,7 @@ opens_on w m v rows new t mid last a b =
       ordered = λ o. b.ordered (a.ordered o);
       means = λ all g x k.
           subst (λ (e : Term). Means w.here.names all w.here.scope t e) (sym (ap (λ (rs : List Pending). closed_all rs x) b.added ∙ closed_behind rows b.row x))
-          (a.means all (grows_on m.table b.grown g) (closed b.row x) (b.means all g x k));
+          (a.means all (stands_grown m.table b.grown g) (closed b.row x) (b.means all (stands_later w.table a.grown g) x k));
       same = a.same ∙ b.same;
       within = omega (arith, a.within, b.within);
     }
@@ -166,7 +168,7 @@ pub opens_stay : (w m v : Around) (rows new : List Pending) (t rest : Tree) → 
 opens_stay w m v rows new t rest a s =
     subst (λ (x : List Pending). Opens w v x t rest) (sym s.added) (subst (λ (x : Around). Opens w x rows t rest) (sym s.around) a)
 
-pub opens_refused : (w m : Around) (rows : List Pending) (t rest : Tree) (f : NameFault) → Opens w m rows t rest → Complains (complaint (takes m.here) rest) f → Complains (complaint (takes w.here) t) f
+pub opens_refused : (w m : Around) (rows : List Pending) (t rest : Tree) (f : NameFault) → Opens w m rows t rest → Complains (complaint (takes m) rest) f → Complains (complaint (takes w) t) f
 opens_refused w m rows t rest f a c = subst (λ (x : Option NameFault). Complains x f) (sym a.same) c
 
 -- The whole tree.
@@ -176,18 +178,22 @@ take_less zero xs ys le = refl
 take_less (suc k) [] ys le = absurd (omega (arith, le))
 take_less (suc k) (x ∷ xs) ys le = ap (λ t. x ∷ t) (take_less k xs ys (omega (arith, le)))
 
-pub opens_to : (w m v u : Around) (depth : ℕ) (rows : List Pending) (t rest : Tree) (n : Meaning) (e whole : Term) → Opens w m rows t rest → ResolvesRow m v rest n → e ≡ Placed (place_of rest) (level_for v.table n) n → u ≡ record { here = record { names = v.here.names; scope = take depth v.here.scope }; table = v.table } → whole ≡ closed_all rows e → ResolvesTo w u depth t whole
-opens_to w m v u depth rows t rest n e whole a r p c q =
+pub opens_to : (w m v u : Around) (depth : ℕ) (rows : List Pending) (t rest : Tree) (n : Meaning) (e whole : Term) → IsAround w.here.names w.here.scope w.table → Opens w m rows t rest → ResolvesRow m v rest n → e ≡ Placed (place_of rest) (level_for v.table n) n → u ≡ record { here = record { names = v.here.names; scope = take depth v.here.scope }; table = v.table } → whole ≡ closed_all rows e → ResolvesTo w u depth t whole
+opens_to w m v u depth rows t rest n e whole s a r p c q =
     let table : u.table ≡ v.table = ap (λ (x : Around). x.table) c in
+    let grown : Grows w.table u.table = subst (λ (x : List Operator). Grows w.table x) (sym table) (grows_on w.table a.grown r.grown) in
+    let kept : depth ≤ length w.here.scope → u.here ≡ cut depth w.here =
+    λ le. ap (λ (x : Around). x.here) c ∙ ap (λ (h : Here). cut depth h) r.kept ∙ ap (λ (x : List Entry). record { names = x; scope = take depth m.here.scope }) a.kept ∙ ap (λ (x : List Local). record { names = w.here.names; scope = x }) (ap (λ (x : List Local). take depth x) a.scope ∙ take_less depth w.here.scope a.bound le) in
     record {
-      kept = λ le. ap (λ (x : Around). x.here) c ∙ ap (λ (h : Here). cut depth h) r.kept ∙ ap (λ (x : List Entry). record { names = x; scope = take depth m.here.scope }) a.kept ∙ ap (λ (x : List Local). record { names = w.here.names; scope = x }) (ap (λ (x : List Local). take depth x) a.scope ∙ take_less depth w.here.scope a.bound le);
-      grown = subst (λ (x : List Operator). Grows w.table x) (sym table) (grows_on w.table a.grown r.grown);
+      kept = kept;
+      grown = grown;
       unnamed = ap named_in table ∙ r.unnamed ∙ a.unnamed;
       ordered = subst (λ (x : List Operator). KeepsOrder w.table x) (sym table) (λ o. r.ordered (a.ordered o));
+      taken = λ le. ap (λ (h : Here). takes_in u.table h.names h.scope) (kept le) ∙ takes_grown w.here.names (take depth w.here.scope) w.table u.table (around_cut w.here.names w.here.scope w.table depth s) grown;
       means = λ all g.
-          let k : Grows v.table all = subst (λ (x : List Operator). Grows x all) table g in
+          let k : StandsOn (length w.table) v.table all = subst (λ (x : List Operator). StandsOn (length w.table) x all) table g in
           subst (λ (x : Term). Means w.here.names all w.here.scope t x) (sym q)
-          (a.means all (grows_on m.table r.grown k) e (subst (λ (x : Term). Means m.here.names all m.here.scope rest x) (sym p) (r.means all k)));
+          (a.means all (stands_grown m.table r.grown k) e (subst (λ (x : Term). Means m.here.names all m.here.scope rest x) (sym p) (r.means all (stands_later w.table a.grown k))));
       fine = a.same ∙ r.fine;
     }
 

@@ -1,5 +1,5 @@
 -- How what was read comes together.
-use Rattle.std.proofs.Common.{◌≡◌, ◌∙◌, sym, ap, refl, subst, List, [], ◌++◌, append_assoc, append-nil}
+use Rattle.std.proofs.Common.{◌≡◌, ◌∙◌, sym, ap, refl, subst, List, [], ◌++◌, length, append_assoc, append-nil}
 use Rattle.std.specs.Prelude.{Option, None, Result, Ok, Err, IfErr, IsErrAnd}
 use Rattle.tla_ast.specs.Trees.{Tree}
 use Rattle.tla_terms.specs.declared.operator.Operator.{Operator}
@@ -7,9 +7,10 @@ use Rattle.tla_terms.specs.Terms.{Meaning}
 use Rattle.tla_names.specs.declared.fault.NameFault.{NameFault}
 use Rattle.tla_names.specs.declared.fault.NameFault.TheVariants.{UnknownName, WrongArity, Recursion, NoMemory}
 use Rattle.tla_names.specs.Around.{Here, Around, takes}
-use Rattle.tla_names.specs.Complaints.{or_else, complaint}
-use Rattle.tla_names.specs.Outcomes.{Complains, Grows, Always}
+use Rattle.tla_names.specs.Complaints.{Takes, or_else, complaint}
+use Rattle.tla_names.specs.Outcomes.{Complains, Grows, Lasts}
 use Rattle.tla_names.specs.Reads.{Reads, ResolvesRow}
+use Rattle.tla_names.proofs.StandingOn.{stands_grown, stands_later}
 
 -- The first complaint.
 
@@ -46,31 +47,32 @@ grows_on a g h = (g.0 ++ h.0, h.1 ∙ ap (λ x. x ++ h.0) g.1 ∙ append_assoc a
 
 -- One part behind the other.
 
-pub nothing : (w : Around) {c : Here → Option NameFault} {P : Here → List Operator → Type 0} → Always w.table (P w.here) → c w.here ≡ None → Reads w w c P
-nothing w h n = record { kept = refl; grown = grows_same w.table; unnamed = refl; ordered = λ o. o; means = h; fine = n }
+pub nothing : (w : Around) {c : Takes → Option NameFault} {P : Here → List Operator → Type 0} → Lasts (length w.table) w.table (P w.here) → c (takes w) ≡ None → Reads w w c P
+nothing w h n = record { kept = refl; grown = grows_same w.table; unnamed = refl; ordered = λ o. o; taken = refl; means = h; fine = n }
 
-pub and_then : (w m v : Around) {c d : Here → Option NameFault} {P Q : Here → List Operator → Type 0} → Reads w m c P → Reads m v d Q → Reads w v (λ h. or_else (c h) (d h)) (λ h all. P h all × Q h all)
+pub and_then : (w m v : Around) {c d : Takes → Option NameFault} {P Q : Here → List Operator → Type 0} → Reads w m c P → Reads m v d Q → Reads w v (λ g. or_else (c g) (d g)) (λ h all. P h all × Q h all)
 and_then w m v {c = c} {d = d} {Q = Q} p q =
     record {
       kept = q.kept ∙ p.kept;
       grown = grows_on w.table p.grown q.grown;
       unnamed = q.unnamed ∙ p.unnamed;
       ordered = λ o. q.ordered (p.ordered o);
-      means = λ all g. (p.means all (grows_on m.table q.grown g), subst (λ (h : Here). Q h all) p.kept (q.means all g));
-      fine = none_both (c w.here) (d w.here) p.fine (subst (λ (h : Here). d h ≡ None) p.kept q.fine);
+      taken = q.taken ∙ p.taken;
+      means = λ all g. (p.means all (stands_grown m.table q.grown g), subst (λ (h : Here). Q h all) p.kept (q.means all (stands_later w.table p.grown g)));
+      fine = none_both (c (takes w)) (d (takes w)) p.fine (subst (λ (g : Takes). d g ≡ None) p.taken q.fine);
     }
 
 -- another fact of what was read
-pub so : (w v : Around) {c : Here → Option NameFault} {P Q : Here → List Operator → Type 0} → Reads w v c P → ((h : Here) (all : List Operator) → P h all → Q h all) → Reads w v c Q
-so w v p f = record { kept = p.kept; grown = p.grown; unnamed = p.unnamed; ordered = p.ordered; means = λ all g. f w.here all (p.means all g); fine = p.fine }
+pub so : (w v : Around) {c : Takes → Option NameFault} {P Q : Here → List Operator → Type 0} → Reads w v c P → ((h : Here) (all : List Operator) → P h all → Q h all) → Reads w v c Q
+so w v p f = record { kept = p.kept; grown = p.grown; unnamed = p.unnamed; ordered = p.ordered; taken = p.taken; means = λ all g. f w.here all (p.means all g); fine = p.fine }
 
-pub refused_later : (w m : Around) {c : Here → Option NameFault} (d : Here → Option NameFault) {P : Here → List Operator → Type 0} (f : NameFault) → Reads w m c P → Complains (d m.here) f → Complains (or_else (c w.here) (d w.here)) f
-refused_later w m {c = c} d f p r = complains_later (c w.here) (d w.here) f p.fine (subst (λ (h : Here). Complains (d h) f) p.kept r)
+pub refused_later : (w m : Around) {c : Takes → Option NameFault} (d : Takes → Option NameFault) {P : Here → List Operator → Type 0} (f : NameFault) → Reads w m c P → Complains (d (takes m)) f → Complains (or_else (c (takes w)) (d (takes w))) f
+refused_later w m {c = c} d f p r = complains_later (c (takes w)) (d (takes w)) f p.fine (subst (λ (g : Takes). Complains (d g) f) p.taken r)
 
 -- Rows.
 
 pub row_is : (w v : Around) (t u : Tree) (m n : Meaning) → t ≡ u → n ≡ m → ResolvesRow w v t m → ResolvesRow w v u n
 row_is w v t u m n e f r = subst (λ (x : Meaning). ResolvesRow w v u x) (sym f) (subst (λ (x : Tree). ResolvesRow w v x m) e r)
 
-pub tree_refused : (w : Around) (t u : Tree) (f : NameFault) → t ≡ u → Complains (complaint (takes w.here) t) f → Complains (complaint (takes w.here) u) f
-tree_refused w t u f e c = subst (λ (x : Tree). Complains (complaint (takes w.here) x) f) e c
+pub tree_refused : (w : Around) (t u : Tree) (f : NameFault) → t ≡ u → Complains (complaint (takes w) t) f → Complains (complaint (takes w) u) f
+tree_refused w t u f e c = subst (λ (x : Tree). Complains (complaint (takes w) x) f) e c

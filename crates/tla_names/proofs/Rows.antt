@@ -22,14 +22,15 @@ use Rattle.tla_names.specs.declared.fault.NameFault.{NameFault}
 use Rattle.tla_scopes.specs.declared.meant.Meant.{Meant}
 use Rattle.tla_scopes.specs.declared.meant.Meant.TheVariants as meant
 use Rattle.tla_scopes.specs.declared.meant.Named.{Named}
-use Rattle.tla_names.specs.Around.{Here, Around, takes}
+use Rattle.tla_names.specs.Around.{Around, takes}
 use Rattle.tla_names.specs.Complaints.{counted, number_of, complaint, complaints}
 use Rattle.tla_names.specs.Means.{Means, MeansOperands, builtin_set, junction, chain}
-use Rattle.tla_names.specs.Outcomes.{needed_by, IsSought, Complains, Grows}
+use Rattle.tla_names.specs.Outcomes.{meant_above, taken_by, IsSought, Complains, Grows, StandsOn}
 use Rattle.tla_scopes.specs.Standing.{IsIn}
-use Rattle.tla_names.specs.Reads.{Reads, Resolves, ResolvesRow, ResolvesEach, ResolvesArms, IsUse}
-use Rattle.tla_scopes.specs.Scopes.{named, used, at_sign}
-use Rattle.tla_names.proofs.Reading.{nothing, and_then, so, none_both, complains_first, complains_later}
+use Rattle.tla_names.specs.Reads.{Reads, Resolves, ResolvesRow, ResolvesEach, ResolvesOperands, ResolvesStep, ResolvesSteps, ResolvesBounds, ResolvesChanges, ResolvesArms, ResolvesWithin, ResolvesUnder, IsUse}
+use Rattle.tla_scopes.specs.Scopes.{used, at_sign}
+use Rattle.tla_names.proofs.StandingOn.{stands_at}
+use Rattle.tla_names.proofs.Reading.{nothing, and_then, so, row_is, none_both, complains_first, complains_later}
 
 -- Leaves.
 
@@ -47,34 +48,32 @@ builtin_row w at b = nothing w (λ all g. refl) refl
 
 -- Names.
 
-enough : (n : List ℕ) (at : Place) (k : ℕ) → counted n at k (Some k) ≡ None
-enough n at k = let e : (k == k) ≡ true = grind (arith, nat_tests) in rw e refl
+enough : (n : List ℕ) (at : Place) (k : ℕ) (b : Bool) → counted n at k (Some (record { needed = k; is_above = b })) ≡ None
+enough n at k b = let e : (k == k) ≡ true = grind (arith, nat_tests) in rw e refl
 
-pub counted_sought : (h : Here) (n : List ℕ) (at : Place) (k : ℕ) (m : Meant) → IsSought h.names h.scope n k m → counted n at k (takes h n) ≡ None
-counted_sought h n at k m s = ap (λ (o : Option Named). counted n at k (option_map needed_by o)) s ∙ enough n at k
+pub counted_sought : (w : Around) (n : List ℕ) (at : Place) (k : ℕ) (m : Meant) → IsSought w.here.names w.here.scope n k m → counted n at k (takes w n) ≡ None
+counted_sought w n at k m s =
+    ap (λ (o : Option Named). counted n at k (option_map (taken_by w.table) o)) s.1 ∙ ap (λ (j : ℕ). counted n at k (Some (record { needed = j; is_above = meant_above w.table s.0.meant }))) s.3 ∙ enough n at k (meant_above w.table s.0.meant)
 
-slice_front : (a b : List Operator) (k : ℕ) → k < length a → slice_get (a ++ b) k ≡ slice_get a k
-slice_front [] b k lt = absurd (omega (arith, lt))
-slice_front (x ∷ a) b zero lt = refl
-slice_front (x ∷ a) b (suc k) lt = slice_front a b k (omega (arith, lt))
-
--- the level of a use is the same over each larger table
-pub used_level : (table all : List Operator) (m : Meant) (ts : Terms) → IsIn (length table) m → Grows table all → level_for all (used m ts) ≡ level_for table (used m ts)
-used_level table all (meant.Slot i) ts k g = refl
-used_level table all (meant.Variable x) ts k g = refl
-used_level table all (meant.Known v) ts k g = refl
-used_level table all (meant.Set s) ts k g = refl
-used_level table all (meant.Standard o) ts k g = refl
-used_level table all (meant.Definition i) ts k g =
-    ap (λ (o : Option Operator). joined (of_operator o) (of_terms ts)) (ap (λ (t : List Operator). slice_get t i.0) g.1 ∙ slice_front table g.0 i.0 k)
+-- the level of a use is the same over each table where the definitions stand on
+pub used_level : (from : ℕ) (table all : List Operator) (m : Meant) (ts : Terms) → IsIn (length table) m → StandsOn from table all → level_for all (used m ts) ≡ level_for table (used m ts)
+used_level from table all (meant.Slot i) ts k g = refl
+used_level from table all (meant.Variable x) ts k g = refl
+used_level from table all (meant.Known v) ts k g = refl
+used_level from table all (meant.Set s) ts k g = refl
+used_level from table all (meant.Standard o) ts k g = refl
+used_level from table all (meant.Definition i) ts k g =
+    let here : (o : Operator) × (slice_get table i.0 ≡ Some o) = stands_at table i.0 k in
+    let there : (e : Term) × (slice_get all i.0 ≡ Some (record here.0 { body = e })) = g.heads i.0 here.0 here.1 in
+    ap (λ (o : Option Operator). joined (of_operator o) (of_terms ts)) there.1 ∙ sym (ap (λ (o : Option Operator). joined (of_operator o) (of_terms ts)) here.1)
 
 pub use_is : (w : Around) (n : List ℕ) (at : Place) (m : Meant) (v : Meaning) (ts : Terms) → ts ≡ term.NoTerms → v ≡ used m ts → IsSought w.here.names w.here.scope n 0 m → IsIn (length w.table) m → IsUse w n at v
 use_is w n at m v ts t e s k =
     let is : v ≡ used m term.NoTerms = e ∙ ap (λ (x : Terms). used m x) t in
     record {
-      means = (named 0 m, s, is);
-      level = λ all g. ap (λ (x : Meaning). level_for all x) is ∙ used_level w.table all m term.NoTerms k g ∙ ap (λ (x : Meaning). level_for w.table x) (sym is);
-      fine = counted_sought w.here n at 0 m s;
+      means = (s.0, s.1, is ∙ ap (λ (y : Meant). used y term.NoTerms) (sym s.2));
+      level = λ all g. ap (λ (x : Meaning). level_for all x) is ∙ used_level (length w.table) w.table all m term.NoTerms k g ∙ ap (λ (x : Meaning). level_for w.table x) (sym is);
+      fine = counted_sought w n at 0 m s;
     }
 
 pub name_row : (w : Around) (n : List ℕ) (at : Place) (v : Meaning) → IsUse w n at v → ResolvesRow w w (tree.Name at n) v
@@ -109,24 +108,25 @@ more_in a b (meant.Definition i) g k = subst (λ (x : List Operator). i.0 < leng
 
 pub call_row : (w v : Around) (at : Place) (n : List ℕ) (args : Trees) (k : ℕ) (m : Meant) (ts : Terms) (x : Meaning) → k ≡ number_of args → x ≡ used m ts → IsSought w.here.names w.here.scope n k m → IsIn (length w.table) m → ResolvesEach w v args ts → ResolvesRow w v (tree.Call at n args) x
 call_row w v at n args k m ts x c e s i r =
-    let level : (all : List Operator) → Grows v.table all → level_for all x ≡ level_for v.table x =
-    λ all g. ap (λ (y : Meaning). level_for all y) e ∙ used_level v.table all m ts (more_in w.table v.table m r.grown i) g ∙ ap (λ (y : Meaning). level_for v.table y) (sym e) in
+    let level : (all : List Operator) → StandsOn (length w.table) v.table all → level_for all x ≡ level_for v.table x =
+    λ all g. ap (λ (y : Meaning). level_for all y) e ∙ used_level (length w.table) v.table all m ts (more_in w.table v.table m r.grown i) g ∙ ap (λ (y : Meaning). level_for v.table y) (sym e) in
     record {
       kept = r.kept;
       grown = r.grown;
       unnamed = r.unnamed;
       ordered = r.ordered;
-      means = λ all g. (ts, x, r.means all g, (named k m, s, e), ap (λ l. Placed at l x) (sym (level all g)));
-      fine = none_both (counted n at (number_of args) (takes w.here n)) (complaints (takes w.here) args) (ap (λ (j : ℕ). counted n at j (takes w.here n)) (sym c) ∙ counted_sought w.here n at k m s) r.fine;
+      taken = r.taken;
+      means = λ all g. (ts, x, r.means all g, (s.0, s.1, e ∙ ap (λ (y : Meant). used y ts) (sym s.2)), ap (λ l. Placed at l x) (sym (level all g)));
+      fine = none_both (counted n at (number_of args) (takes w n)) (complaints (takes w) args) (ap (λ (j : ℕ). counted n at j (takes w n)) (sym c) ∙ counted_sought w n at k m s) r.fine;
     }
 
-pub call_refused : (w : Around) (at : Place) (n : List ℕ) (args : Trees) (k : ℕ) (f : NameFault) → k ≡ number_of args → Complains (counted n at k (takes w.here n)) f → Complains (complaint (takes w.here) (tree.Call at n args)) f
+pub call_refused : (w : Around) (at : Place) (n : List ℕ) (args : Trees) (k : ℕ) (f : NameFault) → k ≡ number_of args → Complains (counted n at k (takes w n)) f → Complains (complaint (takes w) (tree.Call at n args)) f
 call_refused w at n args k f c p =
-    complains_first (counted n at (number_of args) (takes w.here n)) (complaints (takes w.here) args) f (subst (λ (j : ℕ). Complains (counted n at j (takes w.here n)) f) c p)
+    complains_first (counted n at (number_of args) (takes w n)) (complaints (takes w) args) f (subst (λ (j : ℕ). Complains (counted n at j (takes w n)) f) c p)
 
-pub arguments_refused : (w : Around) (at : Place) (n : List ℕ) (args : Trees) (k : ℕ) (m : Meant) (f : NameFault) → k ≡ number_of args → IsSought w.here.names w.here.scope n k m → Complains (complaints (takes w.here) args) f → Complains (complaint (takes w.here) (tree.Call at n args)) f
+pub arguments_refused : (w : Around) (at : Place) (n : List ℕ) (args : Trees) (k : ℕ) (m : Meant) (f : NameFault) → k ≡ number_of args → IsSought w.here.names w.here.scope n k m → Complains (complaints (takes w) args) f → Complains (complaint (takes w) (tree.Call at n args)) f
 arguments_refused w at n args k m f c s p =
-    complains_later (counted n at (number_of args) (takes w.here n)) (complaints (takes w.here) args) f (ap (λ (j : ℕ). counted n at j (takes w.here n)) (sym c) ∙ counted_sought w.here n at k m s) p
+    complains_later (counted n at (number_of args) (takes w n)) (complaints (takes w) args) f (ap (λ (j : ℕ). counted n at j (takes w n)) (sym c) ∙ counted_sought w n at k m s) p
 
 -- Other rows.
 
@@ -139,12 +139,45 @@ chain_level a b infix_operator.And os x = refl
 chain_level a b infix_operator.Or os x = refl
 chain_level a b o os x = refl
 
-pub infix_row : (w v : Around) (at : Place) (o : InfixOperator) (os : tree.Operands) (a : Tree) (xs : term.Operands) (x : Term) → Reads w v (λ h. complaint (takes h) (tree.Infix at o os a)) (λ h all. MeansOperands h.names all h.scope os xs × Means h.names all h.scope a x) → ResolvesRow w v (tree.Infix at o os a) (chain o xs x)
+pub infix_row : (w v : Around) (at : Place) (o : InfixOperator) (os : tree.Operands) (a : Tree) (xs : term.Operands) (x : Term) → Reads w v (λ g. complaint g (tree.Infix at o os a)) (λ h all. MeansOperands h.names all h.scope os xs × Means h.names all h.scope a x) → ResolvesRow w v (tree.Infix at o os a) (chain o xs x)
 infix_row w v at o os a xs x r =
     so w v r (λ h all p. (xs, x, p.0, p.1, ap (λ l. Placed at l (chain o xs x)) (chain_level v.table all o xs x)))
 
-pub case_other_row : (w m v : Around) (at : Place) (arms : tree.Arms) (a : Tree) (ys : term.Arms) (x : Term) → ResolvesArms w m arms ys → Resolves m v a x → ResolvesRow w v (tree.CaseOther at arms a) (term.CaseOther ys x)
-case_other_row w m v at arms a ys x r s = so w v (and_then w m v r s) (λ h all p. (ys, x, p.0, p.1, refl))
+-- Rows of several parts, one read behind the other.
+
+pub chain_row : (w m v : Around) (at : Place) (o : InfixOperator) (os : tree.Operands) (a t : Tree) (xs : term.Operands) (x : Term) (n : Meaning) → tree.Infix at o os a ≡ t → n ≡ chain o xs x → ResolvesOperands w m os xs → Resolves m v a x → ResolvesRow w v t n
+chain_row w m v at o os a t xs x n q e r s = row_is w v (tree.Infix at o os a) t (chain o xs x) n q e (infix_row w v at o os a xs x (and_then w m v r s))
+
+pub postfix_row : (w m n v : Around) (at : Place) (a : Tree) (ss : tree.Steps) (s : tree.Step) (t : Tree) (x : Term) (ys : term.Steps) (y : term.Step) → tree.Postfix at a ss s ≡ t → Resolves w m a x → ResolvesSteps m n ss ys → ResolvesStep n v s y → ResolvesRow w v t (term.Postfix x ys y)
+postfix_row w m n v at a ss s t x ys y q r u k =
+    subst (λ (z : Tree). ResolvesRow w v z (term.Postfix x ys y)) q (so w v (and_then w m v r (and_then m n v u k)) (λ h all p. (x, ys, y, p.0, p.1.0, p.1.1, refl)))
+
+pub filter_row : (w m v : Around) (at : Place) (n : List ℕ) (s e t : Tree) (x y : Term) → tree.Filter at n s e ≡ t → Resolves w m s x → ResolvesUnder m v n e y → ResolvesRow w v t (term.Filter x y)
+filter_row w m v at n s e t x y q r u = subst (λ (z : Tree). ResolvesRow w v z (term.Filter x y)) q (so w v (and_then w m v r u) (λ h all p. (x, y, p.0, p.1, refl)))
+
+pub map_row : (w m v : Around) (at : Place) (e : Tree) (bs : tree.Bounds) (t : Tree) (x : Term) (ys : term.Bounds) → tree.Map at e bs ≡ t → ResolvesWithin w m bs e x → ResolvesBounds m v bs ys → ResolvesRow w v t (term.Map x ys)
+map_row w m v at e bs t x ys q r u = subst (λ (z : Tree). ResolvesRow w v z (term.Map x ys)) q (so w v (and_then w m v r u) (λ h all p. (x, ys, p.0, p.1, refl)))
+
+pub function_row : (w m v : Around) (at : Place) (bs : tree.Bounds) (e t : Tree) (ys : term.Bounds) (x : Term) → tree.Function at bs e ≡ t → ResolvesBounds w m bs ys → ResolvesWithin m v bs e x → ResolvesRow w v t (term.Function ys x)
+function_row w m v at bs e t ys x q r u = subst (λ (z : Tree). ResolvesRow w v z (term.Function ys x)) q (so w v (and_then w m v r u) (λ h all p. (ys, x, p.0, p.1, refl)))
+
+pub function_set_row : (w m v : Around) (at : Place) (a b t : Tree) (x y : Term) → tree.FunctionSet at a b ≡ t → Resolves w m a x → Resolves m v b y → ResolvesRow w v t (term.FunctionSet x y)
+function_set_row w m v at a b t x y q r u = subst (λ (z : Tree). ResolvesRow w v z (term.FunctionSet x y)) q (so w v (and_then w m v r u) (λ h all p. (x, y, p.0, p.1, refl)))
+
+pub except_row : (w m v : Around) (at : Place) (a : Tree) (cs : tree.Changes) (t : Tree) (x : Term) (ys : term.Changes) → tree.Except at a cs ≡ t → Resolves w m a x → ResolvesChanges m v cs ys → ResolvesRow w v t (term.Except x ys)
+except_row w m v at a cs t x ys q r u = subst (λ (z : Tree). ResolvesRow w v z (term.Except x ys)) q (so w v (and_then w m v r u) (λ h all p. (x, ys, p.0, p.1, refl)))
+
+pub case_other_row : (w m v : Around) (at : Place) (arms : tree.Arms) (a t : Tree) (ys : term.Arms) (x : Term) → tree.CaseOther at arms a ≡ t → ResolvesArms w m arms ys → Resolves m v a x → ResolvesRow w v t (term.CaseOther ys x)
+case_other_row w m v at arms a t ys x q r s = subst (λ (z : Tree). ResolvesRow w v z (term.CaseOther ys x)) q (so w v (and_then w m v r s) (λ h all p. (ys, x, p.0, p.1, refl)))
+
+pub box_row : (w m v : Around) (at : Place) (a b t : Tree) (x y : Term) → tree.BoxAction at a b ≡ t → Resolves w m a x → Resolves m v b y → ResolvesRow w v t (term.BoxAction x y)
+box_row w m v at a b t x y q r u = subst (λ (z : Tree). ResolvesRow w v z (term.BoxAction x y)) q (so w v (and_then w m v r u) (λ h all p. (x, y, p.0, p.1, refl)))
+
+pub angle_row : (w m v : Around) (at : Place) (a b t : Tree) (x y : Term) → tree.AngleAction at a b ≡ t → Resolves w m a x → Resolves m v b y → ResolvesRow w v t (term.AngleAction x y)
+angle_row w m v at a b t x y q r u = subst (λ (z : Tree). ResolvesRow w v z (term.AngleAction x y)) q (so w v (and_then w m v r u) (λ h all p. (x, y, p.0, p.1, refl)))
+
+pub fairness_row : (w m v : Around) (at : Place) (a b t : Tree) (x y : Term) → tree.Fairness at a b ≡ t → Resolves w m a x → Resolves m v b y → ResolvesRow w v t (term.Fairness x y)
+fairness_row w m v at a b t x y q r u = subst (λ (z : Tree). ResolvesRow w v z (term.Fairness x y)) q (so w v (and_then w m v r u) (λ h all p. (x, y, p.0, p.1, refl)))
 
 -- What a call answers that gives the meaning of a name.
 
@@ -156,7 +189,7 @@ pub at_answers : (w : Around) (n : List ℕ) (at : Place) (t : Tree) (r : Result
 at_answers w n at t (Ok x) e k u = subst (λ (y : Tree). ResolvesRow w w y (node_view x)) e (at_row w at n (node_view x) k u)
 at_answers w n at t (Err f) e k u = tt
 
-pub at_refused : (w : Around) (n : List ℕ) (at : Place) (t : Tree) (r : Result TermNode NameFault) → tree.At at ≡ t → n ≡ at_sign → IfErr r (Complains (counted n at 0 (takes w.here n))) → IfErr r (Complains (complaint (takes w.here) t))
+pub at_refused : (w : Around) (n : List ℕ) (at : Place) (t : Tree) (r : Result TermNode NameFault) → tree.At at ≡ t → n ≡ at_sign → IfErr r (Complains (counted n at 0 (takes w n))) → IfErr r (Complains (complaint (takes w) t))
 at_refused w n at t (Ok x) e k u = tt
 at_refused w n at t (Err f) e k u =
-    subst (λ (y : Tree). Complains (complaint (takes w.here) y) f) e (subst (λ (m : List ℕ). Complains (counted m at 0 (takes w.here m)) f) k u)
+    subst (λ (y : Tree). Complains (complaint (takes w) y) f) e (subst (λ (m : List ℕ). Complains (counted m at 0 (takes w m)) f) k u)

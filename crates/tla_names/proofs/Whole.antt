@@ -1,5 +1,5 @@
 -- A tree under parameters.
-use Rattle.std.proofs.Common.{◌≡◌, ◌∙◌, sym, ap, subst, arith, List, [], length, append-nil}
+use Rattle.std.proofs.Common.{◌≡◌, ◌∙◌, sym, ap, subst, arith, List, [], length}
 use Rattle.std.specs.Prelude.{ℕ, None, Result, Ok, Err, IfOk, IfErr, OnOk}
 use Rattle.tla_ast.specs.Trees.{Tree}
 use Rattle.tla_terms.specs.declared.operator.Operator.{Operator}
@@ -12,13 +12,14 @@ use Rattle.tla_scopes.specs.Standing.{AreIn}
 use Rattle.tla_names.specs.Around.{Here, Around, takes}
 use Rattle.tla_names.specs.Complaints.{Takes, with_names, complaint}
 use Rattle.tla_names.specs.Means.{Means}
-use Rattle.tla_names.specs.Outcomes.{takes_in, takes_of, Complains, Grows, named_in, IsOrdered, KeepsOrder, Always}
+use Rattle.tla_names.specs.Outcomes.{takes_in, takes_of, Complains, Grows, named_in, IsOrdered, Lasts, StandsOn}
 use Rattle.tla_names.specs.Reads.{ResolvesTo, ResolvesBody}
 use Rattle.tla_scopes.specs.Scopes.{bind}
 use Rattle.tla_names.proofs.Takes.{takes_bind}
 use Rattle.tla_names.proofs.Within.{names_refused}
 use Rattle.tla_names.proofs.MeansBelow.{body_below}
 use Rattle.tla_names.proofs.AroundLemmas.{ordered_by, smaller_by}
+use Rattle.tla_names.proofs.StandingOn.{stands_same}
 
 pub body_is : (w v u : Around) (ps : List (List ℕ)) (t : Tree) (e : Term) → v ≡ record { here = record { names = w.here.names; scope = bind w.here.scope ps }; table = w.table } → ResolvesTo v u 0 t e → ResolvesBody w u ps t e
 body_is w v u ps t e b r =
@@ -30,23 +31,24 @@ body_is w v u ps t e b r =
       unnamed = k.unnamed;
       ordered = k.ordered;
       means = k.means;
-      fine = ap (λ (g : Takes). complaint g t) (sym (takes_bind w.here.names w.here.scope ps)) ∙ k.fine;
+      fine = ap (λ (g : Takes). complaint g t) (sym (takes_bind w.table w.here.names w.here.scope ps)) ∙ k.fine;
     }
 
 -- nothing is bound around, but for the parameters
 
-pub whole_means : (w u : Around) (names : List Entry) (table : List Operator) (ps : List (List ℕ)) (t : Tree) (e : Term) → w.here.names ≡ names → w.here.scope ≡ [] → table ≡ u.table → ResolvesBody w u ps t e → Always table (λ all. Means names all (bind [] ps) t e)
+pub whole_means : (w u : Around) (names : List Entry) (table : List Operator) (ps : List (List ℕ)) (t : Tree) (e : Term) → w.here.names ≡ names → w.here.scope ≡ [] → table ≡ u.table → ResolvesBody w u ps t e → Lasts (length w.table) table (λ all. Means names all (bind [] ps) t e)
 whole_means w u names table ps t e n s k r = λ all g.
-    subst (λ (x : List Entry). Means x all (bind [] ps) t e) n (subst (λ (x : List Local). Means w.here.names all (bind x ps) t e) s (r.means all (subst (λ (x : List Operator). Grows x all) k g)))
+    subst (λ (x : List Entry). Means x all (bind [] ps) t e) n (subst (λ (x : List Local). Means w.here.names all (bind x ps) t e) s (r.means all (subst (λ (x : List Operator). StandsOn (length w.table) x all) k g)))
 
-takes_are : (w : Around) (names : List Entry) → w.here.names ≡ names → w.here.scope ≡ [] → takes w.here ≡ takes_of names
-takes_are w names n s = ap (λ (x : List Entry). takes_in x w.here.scope) n ∙ ap (λ (x : List Local). takes_in names x) s
+takes_are : (w : Around) (names : List Entry) (old : List Operator) → w.here.names ≡ names → w.here.scope ≡ [] → w.table ≡ old → takes w ≡ takes_of old names
+takes_are w names old n s o =
+    ap (λ (x : List Entry). takes_in w.table x w.here.scope) n ∙ ap (λ (x : List Local). takes_in w.table names x) s ∙ ap (λ (x : List Operator). takes_of x names) o
 
-pub whole_fine : (w u : Around) (names : List Entry) (ps : List (List ℕ)) (t : Tree) (e : Term) → w.here.names ≡ names → w.here.scope ≡ [] → ResolvesBody w u ps t e → complaint (with_names (takes_of names) ps) t ≡ None
-whole_fine w u names ps t e n s r = ap (λ (g : Takes). complaint (with_names g ps) t) (sym (takes_are w names n s)) ∙ r.fine
+pub whole_fine : (w u : Around) (names : List Entry) (old : List Operator) (ps : List (List ℕ)) (t : Tree) (e : Term) → w.here.names ≡ names → w.here.scope ≡ [] → w.table ≡ old → ResolvesBody w u ps t e → complaint (with_names (takes_of old names) ps) t ≡ None
+whole_fine w u names old ps t e n s o r = ap (λ (g : Takes). complaint (with_names g ps) t) (sym (takes_are w names old n s o)) ∙ r.fine
 
-pub whole_refused : (w : Around) (names : List Entry) (ps : List (List ℕ)) (t : Tree) (f : NameFault) → w.here.names ≡ names → w.here.scope ≡ [] → Complains (complaint (with_names (takes w.here) ps) t) f → Complains (complaint (with_names (takes_of names) ps) t) f
-whole_refused w names ps t f n s c = subst (λ (g : Takes). Complains (complaint (with_names g ps) t) f) (takes_are w names n s) c
+pub whole_refused : (w : Around) (names : List Entry) (old : List Operator) (ps : List (List ℕ)) (t : Tree) (f : NameFault) → w.here.names ≡ names → w.here.scope ≡ [] → w.table ≡ old → Complains (complaint (with_names (takes w) ps) t) f → Complains (complaint (with_names (takes_of old names) ps) t) f
+whole_refused w names old ps t f n s o c = subst (λ (g : Takes). Complains (complaint (with_names g ps) t) f) (takes_are w names old n s o) c
 
 pub all_unnamed : (w u : Around) (old new : List Operator) (ps : List (List ℕ)) (t : Tree) (r : Result Term NameFault) → w.table ≡ old → new ≡ u.table → IfOk r (λ e. ResolvesBody w u ps t e) → OnOk r (named_in new ≡ named_in old)
 all_unnamed w u old new ps t (Ok e) o n b = ap named_in n ∙ b.unnamed ∙ ap named_in o
@@ -59,32 +61,32 @@ pub bodies_are : (w v u : Around) (ps : List (List ℕ)) (t : Tree) (r : Result 
 bodies_are w v u ps t (Ok e) b k = body_is w v u ps t e b k
 bodies_are w v u ps t (Err f) b k = tt
 
-pub bodies_refused : (w v : Around) (ps : List (List ℕ)) (t : Tree) (r : Result Term NameFault) → v ≡ record { here = record { names = w.here.names; scope = bind w.here.scope ps }; table = w.table } → IfErr r (Complains (complaint (takes v.here) t)) → IfErr r (Complains (complaint (with_names (takes w.here) ps) t))
+pub bodies_refused : (w v : Around) (ps : List (List ℕ)) (t : Tree) (r : Result Term NameFault) → v ≡ record { here = record { names = w.here.names; scope = bind w.here.scope ps }; table = w.table } → IfErr r (Complains (complaint (takes v) t)) → IfErr r (Complains (complaint (with_names (takes w) ps) t))
 bodies_refused w v ps t (Ok e) b k = tt
 bodies_refused w v ps t (Err f) b k = names_refused w v ps t f b k
 
-pub all_means : (w u : Around) (names : List Entry) (table : List Operator) (ps : List (List ℕ)) (t : Tree) (r : Result Term NameFault) → w.here.names ≡ names → w.here.scope ≡ [] → table ≡ u.table → IfOk r (λ e. ResolvesBody w u ps t e) → IfOk r (λ e. Always table (λ all. Means names all (bind [] ps) t e))
-all_means w u names table ps t (Ok e) n s k b = whole_means w u names table ps t e n s k b
-all_means w u names table ps t (Err f) n s k b = tt
+pub all_means : (w u : Around) (names : List Entry) (old table : List Operator) (ps : List (List ℕ)) (t : Tree) (r : Result Term NameFault) → w.here.names ≡ names → w.here.scope ≡ [] → w.table ≡ old → table ≡ u.table → IfOk r (λ e. ResolvesBody w u ps t e) → IfOk r (λ e. Lasts (length old) table (λ all. Means names all (bind [] ps) t e))
+all_means w u names old table ps t (Ok e) n s o k b = subst (λ (x : List Operator). Lasts (length x) table (λ all. Means names all (bind [] ps) t e)) o (whole_means w u names table ps t e n s k b)
+all_means w u names old table ps t (Err f) n s o k b = tt
 
-pub all_fine : (w u : Around) (names : List Entry) (ps : List (List ℕ)) (t : Tree) (r : Result Term NameFault) → w.here.names ≡ names → w.here.scope ≡ [] → IfOk r (λ e. ResolvesBody w u ps t e) → OnOk r (complaint (with_names (takes_of names) ps) t ≡ None)
-all_fine w u names ps t (Ok e) n s b = whole_fine w u names ps t e n s b
-all_fine w u names ps t (Err f) n s b = tt
+pub all_fine : (w u : Around) (names : List Entry) (old : List Operator) (ps : List (List ℕ)) (t : Tree) (r : Result Term NameFault) → w.here.names ≡ names → w.here.scope ≡ [] → w.table ≡ old → IfOk r (λ e. ResolvesBody w u ps t e) → OnOk r (complaint (with_names (takes_of old names) ps) t ≡ None)
+all_fine w u names old ps t (Ok e) n s o b = whole_fine w u names old ps t e n s o b
+all_fine w u names old ps t (Err f) n s o b = tt
 
 pub all_grown : (w u : Around) (old new : List Operator) (ps : List (List ℕ)) (t : Tree) (r : Result Term NameFault) → w.table ≡ old → new ≡ u.table → IfOk r (λ e. ResolvesBody w u ps t e) → OnOk r (Grows old new)
 all_grown w u old new ps t (Ok e) o n b = whole_grown w u old new ps t e o n b
 all_grown w u old new ps t (Err f) o n b = tt
 
-pub all_refused : (w : Around) (names : List Entry) (ps : List (List ℕ)) (t : Tree) (r : Result Term NameFault) → w.here.names ≡ names → w.here.scope ≡ [] → IfErr r (Complains (complaint (with_names (takes w.here) ps) t)) → IfErr r (Complains (complaint (with_names (takes_of names) ps) t))
-all_refused w names ps t (Ok e) n s c = tt
-all_refused w names ps t (Err f) n s c = whole_refused w names ps t f n s c
+pub all_refused : (w : Around) (names : List Entry) (old : List Operator) (ps : List (List ℕ)) (t : Tree) (r : Result Term NameFault) → w.here.names ≡ names → w.here.scope ≡ [] → w.table ≡ old → IfErr r (Complains (complaint (with_names (takes w) ps) t)) → IfErr r (Complains (complaint (with_names (takes_of old names) ps) t))
+all_refused w names old ps t (Ok e) n s o c = tt
+all_refused w names old ps t (Err f) n s o c = whole_refused w names old ps t f n s o c
 
 pub within_params : (w v : Around) (ns ps : List (List ℕ)) → ns ≡ ps → v ≡ record { here = record { names = w.here.names; scope = bind w.here.scope ns }; table = w.table } → v ≡ record { here = record { names = w.here.names; scope = bind w.here.scope ps }; table = w.table }
 within_params w v ns ps e b = b ∙ ap (λ (x : List (List ℕ)). record { here = record { names = w.here.names; scope = bind w.here.scope x }; table = w.table }) e
 
 -- the table and the term that are handed out
 pub whole_below : (w u : Around) (names : List Entry) (table : List Operator) (ps : List (List ℕ)) (t : Tree) (r : Result Term NameFault) → w.here.names ≡ names → w.here.scope ≡ [] → table ≡ u.table → AreIn (length table) u.here.names → IfOk r (λ e. ResolvesBody w u ps t e) → IfOk r (MentionsBelow (length table))
-whole_below w u names table ps t (Ok e) n s k a b = body_below names table (subst (λ (x : List Entry). AreIn (length table) x) (b.kept ∙ n) a) [] ps t e tt (whole_means w u names table ps t e n s k b table ([], sym (append-nil table)))
+whole_below w u names table ps t (Ok e) n s k a b = body_below names table (subst (λ (x : List Entry). AreIn (length table) x) (b.kept ∙ n) a) [] ps t e tt (whole_means w u names table ps t e n s k b table (stands_same (length w.table) table))
 whole_below w u names table ps t (Err f) n s k a b = tt
 
 pub whole_smaller : (w u : Around) (old new : List Operator) (ps : List (List ℕ)) (t : Tree) (r : Result Term NameFault) → w.table ≡ old → new ≡ u.table → IfOk r (λ e. ResolvesBody w u ps t e) → OnOk r (UsesSmaller old → UsesSmaller new)

@@ -9,9 +9,9 @@ use Rattle.tla_names.specs.declared.fault.NameFault.{NameFault}
 use Rattle.tla_scopes.specs.declared.scope.Local.{Local}
 use Rattle.tla_scopes.specs.declared.scope.Local.TheVariants.{Bound}
 use Rattle.tla_names.specs.Around.{Around, takes}
-use Rattle.tla_names.specs.Complaints.{Takes, with_name, with_names, with_bounds, complaint}
+use Rattle.tla_names.specs.Complaints.{Takes, bound_name, with_name, with_names, with_bounds, complaint}
 use Rattle.tla_names.specs.Means.{Means}
-use Rattle.tla_names.specs.Outcomes.{takes_in, Complains, Grows, named_in, KeepsOrder, Always}
+use Rattle.tla_names.specs.Outcomes.{takes_in, Complains, Grows, named_in, KeepsOrder, Lasts}
 use Rattle.tla_names.specs.Reads.{Reads, ResolvesTo, ResolvesWithin, ResolvesUnder}
 use Rattle.tla_scopes.specs.Scopes.{bind, bind_bounds}
 use Rattle.tla_names.proofs.Takes.{takes_bind, takes_bounds}
@@ -47,22 +47,23 @@ pub record ReadIn (m v : Around) (sc : List Local) (t : Tree) (e : Term) : Type 
   pub grown : Grows m.table v.table
   pub unnamed : named_in v.table ≡ named_in m.table
   pub ordered : KeepsOrder m.table v.table
-  pub means : Always v.table (λ all. Means m.here.names all sc t e)
-  pub fine : complaint (takes_in m.here.names sc) t ≡ None
+  pub taken : takes v ≡ takes m
+  pub means : Lasts (length m.table) v.table (λ all. Means m.here.names all sc t e)
+  pub fine : complaint (takes_in m.table m.here.names sc) t ≡ None
 
 read_in : (m v : Around) (sc more : List Local) (t : Tree) (e : Term) → sc ≡ m.here.scope ++ more → ResolvesTo (record { here = record { names = m.here.names; scope = sc }; table = m.table }) v (length m.here.scope) t e → ReadIn m v sc t e
 read_in m v sc more t e s r =
     let below : length m.here.scope ≤ length sc = subst (λ (x : List Local). length m.here.scope ≤ length x) (sym s) (longer m.here.scope more) in
     let back : take (length m.here.scope) sc ≡ m.here.scope = ap (λ (x : List Local). take (length m.here.scope) x) s ∙ take_front m.here.scope more in
     let kept : v.here ≡ m.here = r.kept below ∙ ap (λ (x : List Local). record { names = m.here.names; scope = x }) back in
-    record { kept = kept; grown = r.grown; unnamed = r.unnamed; ordered = r.ordered; means = r.means; fine = r.fine }
+    record { kept = kept; grown = r.grown; unnamed = r.unnamed; ordered = r.ordered; taken = r.taken below ∙ ap (λ (x : List Local). takes_in m.table m.here.names x) back; means = r.means; fine = r.fine }
 
 pub read_back : (m m1 v : Around) (depth : ℕ) (sc more : List Local) (t : Tree) (e : Term) → m1 ≡ record { here = record { names = m.here.names; scope = sc }; table = m.table } → depth ≡ length m.here.scope → sc ≡ m.here.scope ++ more → ResolvesTo m1 v depth t e → ReadIn m v sc t e
 read_back m m1 v depth sc more t e w d s r =
     read_in m v sc more t e s (subst (λ (k : ℕ). ResolvesTo (record { here = record { names = m.here.names; scope = sc }; table = m.table }) v k t e) d (subst (λ (a : Around). ResolvesTo a v depth t e) w r))
 
 -- under names
-pub names_within : (m m1 v : Around) (depth : ℕ) (ns : List (List ℕ)) (t : Tree) (e : Term) → m1 ≡ record { here = record { names = m.here.names; scope = bind m.here.scope ns }; table = m.table } → depth ≡ length m.here.scope → ResolvesTo m1 v depth t e → Reads m v (λ h. complaint (with_names (takes h) ns) t) (λ h all. Means h.names all (bind h.scope ns) t e)
+pub names_within : (m m1 v : Around) (depth : ℕ) (ns : List (List ℕ)) (t : Tree) (e : Term) → m1 ≡ record { here = record { names = m.here.names; scope = bind m.here.scope ns }; table = m.table } → depth ≡ length m.here.scope → ResolvesTo m1 v depth t e → Reads m v (λ g. complaint (with_names g ns) t) (λ h all. Means h.names all (bind h.scope ns) t e)
 names_within m m1 v depth ns t e w d r =
     let a : (more : List Local) × (bind m.here.scope ns ≡ m.here.scope ++ more) = bind_adds m.here.scope ns in
     let b : ReadIn m v (bind m.here.scope ns) t e = read_back m m1 v depth (bind m.here.scope ns) a.0 t e w d a.1 r in
@@ -71,16 +72,17 @@ names_within m m1 v depth ns t e w d r =
       grown = b.grown;
       unnamed = b.unnamed;
       ordered = b.ordered;
+      taken = b.taken;
       means = b.means;
-      fine = ap (λ (g : Takes). complaint g t) (sym (takes_bind m.here.names m.here.scope ns)) ∙ b.fine;
+      fine = ap (λ (g : Takes). complaint g t) (sym (takes_bind m.table m.here.names m.here.scope ns)) ∙ b.fine;
     }
 
-pub names_refused : (m m1 : Around) (ns : List (List ℕ)) (t : Tree) (f : NameFault) → m1 ≡ record { here = record { names = m.here.names; scope = bind m.here.scope ns }; table = m.table } → Complains (complaint (takes m1.here) t) f → Complains (complaint (with_names (takes m.here) ns) t) f
+pub names_refused : (m m1 : Around) (ns : List (List ℕ)) (t : Tree) (f : NameFault) → m1 ≡ record { here = record { names = m.here.names; scope = bind m.here.scope ns }; table = m.table } → Complains (complaint (takes m1) t) f → Complains (complaint (with_names (takes m) ns) t) f
 names_refused m m1 ns t f w c =
-    subst (λ (g : Takes). Complains (complaint g t) f) (ap (λ (a : Around). takes a.here) w ∙ takes_bind m.here.names m.here.scope ns) c
+    subst (λ (g : Takes). Complains (complaint g t) f) (ap takes w ∙ takes_bind m.table m.here.names m.here.scope ns) c
 
 -- under bounds
-pub bounds_within : (m m1 v : Around) (depth : ℕ) (bs : tree.Bounds) (t : Tree) (e : Term) → m1 ≡ record { here = record { names = m.here.names; scope = bind_bounds m.here.scope bs }; table = m.table } → depth ≡ length m.here.scope → ResolvesTo m1 v depth t e → Reads m v (λ h. complaint (with_bounds (takes h) bs) t) (λ h all. Means h.names all (bind_bounds h.scope bs) t e)
+pub bounds_within : (m m1 v : Around) (depth : ℕ) (bs : tree.Bounds) (t : Tree) (e : Term) → m1 ≡ record { here = record { names = m.here.names; scope = bind_bounds m.here.scope bs }; table = m.table } → depth ≡ length m.here.scope → ResolvesTo m1 v depth t e → Reads m v (λ g. complaint (with_bounds g bs) t) (λ h all. Means h.names all (bind_bounds h.scope bs) t e)
 bounds_within m m1 v depth bs t e w d r =
     let a : (more : List Local) × (bind_bounds m.here.scope bs ≡ m.here.scope ++ more) = bounds_add m.here.scope bs in
     let b : ReadIn m v (bind_bounds m.here.scope bs) t e = read_back m m1 v depth (bind_bounds m.here.scope bs) a.0 t e w d a.1 r in
@@ -89,19 +91,20 @@ bounds_within m m1 v depth bs t e w d r =
       grown = b.grown;
       unnamed = b.unnamed;
       ordered = b.ordered;
+      taken = b.taken;
       means = b.means;
-      fine = ap (λ (g : Takes). complaint g t) (sym (takes_bounds m.here.names m.here.scope bs)) ∙ b.fine;
+      fine = ap (λ (g : Takes). complaint g t) (sym (takes_bounds m.table m.here.names m.here.scope bs)) ∙ b.fine;
     }
 
-pub bounds_refused : (m m1 : Around) (bs : tree.Bounds) (t : Tree) (f : NameFault) → m1 ≡ record { here = record { names = m.here.names; scope = bind_bounds m.here.scope bs }; table = m.table } → Complains (complaint (takes m1.here) t) f → Complains (complaint (with_bounds (takes m.here) bs) t) f
+pub bounds_refused : (m m1 : Around) (bs : tree.Bounds) (t : Tree) (f : NameFault) → m1 ≡ record { here = record { names = m.here.names; scope = bind_bounds m.here.scope bs }; table = m.table } → Complains (complaint (takes m1) t) f → Complains (complaint (with_bounds (takes m) bs) t) f
 bounds_refused m m1 bs t f w c =
-    subst (λ (g : Takes). Complains (complaint g t) f) (ap (λ (a : Around). takes a.here) w ∙ takes_bounds m.here.names m.here.scope bs) c
+    subst (λ (g : Takes). Complains (complaint g t) f) (ap takes w ∙ takes_bounds m.table m.here.names m.here.scope bs) c
 
 -- with nothing more bound
-pub same_within : (w v : Around) (depth : ℕ) (t : Tree) (e : Term) → depth ≡ length w.here.scope → ResolvesTo w v depth t e → Reads w v (λ h. complaint (takes h) t) (λ h all. Means h.names all h.scope t e)
+pub same_within : (w v : Around) (depth : ℕ) (t : Tree) (e : Term) → depth ≡ length w.here.scope → ResolvesTo w v depth t e → Reads w v (λ g. complaint g t) (λ h all. Means h.names all h.scope t e)
 same_within w v depth t e d r =
     let b : ReadIn w v w.here.scope t e = read_back w w v depth w.here.scope [] t e refl d (nil_more w.here.scope) r in
-    record { kept = b.kept; grown = b.grown; unnamed = b.unnamed; ordered = b.ordered; means = b.means; fine = b.fine }
+    record { kept = b.kept; grown = b.grown; unnamed = b.unnamed; ordered = b.ordered; taken = b.taken; means = b.means; fine = b.fine }
 
 -- what a call answers that reads a tree there
 
@@ -109,7 +112,7 @@ pub bounds_answers : (m m1 v : Around) (depth : ℕ) (bs : tree.Bounds) (t : Tre
 bounds_answers m m1 v depth bs t (Ok e) w d k = bounds_within m m1 v depth bs t e w d k
 bounds_answers m m1 v depth bs t (Err f) w d k = tt
 
-pub bounds_refuse : (m m1 : Around) (bs : tree.Bounds) (t : Tree) (r : Result Term NameFault) → m1 ≡ record { here = record { names = m.here.names; scope = bind_bounds m.here.scope bs }; table = m.table } → IfErr r (Complains (complaint (takes m1.here) t)) → IfErr r (Complains (complaint (with_bounds (takes m.here) bs) t))
+pub bounds_refuse : (m m1 : Around) (bs : tree.Bounds) (t : Tree) (r : Result Term NameFault) → m1 ≡ record { here = record { names = m.here.names; scope = bind_bounds m.here.scope bs }; table = m.table } → IfErr r (Complains (complaint (takes m1) t)) → IfErr r (Complains (complaint (with_bounds (takes m) bs) t))
 bounds_refuse m m1 bs t (Ok e) w k = tt
 bounds_refuse m m1 bs t (Err f) w k = bounds_refused m m1 bs t f w k
 
@@ -117,6 +120,6 @@ pub name_answers : (m m1 v : Around) (depth : ℕ) (n : List ℕ) (t : Tree) (r 
 name_answers m m1 v depth n t (Ok e) w d k = names_within m m1 v depth (n ∷ []) t e w d k
 name_answers m m1 v depth n t (Err f) w d k = tt
 
-pub name_refuse : (m m1 : Around) (n : List ℕ) (t : Tree) (r : Result Term NameFault) → m1 ≡ record { here = record { names = m.here.names; scope = bind m.here.scope (n ∷ []) }; table = m.table } → IfErr r (Complains (complaint (takes m1.here) t)) → IfErr r (Complains (complaint (with_name (takes m.here) n 0) t))
+pub name_refuse : (m m1 : Around) (n : List ℕ) (t : Tree) (r : Result Term NameFault) → m1 ≡ record { here = record { names = m.here.names; scope = bind m.here.scope (n ∷ []) }; table = m.table } → IfErr r (Complains (complaint (takes m1) t)) → IfErr r (Complains (complaint (with_name (takes m) n bound_name) t))
 name_refuse m m1 n t (Ok e) w k = tt
 name_refuse m m1 n t (Err f) w k = names_refused m m1 (n ∷ []) t f w k

@@ -17,8 +17,8 @@ pub record Around : Type 0 where
   pub here : Here
   pub table : List Operator
 
-abbrev pub takes : Here → Takes
-takes h = takes_in h.names h.scope
+abbrev pub takes : Around → Takes
+takes w = takes_in w.table w.here.names w.here.scope
 
 -- each definition that a name means stands in the table
 pub record IsAround (names : List Entry) (scope : List Local) (table : List Operator) : Type 0 where

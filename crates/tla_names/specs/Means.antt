@@ -14,7 +14,10 @@ use Rattle.tla_terms.specs.declared.standard.NamedSet.{NamedSet}
 use Rattle.tla_terms.specs.declared.standard.NamedSet.TheVariants as sets
 use Rattle.tla_terms.specs.declared.ids.DefId.{DefId}
 use Rattle.tla_terms.specs.declared.operator.Operator.{Operator}
-use Rattle.tla_terms.specs.declared.operator.Own.TheVariants.{Apart}
+use Rattle.tla_terms.specs.declared.operator.Own.{Own}
+use Rattle.tla_terms.specs.declared.operator.Own.TheVariants as owns
+use Rattle.tla_terms.specs.declared.level.Level.{Level}
+use Rattle.tla_terms.specs.declared.level.Level.TheVariants as levels
 use Rattle.tla_terms.specs.Terms as term
 use Rattle.tla_terms.specs.Terms.{Term, Meaning, Terms, Placed, level_of}
 use Rattle.tla_scopes.specs.declared.scope.Local.{Local}
@@ -23,6 +26,7 @@ use Rattle.tla_scopes.specs.declared.meant.Named.{Named}
 use Rattle.tla_scopes.specs.declared.meant.Entry.{Entry}
 use Rattle.tla_scopes.specs.Scopes.{meaning_in, used, bind, bind_bounds, slots, at_sign}
 use Rattle.tla_terms.specs.Levels.{level_for}
+use Rattle.tla_names.specs.Owning.{own_of}
 
 -- a use of the name with these arguments
 abbrev pub Uses : List Entry → List Local → List ℕ → Terms → Meaning → Type 0
@@ -52,9 +56,23 @@ chain infix_operator.And os e = term.All (term.MoreTerms (operands_list os) e)
 chain infix_operator.Or os e = term.Any (term.MoreTerms (operands_list os) e)
 chain o os e = term.Infix o os e
 
+-- a definition of a LET that uses itself sees its own name, which takes so many arguments
+abbrev pub with_own : Own → List Local → List ℕ → DefId → ℕ → List Local
+with_own owns.Apart sc n k count = sc
+with_own own sc n k count = sc ++ Defined n k count ∷ []
+
+-- the level of a definition with this body: one that uses itself has level 0, or it is refused
+abbrev pub own_level : Own → Term → Level
+own_level owns.Apart body = level_of body
+own_level own body = levels.Constant
+
 -- the definition of a LET as one of the table
-abbrev pub local_operator : ℕ → ℕ → Term → Operator
-local_operator around own body = record { name = []; outer = around; params = own; level = level_of body; own = Apart; body = body }
+abbrev pub local_operator : ℕ → ℕ → Own → Term → Operator
+local_operator around params own body = record { name = []; outer = around; params = params; level = own_level own body; own = own; body = body }
+
+-- what stands for the body of a definition that is not there yet
+abbrev pub no_body : Term
+no_body = Placed (record { file = 0; line = 0; col = 0 }) levels.Constant (term.Known (truth false))
 
 module _ (names : List Entry) (ops : List Operator) where
   -- the term has the place of the tree and the level of its meaning
@@ -148,9 +166,9 @@ module _ (names : List Entry) (ops : List Operator) where
     MeansArms sc (tree.MoreArms arms p e) ys =
         (xs : term.Arms) × (x y : Term) × (ys ≡ term.MoreArms xs x y) × MeansArms sc arms xs × Means sc p x × Means sc e y
 
-    -- The numbers of definitions, in their order, and the scope behind them. Each is some row of the table. It sees those before it; since it
-    -- does not use itself, no name of its body means the definition, and its name need not be there.
+    -- The numbers of definitions, in their order, and the scope behind them. Each is some row of the table. It sees those before it, and itself where
+    -- it uses itself.
     pub Defines : List Local → Definitions → List ℕ → List Local → Type 0
     Defines sc tree.NoDefinitions ks inner = (ks ≡ []) × (inner ≡ sc)
     Defines sc (tree.MoreDefinitions ds n at ps form e) ks inner =
-        (before : List ℕ) × (mid : List Local) × (k : DefId) × (x : Term) × Defines sc ds before mid × Means (bind mid ps) e x × (slice_get ops k.0 ≡ Some (local_operator (slots mid) (length ps) x)) × (ks ≡ before ++ k.0 ∷ []) × (inner ≡ mid ++ Defined n k (length ps) ∷ [])
+        (before : List ℕ) × (mid : List Local) × (k : DefId) × (x : Term) × Defines sc ds before mid × Means (bind (with_own (own_of form n ps e) mid n k (length ps)) ps) e x × (slice_get ops k.0 ≡ Some (local_operator (slots mid) (length ps) (own_of form n ps e) x)) × (ks ≡ before ++ k.0 ∷ []) × (inner ≡ mid ++ Defined n k (length ps) ∷ [])

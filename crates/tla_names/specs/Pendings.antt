@@ -1,5 +1,5 @@
 -- For the prover: rows of terms that wait for their last part, which reaches as far right as possible.
-use Rattle.std.specs.Prelude.{◌≡◌, ◌≤◌, ◌<◌, false, List, [], ◌∷◌, ◌++◌}
+use Rattle.std.specs.Prelude.{◌≡◌, ◌≤◌, ◌<◌, false, List, [], ◌∷◌, ◌++◌, length}
 use Rattle.tla_ast.specs.Trees.{Tree}
 use Rattle.tla_ast.specs.TreeSizes.{tree_size}
 use Rattle.tla_terms.specs.Terms as term
@@ -12,7 +12,7 @@ use Rattle.tla_scopes.specs.Reaching.{reaches_right}
 use Rattle.tla_names.specs.Around.{Around, takes}
 use Rattle.tla_names.specs.Complaints.{complaint}
 use Rattle.tla_names.specs.Means.{Means}
-use Rattle.tla_names.specs.Outcomes.{Grows, named_in, KeepsOrder, Always}
+use Rattle.tla_names.specs.Outcomes.{Grows, named_in, KeepsOrder, Lasts}
 
 -- the meaning of a row with this last part
 abbrev pub meaning_with : Pending → Term → term.Meaning
@@ -42,8 +42,8 @@ pub record Opens (w w' : Around) (rows : List Pending) (t rest : Tree) : Type 0 
   pub grown : Grows w.table w'.table
   pub unnamed : named_in w'.table ≡ named_in w.table
   pub ordered : KeepsOrder w.table w'.table
-  pub means : Always w'.table (λ all. (x : Term) → Means w'.here.names all w'.here.scope rest x → Means w.here.names all w.here.scope t (closed_all rows x))
-  pub same : complaint (takes w.here) t ≡ complaint (takes w'.here) rest
+  pub means : Lasts (length w.table) w'.table (λ all. (x : Term) → Means w'.here.names all w'.here.scope rest x → Means w.here.names all w.here.scope t (closed_all rows x))
+  pub same : complaint (takes w) t ≡ complaint (takes w') rest
   pub within : tree_size rest ≤ tree_size t
 
 -- The first parts of a row were read, up to its last part.
@@ -56,8 +56,8 @@ pub record OpensRow (w w' : Around) (rows rows' : List Pending) (t last : Tree) 
   pub grown : Grows w.table w'.table
   pub unnamed : named_in w'.table ≡ named_in w.table
   pub ordered : KeepsOrder w.table w'.table
-  pub means : Always w'.table (λ all. (x : Term) → Means w'.here.names all w'.here.scope last x → Means w.here.names all w.here.scope t (closed row x))
-  pub same : complaint (takes w.here) t ≡ complaint (takes w'.here) last
+  pub means : Lasts (length w.table) w'.table (λ all. (x : Term) → Means w'.here.names all w'.here.scope last x → Means w.here.names all w.here.scope t (closed row x))
+  pub same : complaint (takes w) t ≡ complaint (takes w') last
   pub within : tree_size last < tree_size t
 
 -- nothing was read of a tree whose last part does not reach so far

@@ -4,6 +4,7 @@
 mod build;
 mod fault;
 mod lookup;
+mod own;
 mod pending;
 mod resolve;
 mod tree;

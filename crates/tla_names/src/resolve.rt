@@ -8,7 +8,7 @@ ghost use Rattle.tla_ast.specs.Trees.{Call as CallTree};
 ghost use Rattle.tla_ast.specs.TreeViews.{step_view as step_tree};
 ghost use Rattle.tla_terms.specs.TermViews.{node_view, step_view};
 ghost use Rattle.tla_names.specs.Around.{takes};
-ghost use Rattle.tla_names.specs.Complaints.{with_name, with_bounds, counted, complaint, complaints, operands_complaint, step_complaint, steps_complaint, bounds_complaint, fields_complaint, changes_complaint, arms_complaint, definitions_complaint, itself};
+ghost use Rattle.tla_names.specs.Complaints.{bound_name, with_name, with_bounds, counted, complaint, complaints, operands_complaint, step_complaint, steps_complaint, bounds_complaint, fields_complaint, changes_complaint, arms_complaint, definitions_complaint};
 ghost use Rattle.tla_names.specs.Outcomes.{Complains};
 ghost use Rattle.tla_names.specs.Pendings.{Opens, OpensRow, StaysClosed};
 ghost use Rattle.tla_scopes.specs.Reaching.{reaches_right};
@@ -16,15 +16,15 @@ ghost use Rattle.tla_names.specs.Reads.{ResolvesTo, ResolvesRow, Resolves, Resol
 
 use crate::build::{builtin_set, chain, junction, known_text};
 use crate::fault::NameFault;
+use crate::own::{begin, end, not_itself};
 use crate::pending::{Pending, add_row, closed_all};
 use crate::walk::Walk;
 use std::alloc::Global;
 use tla_ast::{
-    Arms as ArmTrees, Bounds as BoundTrees, Changes as ChangeTrees, Definition, Definitions, Expr,
-    Exprs, Fields as FieldTrees, Node, Operands as OperandTrees, Step as StepTree,
-    Steps as StepTrees,
+    Arms as ArmTrees, Bounds as BoundTrees, Changes as ChangeTrees, Definitions, Expr, Exprs,
+    Fields as FieldTrees, Node, Operands as OperandTrees, Step as StepTree, Steps as StepTrees,
 };
-use tla_scopes::{is_one_of, mentions, others_of, used};
+use tla_scopes::{others_of, used};
 use tla_terms::{
     Arm, Arms, Bound, Bounds, Change, Changes, DefIds, Field, Fields, Operand, Operands, Step,
     StepAt, Steps, Term, TermNode, Terms,
@@ -41,8 +41,9 @@ pub fn resolve_to(
     tree: &Expr,
 ) -> Result<Term, NameFault>
     ensures fine { IfOk result (λ e. ResolvesTo walk.old walk.new depth tree.now e) }
-    ensures refused { IfErr result (Complains (complaint (takes walk.old.here) tree.now)) }
+    ensures refused { IfErr result (Complains (complaint (takes walk.old) tree.now)) }
 {
+    walk.is_around();
     let (rows, rest) = open(alloc, walk, tree)?;
     let node = resolve_row(alloc, walk, rest)?;
     let term = walk.placed(alloc, rest.at, node)?;
@@ -55,7 +56,7 @@ pub fn resolve_to(
 #[cycle(resolve)]
 fn resolve(alloc: Global, walk: &mut Walk<'_>, tree: &Expr) -> Result<Term, NameFault>
     ensures fine { IfOk result (λ e. Resolves walk.old walk.new tree.now e) }
-    ensures refused { IfErr result (Complains (complaint (takes walk.old.here) tree.now)) }
+    ensures refused { IfErr result (Complains (complaint (takes walk.old) tree.now)) }
 {
     let depth = walk.depth();
     resolve_to(alloc, walk, depth, tree)
@@ -70,7 +71,7 @@ fn open<'a>(
 ) -> Result<(Vec<Pending>, &'a Expr), NameFault>
     ensures fine { IfOk result (λ p. Opens walk.old walk.new p.0.items tree.now p.1.now) }
     ensures rest { IfOk result (λ p. reaches_right p.1.now ≡ false) }
-    ensures refused { IfErr result (Complains (complaint (takes walk.old.here) tree.now)) }
+    ensures refused { IfErr result (Complains (complaint (takes walk.old) tree.now)) }
 {
     let mut rows = Vec::new(alloc);
     let mut rest = tree;
@@ -89,7 +90,7 @@ fn open_row<'a>(
     tree: &'a Expr,
 ) -> Result<Option<&'a Expr>, NameFault>
     ensures fine { IfOk result (λ o. MatchOption o (StaysClosed walk.old walk.new rows.old.items rows.new.items tree.now) (λ last. OpensRow walk.old walk.new rows.old.items rows.new.items tree.now last.now)) }
-    ensures refused { IfErr result (Complains (complaint (takes walk.old.here) tree.now)) }
+    ensures refused { IfErr result (Complains (complaint (takes walk.old) tree.now)) }
 {
     match &*tree.node {
         Node::If(test, then, last) => {
@@ -122,7 +123,7 @@ fn open_row<'a>(
 /// A use of a name without arguments.
 fn use_of(alloc: Global, walk: &Walk<'_>, name: &Text, at: Place) -> Result<TermNode, NameFault>
     ensures fine { IfOk result (λ n. IsUse walk.now name.now at (node_view n)) }
-    ensures refused { IfErr result (Complains (counted name.now at 0 (takes walk.now.here name.now))) }
+    ensures refused { IfErr result (Complains (counted name.now at 0 (takes walk.now name.now))) }
 {
     let meant = walk.sought(name, at, 0)?;
     Ok(used(meant, Terms::new(alloc)))
@@ -133,7 +134,7 @@ fn use_of(alloc: Global, walk: &Walk<'_>, name: &Text, at: Place) -> Result<Term
 fn resolve_row(alloc: Global, walk: &mut Walk<'_>, tree: &Expr) -> Result<TermNode, NameFault>
     requires { reaches_right tree.now ≡ false }
     ensures fine { IfOk result (λ n. ResolvesRow walk.old walk.new tree.now (node_view n)) }
-    ensures refused { IfErr result (Complains (complaint (takes walk.old.here) tree.now)) }
+    ensures refused { IfErr result (Complains (complaint (takes walk.old) tree.now)) }
 {
     match &*tree.node {
         Node::Number(number) => Ok(TermNode::Known(Value::int(*number))),
@@ -247,7 +248,7 @@ fn resolve_call(
     arguments: &Exprs,
 ) -> Result<TermNode, NameFault>
     ensures fine { IfOk result (λ n. ResolvesRow walk.old walk.new (CallTree at name.now arguments.now) (node_view n)) }
-    ensures refused { IfErr result (Complains (complaint (takes walk.old.here) (CallTree at name.now arguments.now))) }
+    ensures refused { IfErr result (Complains (complaint (takes walk.old) (CallTree at name.now arguments.now))) }
 {
     let found = arguments.items().len();
     let meant = walk.sought(name, at, found)?;
@@ -264,7 +265,7 @@ fn resolve_under(
     tree: &Expr,
 ) -> Result<Term, NameFault>
     ensures fine { IfOk result (λ e. ResolvesUnder walk.old walk.new name.now tree.now e) }
-    ensures refused { IfErr result (Complains (complaint (with_name (takes walk.old.here) name.now 0) tree.now)) }
+    ensures refused { IfErr result (Complains (complaint (with_name (takes walk.old) name.now bound_name) tree.now)) }
 {
     let depth = walk.depth();
     walk.bind_name(name)?;
@@ -280,7 +281,7 @@ fn resolve_within(
     bounds: &BoundTrees,
 ) -> Result<Term, NameFault>
     ensures fine { IfOk result (λ e. ResolvesWithin walk.old walk.new bounds.now tree.now e) }
-    ensures refused { IfErr result (Complains (complaint (with_bounds (takes walk.old.here) bounds.now) tree.now)) }
+    ensures refused { IfErr result (Complains (complaint (with_bounds (takes walk.old) bounds.now) tree.now)) }
 {
     let depth = walk.depth();
     walk.bind_bounds(bounds)?;
@@ -290,7 +291,7 @@ fn resolve_within(
 #[cycle(resolve)]
 fn resolve_each(alloc: Global, walk: &mut Walk<'_>, trees: &Exprs) -> Result<Terms, NameFault>
     ensures fine { IfOk result (λ ts. ResolvesEach walk.old walk.new trees.now ts) }
-    ensures refused { IfErr result (Complains (complaints (takes walk.old.here) trees.now)) }
+    ensures refused { IfErr result (Complains (complaints (takes walk.old) trees.now)) }
 {
     let mut terms = Terms::new(alloc);
     for tree in trees.items() {
@@ -307,7 +308,7 @@ fn resolve_operands(
     trees: &OperandTrees,
 ) -> Result<Operands, NameFault>
     ensures fine { IfOk result (λ os. ResolvesOperands walk.old walk.new trees.now os) }
-    ensures refused { IfErr result (Complains (operands_complaint (takes walk.old.here) trees.now)) }
+    ensures refused { IfErr result (Complains (operands_complaint (takes walk.old) trees.now)) }
 {
     let (first, _) = trees.parts();
     let first = resolve(alloc, walk, first)?;
@@ -337,7 +338,7 @@ fn resolve_others(
 #[cycle(resolve)]
 fn resolve_step(alloc: Global, walk: &mut Walk<'_>, tree: &StepTree) -> Result<Step, NameFault>
     ensures fine { IfOk result (λ s. ResolvesStep walk.old walk.new (step_tree tree.now) (step_view s)) }
-    ensures refused { IfErr result (Complains (step_complaint (takes walk.old.here) (step_tree tree.now))) }
+    ensures refused { IfErr result (Complains (step_complaint (takes walk.old) (step_tree tree.now))) }
 {
     match tree {
         StepTree::Prime => Ok(Step::Prime),
@@ -355,7 +356,7 @@ fn resolve_step(alloc: Global, walk: &mut Walk<'_>, tree: &StepTree) -> Result<S
 #[cycle(resolve)]
 fn resolve_steps(alloc: Global, walk: &mut Walk<'_>, trees: &StepTrees) -> Result<Steps, NameFault>
     ensures fine { IfOk result (λ ss. ResolvesSteps walk.old walk.new trees.now ss) }
-    ensures refused { IfErr result (Complains (steps_complaint (takes walk.old.here) trees.now)) }
+    ensures refused { IfErr result (Complains (steps_complaint (takes walk.old) trees.now)) }
 {
     let mut steps = Steps::new(alloc);
     for tree in trees.items() {
@@ -372,7 +373,7 @@ fn resolve_bounds(
     trees: &BoundTrees,
 ) -> Result<Bounds, NameFault>
     ensures fine { IfOk result (λ bs. ResolvesBounds walk.old walk.new trees.now bs) }
-    ensures refused { IfErr result (Complains (bounds_complaint (takes walk.old.here) trees.now)) }
+    ensures refused { IfErr result (Complains (bounds_complaint (takes walk.old) trees.now)) }
 {
     let mut bounds = Bounds::new(alloc);
     for tree in trees.items() {
@@ -390,7 +391,7 @@ fn resolve_fields(
     trees: &FieldTrees,
 ) -> Result<Fields, NameFault>
     ensures fine { IfOk result (λ fs. ResolvesFields walk.old walk.new trees.now fs) }
-    ensures refused { IfErr result (Complains (fields_complaint (takes walk.old.here) trees.now)) }
+    ensures refused { IfErr result (Complains (fields_complaint (takes walk.old) trees.now)) }
 {
     let mut fields = Fields::new(alloc);
     for tree in trees.items() {
@@ -408,7 +409,7 @@ fn resolve_changes(
     trees: &ChangeTrees,
 ) -> Result<Changes, NameFault>
     ensures fine { IfOk result (λ cs. ResolvesChanges walk.old walk.new trees.now cs) }
-    ensures refused { IfErr result (Complains (changes_complaint (takes walk.old.here) trees.now)) }
+    ensures refused { IfErr result (Complains (changes_complaint (takes walk.old) trees.now)) }
 {
     let at_sign = Text::from_text(alloc, "@")?;
     let mut changes = Changes::new(alloc);
@@ -423,7 +424,7 @@ fn resolve_changes(
 #[cycle(resolve)]
 fn resolve_arms(alloc: Global, walk: &mut Walk<'_>, trees: &ArmTrees) -> Result<Arms, NameFault>
     ensures fine { IfOk result (λ arms. ResolvesArms walk.old walk.new trees.now arms) }
-    ensures refused { IfErr result (Complains (arms_complaint (takes walk.old.here) trees.now)) }
+    ensures refused { IfErr result (Complains (arms_complaint (takes walk.old) trees.now)) }
 {
     let mut arms = Arms::new(alloc);
     for tree in trees.items() {
@@ -442,31 +443,18 @@ fn resolve_definitions(
     trees: &Definitions,
 ) -> Result<DefIds, NameFault>
     ensures fine { IfOk result (λ ks. ResolvesDefinitions walk.old walk.new trees.now ks) }
-    ensures refused { IfErr result (Complains (definitions_complaint (takes walk.old.here) trees.now)) }
+    ensures refused { IfErr result (Complains (definitions_complaint (takes walk.old) trees.now)) }
 {
     let mut numbers = DefIds::new(alloc);
     for tree in trees.items() {
-        not_itself(tree)?;
+        walk.is_around();
+        not_itself(alloc, walk, tree)?;
         let depth = walk.depth();
+        let place = begin(alloc, walk, tree)?;
         walk.bind(tree.params.items())?;
         let body = resolve_to(alloc, walk, depth, &tree.body)?;
-        let number = walk.define(alloc, &tree.name, tree.params.len(), body)?;
+        let number = end(alloc, walk, tree, place, body)?;
         numbers.push(number)?;
     }
     Ok(numbers)
-}
-
-/// Refuses a definition of a LET that uses itself.
-fn not_itself(definition: &Definition) -> Result<(), NameFault>
-    ensures fine { OnOk result (itself definition.now.name definition.now.at definition.now.params definition.now.body ≡ None) }
-    ensures refused { IfErr result (Complains (itself definition.now.name definition.now.at definition.now.params definition.now.body)) }
-{
-    if is_one_of(&definition.name, definition.params.items()) {
-        return Ok(());
-    }
-    if mentions(&definition.name, &definition.body) {
-        let name = definition.name.copy()?;
-        return Err(NameFault::Recursion(name, definition.at));
-    }
-    Ok(())
 }

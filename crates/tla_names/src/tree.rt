@@ -5,7 +5,7 @@ ghost use Rattle.term_parts.specs.Slots.{MentionsBelow, UsesSmaller};
 ghost use Rattle.tla_names.specs.Around.{takes};
 ghost use Rattle.tla_names.specs.Complaints.{complaint, with_names};
 ghost use Rattle.tla_names.specs.Means.{Means};
-ghost use Rattle.tla_names.specs.Outcomes.{Always, Complains, Grows, named_in, takes_of};
+ghost use Rattle.tla_names.specs.Outcomes.{Complains, Grows, Lasts, named_in, takes_of};
 ghost use Rattle.tla_scopes.specs.Standing.{AreIn};
 ghost use Rattle.tla_names.specs.Reads.{ResolvesBody};
 ghost use Rattle.tla_scopes.specs.Scopes.{bind};
@@ -28,7 +28,7 @@ fn resolve_in(
     tree: &Expr,
 ) -> Result<Term, NameFault>
     ensures fine { IfOk result (λ e. ResolvesBody walk.old walk.new params.now tree.now e) }
-    ensures refused { IfErr result (Complains (complaint (with_names (takes walk.old.here) params.now) tree.now)) }
+    ensures refused { IfErr result (Complains (complaint (with_names (takes walk.old) params.now) tree.now)) }
 {
     walk.bind(params.items())?;
     resolve_to(alloc, walk, 0, tree)
@@ -49,9 +49,9 @@ pub fn resolve_tree(
     ensures below { IfOk result (MentionsBelow (length table.new)) }
     ensures unnamed { OnOk result (named_in table.new ≡ named_in table.old) }
     ensures grown { OnOk result (Grows table.old table.new) }
-    ensures means { IfOk result (λ e. Always table.new (λ all. Means names.now all (bind [] params.now) tree.now e)) }
-    ensures fine { OnOk result (complaint (with_names (takes_of names.now) params.now) tree.now ≡ None) }
-    ensures refused { IfErr result (Complains (complaint (with_names (takes_of names.now) params.now) tree.now)) }
+    ensures means { IfOk result (λ e. Lasts (length table.old) table.new (λ all. Means names.now all (bind [] params.now) tree.now e)) }
+    ensures fine { OnOk result (complaint (with_names (takes_of table.old names.now) params.now) tree.now ≡ None) }
+    ensures refused { IfErr result (Complains (complaint (with_names (takes_of table.old names.now) params.now) tree.now)) }
 {
     let before = replace(table, Operators::new(alloc));
     let mut walk = Walk::new(alloc, names, before);

@@ -1,13 +1,17 @@
 //! What stands around a tree while it is resolved.
 
-ghost use Rattle.std.specs.Prelude.{◌≡◌, ℕ, List, [], ◌∷◌, ◌++◌, IfOk, IfErr, OnOk, length, take};
+ghost use Rattle.std.specs.Prelude.{◌≡◌, ℕ, List, [], ◌∷◌, ◌++◌, IfOk, IfErr, OnOk, Some, length, set, slice_get, take};
 ghost use Rattle.tla_ast.specs.Trees.{Tree};
 ghost use Rattle.tla_terms.specs.TermViews.{node_view};
 ghost use Rattle.tla_terms.specs.Terms.{Placed};
-ghost use Rattle.tla_terms.specs.Levels.{level_for};
-ghost use Rattle.tla_names.specs.Complaints.{counted};
-ghost use Rattle.tla_names.specs.Means.{Means, local_operator};
-ghost use Rattle.tla_names.specs.Outcomes.{Complains, IsSought, KeepsOrder, takes_in};
+ghost use Rattle.tla_terms.specs.Levels.{level_for, of_operator};
+ghost use Rattle.term_parts.specs.Slots.{MentionsBelow};
+ghost use Rattle.tla_names.specs.Complaints.{counted, told};
+ghost use Rattle.tla_terms.specs.declared.level.Level.TheVariants.{Constant};
+ghost use Rattle.tla_terms.specs.declared.operator.Own.TheVariants.{Apart, Function};
+ghost use Rattle.tla_terms.specs.Terms.{level_of};
+ghost use Rattle.tla_names.specs.Means.{Means, local_operator, no_body};
+ghost use Rattle.tla_names.specs.Outcomes.{above, meant_above, Complains, IsSought, KeepsOrder, takes_in};
 ghost use Rattle.tla_scopes.specs.Standing.{IsIn, AreIn};
 ghost use Rattle.tla_scopes.specs.Scopes.{bind, bind_bounds, slots};
 
@@ -16,9 +20,53 @@ use crate::lookup::sought;
 use std::alloc::Global;
 use std::marker::Model;
 use tla_ast::Bounds;
-use tla_scopes::{Local, Meant, ProgramNames, Scope, level_for};
-use tla_terms::{DefId, Operator, Operators, Own, Term, TermNode};
+use tla_scopes::{Local, Meant, ProgramNames, Scope, level_for, meaning};
+use tla_terms::{DefId, Level, Operator, Operators, Own, Term, TermNode};
+use tla_values::Value;
 use trace_base::{NoMemory, Place, Text};
+
+/// Where a body stands that is not there yet.
+const NOWHERE: Place = Place {
+    file: 0,
+    line: 0,
+    col: 0,
+};
+
+/// Whether what is meant is above level 0.
+fn meant_above(table: &Operators, meant: &Meant) -> bool
+    ensures { result ≡ meant_above table.now meant.now }
+{
+    match meant {
+        Meant::Variable(_) => true,
+        Meant::Definition(number) => is_above(table, number.0),
+        Meant::Slot(_) => false,
+        Meant::Known(_) => false,
+        Meant::Set(_) => false,
+        Meant::Standard(_) => false,
+    }
+}
+
+/// Whether a level is above 0.
+fn above(level: Level) -> bool
+    ensures { result ≡ above level }
+{
+    match level {
+        Level::Constant => false,
+        Level::State => true,
+        Level::Action => true,
+        Level::Temporal => true,
+    }
+}
+
+/// Whether the definition of that number is above level 0.
+fn is_above(table: &Operators, number: usize) -> bool
+    ensures { result ≡ above (of_operator (slice_get table.now number)) }
+{
+    match table.get(number) {
+        Some(operator) => above(operator.level),
+        None => false,
+    }
+}
 
 /// The names of the program, those that are bound around the place, and the table of definitions so far. Each definition that a name means stands
 /// in the table.
@@ -45,7 +93,7 @@ impl<'a> Model for Walk<'a> {
 }
 
 impl<'a> Walk<'a> {
-    ghost use Rattle.tla_names.specs.Around.{takes};
+    ghost use Rattle.tla_names.specs.Around.{IsAround, takes};
     ghost use Rattle.tla_scopes.specs.declared.scope.Local.TheVariants.{Defined};
 
     /// Over these names with nothing bound.
@@ -127,7 +175,7 @@ impl<'a> Walk<'a> {
         ensures number { IfOk result (λ k. k.0 ≡ length self.old.table) }
         ensures names { OnOk result (self.new.here.names ≡ self.old.here.names) }
         ensures scope { IfOk result (λ k. self.new.here.scope ≡ self.old.here.scope ++ Defined name.now k params ∷ []) }
-        ensures table { OnOk result (self.new.table ≡ self.old.table ++ local_operator (slots self.old.here.scope) params body ∷ []) }
+        ensures table { OnOk result (self.new.table ≡ self.old.table ++ local_operator (slots self.old.here.scope) params Apart body ∷ []) }
         ensures ordered { OnOk result (KeepsOrder self.old.table self.new.table) }
     {
         let number = DefId(self.table.len());
@@ -145,12 +193,75 @@ impl<'a> Walk<'a> {
         Ok(number)
     }
 
+    /// Keeps a place in the table for a function of a LET that uses itself, and binds its name. It has level 0; its body comes later.
+    pub fn reserve(&mut self, alloc: Global, name: &Text, params: usize) -> Result<DefId, NoMemory>
+        ensures number { IfOk result (λ k. k.0 ≡ length self.old.table) }
+        ensures names { OnOk result (self.new.here.names ≡ self.old.here.names) }
+        ensures scope { IfOk result (λ k. self.new.here.scope ≡ self.old.here.scope ++ Defined name.now k params ∷ []) }
+        ensures table { OnOk result (self.new.table ≡ self.old.table ++ local_operator (slots self.old.here.scope) params Function no_body ∷ []) }
+        ensures ordered { OnOk result (KeepsOrder self.old.table self.new.table) }
+    {
+        let node = TermNode::Known(Value::boolean(false));
+        let body = Term::new(alloc, NOWHERE, Level::Constant, node)?;
+        let number = DefId(self.table.len());
+        let outer = self.scope.slots();
+        self.table.push(Operator {
+            name: Text::from_text(alloc, "")?,
+            outer,
+            params,
+            level: Level::Constant,
+            own: Own::Function,
+            body,
+        })?;
+        self.scope
+            .push(Local::Defined(name.copy()?, number, params))?;
+        Ok(number)
+    }
+
+    /// Gives a function of a LET its body, for which a place was kept, and binds its name. The body is constant, and uses definitions of the table alone.
+    pub fn settle(
+        &mut self,
+        number: DefId,
+        name: &Text,
+        params: usize,
+        body: Term,
+    ) -> Result<(), NoMemory>
+        requires kept { slice_get self.old.table number.0 ≡ Some (local_operator (slots self.old.here.scope) params Function no_body) }
+        requires constant { level_of body ≡ Constant }
+        requires below { MentionsBelow (length self.old.table) body }
+        ensures names { OnOk result (self.new.here.names ≡ self.old.here.names) }
+        ensures scope { OnOk result (self.new.here.scope ≡ self.old.here.scope ++ Defined name.now number params ∷ []) }
+        ensures table { OnOk result (self.new.table ≡ set self.old.table number.0 (local_operator (slots self.old.here.scope) params Function body)) }
+        ensures ordered { OnOk result (KeepsOrder self.old.table self.new.table) }
+    {
+        let name = name.copy()?;
+        self.table.set_body(number.0, body);
+        self.scope.push(Local::Defined(name, number, params))?;
+        Ok(())
+    }
+
+    /// Whether a name is above level 0 here.
+    pub fn is_above(&self, name: &Text) -> Result<bool, NoMemory>
+        ensures { IfOk result (λ b. b ≡ told (takes self.now) name.now) }
+    {
+        match meaning(self.names, &self.scope, name)? {
+            Some(named) => Ok(meant_above(&self.table, &named.meant)),
+            None => Ok(false),
+        }
+    }
+
+    /// Each definition that a name means stands in the table.
+    pub fn is_around(&self)
+        ensures { IsAround self.now.here.names self.now.here.scope self.now.table }
+    {
+        let _ = &self.scope;
+    }
+
     /// What a name means that is used with so many arguments, or why it means nothing there.
-    #[tactic(auto, using(crate::proofs::AroundLemmas::sought_in))]
     pub fn sought(&self, name: &Text, at: Place, found: usize) -> Result<Meant, NameFault>
         ensures means { IfOk result (λ m. IsSought self.now.here.names self.now.here.scope name.now found m) }
         ensures within { IfOk result (λ m. IsIn (length self.now.table) m) }
-        ensures refused { IfErr result (Complains (counted name.now at found (takes self.now.here name.now))) }
+        ensures refused { IfErr result (Complains (counted name.now at found (takes self.now name.now))) }
     {
         sought(self.names, &self.scope, name, at, found)
     }

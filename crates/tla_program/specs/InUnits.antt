@@ -3,6 +3,7 @@ use Rattle.std.specs.Prelude.{List, [], ◌∷◌, ◌++◌}
 use Rattle.tla_ast.specs.Trees.{Tree}
 use Rattle.tla_ast.specs.declared.expr.Definition.{Definition}
 use Rattle.tla_ast.specs.declared.module.Declared.{Declared}
+use Rattle.tla_ast.specs.declared.module.DeclaredOperator.{DeclaredOperator}
 use Rattle.tla_ast.specs.declared.module.Unit.{Unit as ModuleUnit}
 use Rattle.tla_ast.specs.declared.module.Unit.TheVariants.{Variables, Constants, Recursive, Define, Assume, Passed}
 
@@ -41,3 +42,13 @@ assumptions_in (Define d ∷ us) = assumptions_in us
 assumptions_in (Assume e ∷ us) = e ∷ assumptions_in us
 assumptions_in (Recursive rs ∷ us) = assumptions_in us
 assumptions_in (Passed ∷ us) = assumptions_in us
+
+-- the operators that RECURSIVE declares
+abbrev pub recursive_in : List ModuleUnit → List DeclaredOperator
+recursive_in [] = []
+recursive_in (Variables ds ∷ us) = recursive_in us
+recursive_in (Constants ds ∷ us) = recursive_in us
+recursive_in (Define d ∷ us) = recursive_in us
+recursive_in (Assume e ∷ us) = recursive_in us
+recursive_in (Recursive rs ∷ us) = rs ++ recursive_in us
+recursive_in (Passed ∷ us) = recursive_in us

@@ -1,10 +1,10 @@
 -- Items of lists are smaller than the lists.
-use Rattle.std.proofs.Common.{◌≡◌, sym, ap, refl, List, [], ◌∷◌, length, ◌<◌, ◌≤◌, arith}
-use Rattle.std.specs.Prelude.{ℕ, zero, suc, ◌+◌, get_or}
+use Rattle.std.proofs.Common.{◌≡◌, ap, List, [], ◌∷◌, length, ◌<◌, ◌≤◌, arith}
+use Rattle.std.specs.Prelude.{ℕ, zero, suc, get_or}
 use Rattle.tla_ast.specs.Trees as tree
 use Rattle.tla_ast.specs.Trees.{Tree, Trees}
 use Rattle.tla_ast.specs.TreeSizes.{tree_size, trees_size, operands_size, step_size, steps_size, bounds_size, fields_size, changes_size, arms_size, definitions_size}
-use Rattle.tla_ast.specs.TreeViews.{step_view, trees_from, trees_of, operands_from, operands_of, steps_from, steps_of, bounds_from, bounds_of, fields_from, fields_of, changes_from, changes_of, arms_from, arms_of, definitions_from, definitions_of}
+use Rattle.tla_ast.specs.TreeViews.{step_view, trees_from, operands_from, operands_of, steps_from, bounds_from, fields_from, changes_from, arms_from, definitions_from}
 use Rattle.tla_ast.specs.declared.expr.Step.{Step}
 use Rattle.tla_ast.specs.declared.expr.Step.TheVariants as step
 use Rattle.tla_ast.specs.declared.expr.Arms.TheDeep.{deep-Step}

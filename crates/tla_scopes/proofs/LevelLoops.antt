@@ -1,8 +1,7 @@
 -- The levels of lists, item by item.
-use Rattle.std.proofs.Common.{◌≡◌, ◌∙◌, sym, ap, refl, subst, List, [], ◌∷◌, length, ◌<◌, ◌≤◌, arith, add-one, drop-cons}
+use Rattle.std.proofs.Common.{◌≡◌, ◌∙◌, sym, ap, refl, List, [], ◌∷◌, length, ◌<◌, ◌≤◌, arith, add-one, drop-cons}
 use Rattle.std.specs.Prelude.{ℕ, zero, suc, ◌+◌, drop, get_or}
 use Rattle.tla_terms.specs.declared.level.Level.{Level}
-use Rattle.tla_terms.specs.declared.level.Level.TheVariants.{Constant}
 use Rattle.tla_terms.specs.Terms as term
 use Rattle.tla_terms.specs.Terms.{Term, Terms, level_of}
 use Rattle.tla_terms.specs.TermViews.{step_view, terms_from, terms_of, operands_from, steps_from, bounds_from, bounds_of, fields_from, fields_of, changes_from, changes_of, arms_from, arms_of}

@@ -1,3 +1,4 @@
+pub mod BareLoops
 pub mod Below
 pub mod EntryPlaces
 pub mod FirstLemmas

@@ -1,10 +1,10 @@
 -- Whether a name occurs in a list, item by item.
-use Rattle.std.proofs.Common.{◌≡◌, ◌∙◌, sym, ap, refl, subst, List, [], ◌∷◌, length, ◌<◌, ◌≤◌, arith, true≢false}
-use Rattle.std.specs.Prelude.{ℕ, zero, suc, ◌+◌, Bool, true, false, not, ◌&&◌, ◌||◌, drop, get_or}
+use Rattle.std.proofs.Common.{◌≡◌, ◌∙◌, sym, ap, refl, List, [], ◌∷◌, length, ◌<◌, ◌≤◌}
+use Rattle.std.specs.Prelude.{ℕ, ◌+◌, Bool, true, false, not, ◌&&◌, ◌||◌, drop, get_or}
 use Rattle.std.specs.Str.{bytes_eq}
 use Rattle.tla_ast.specs.Trees as tree
 use Rattle.tla_ast.specs.Trees.{Tree, Trees}
-use Rattle.tla_ast.specs.TreeSizes.{tree_size, trees_size, operands_size, step_size, steps_size, bounds_size, fields_size, changes_size, arms_size, definitions_size}
+use Rattle.tla_ast.specs.TreeSizes.{tree_size}
 use Rattle.tla_ast.specs.TreeViews.{step_view, trees_from, trees_of, operands_from, operands_of, steps_from, steps_of, bounds_from, bounds_of, fields_from, fields_of, changes_from, changes_of, arms_from, arms_of, definitions_from, definitions_of}
 use Rattle.tla_ast.specs.declared.expr.Operand.{Operand}
 use Rattle.tla_ast.specs.declared.expr.StepAt.{StepAt}

@@ -1,6 +1,6 @@
 -- Names that are bound, one behind the other.
 use Rattle.std.proofs.Common.{◌≡◌, ◌∙◌, sym, ap, refl, subst, List, [], ◌∷◌, ◌++◌, length, ◌<◌, ◌≤◌}
-use Rattle.std.specs.Prelude.{ℕ, zero, suc, ◌+◌, drop, get_or}
+use Rattle.std.specs.Prelude.{ℕ, ◌+◌, drop, get_or}
 use Rattle.tla_ast.specs.Trees as tree
 use Rattle.tla_ast.specs.TreeViews.{bounds_from, bounds_of}
 use Rattle.tla_ast.specs.declared.expr.Bound.{Bound as BoundTree}

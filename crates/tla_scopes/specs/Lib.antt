@@ -1,3 +1,4 @@
+pub mod Applied
 pub mod FirstOperands
 pub mod Mentions
 pub mod Placed

@@ -1,6 +1,6 @@
 -- What names mean: those of the program, and those that are bound around a place. An inner name hides an outer one, and of equal names that
 -- one list binds the later hides the earlier (this project's profile).
-use Rattle.std.specs.Prelude.{ℕ, suc, if◌then◌else◌, List, [], ◌∷◌, ◌++◌, length, Option, Some, None}
+use Rattle.std.specs.Prelude.{ℕ, suc, if◌then◌else◌, List, [], ◌∷◌, ◌++◌, Option, Some, None}
 use Rattle.std.specs.Str.{bytes_eq}
 use Rattle.tla_ast.specs.Trees as tree
 use Rattle.tla_ast.specs.Trees.{Bounds}

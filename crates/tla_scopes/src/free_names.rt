@@ -28,7 +28,7 @@ pub fn is_one_of(name: &Text, names: &[Text]) -> bool
 }
 
 /// Whether bounds bind the name.
-fn binds(bounds: &Bounds, name: &Text) -> bool
+pub(crate) fn binds(bounds: &Bounds, name: &Text) -> bool
     ensures { result ≡ binds bounds.now name.now }
 {
     for bound in bounds.items() {
@@ -40,7 +40,7 @@ fn binds(bounds: &Bounds, name: &Text) -> bool
 }
 
 /// Whether one of the definitions has that name.
-fn defines(definitions: &Definitions, name: &Text) -> bool
+pub(crate) fn defines(definitions: &Definitions, name: &Text) -> bool
     ensures { result ≡ defines definitions.now name.now }
 {
     for definition in definitions.items() {
@@ -52,7 +52,7 @@ fn defines(definitions: &Definitions, name: &Text) -> bool
 }
 
 /// Whether the name is the character `@`, which stands for an old value in the new value of a change.
-fn is_at_sign(name: &Text) -> bool
+pub(crate) fn is_at_sign(name: &Text) -> bool
     ensures { result ≡ bytes_eq at_sign name.now }
 {
     "@" == name.as_str()
@@ -284,7 +284,7 @@ fn mentions_steps(name: &Text, steps: &Steps) -> bool
 }
 
 #[cycle(mentions)]
-fn mentions_bounds(name: &Text, bounds: &Bounds) -> bool
+pub(crate) fn mentions_bounds(name: &Text, bounds: &Bounds) -> bool
     ensures { result ≡ mentions_bounds name.now bounds.now }
 {
     for bound in bounds.items() {

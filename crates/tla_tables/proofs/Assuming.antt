@@ -1,7 +1,7 @@
 -- What the assumptions mean.
-use Rattle.std.proofs.Common.{◌≡◌, ◌∙◌, sym, ap, refl, subst, ℕ, zero, suc, List, [], ◌∷◌, ◌++◌, length, ◌<◌, ◌≤◌, ◌+◌, ◌⊎◌, inl, inr, arith, map, get_or, length-append}
+use Rattle.std.proofs.Common.{◌≡◌, ◌∙◌, sym, ap, refl, subst, ℕ, zero, suc, List, [], ◌∷◌, ◌++◌, length, ◌<◌, ◌≤◌, ◌+◌, inl, inr, arith, map, length-append}
 use Rattle.std.specs.Borrow.{Bor}
-use Rattle.std.specs.Prelude.{All, Option, Some, None, option_map, slice_get}
+use Rattle.std.specs.Prelude.{All, Bool, Option, Some, None, option_map, slice_get}
 use Rattle.std.proofs.Math.Path.{fun_ext}
 use Rattle.std.proofs.lemmas.List.{length-map}
 use Rattle.std.proofs.lemmas.List.Elements.{All-append, All-cons, All-nil}
@@ -22,18 +22,20 @@ use Rattle.tla_scopes.specs.Standing.{AreIn}
 use Rattle.tla_names.specs.declared.fault.NameFault.{NameFault}
 use Rattle.tla_names.specs.Complaints.{Takes, complaint, with_names}
 use Rattle.tla_names.specs.Means.{Means}
-use Rattle.tla_names.specs.Outcomes.{Always, Grows, named_in, needed_by, takes_of}
+use Rattle.tla_names.specs.Outcomes.{Always, Grows, named_in, taken_by, takes_of}
 use Rattle.tla_program.specs.InUnits.{assumptions_in, definitions_in}
 use Rattle.tla_program.specs.Names.{AreNames, Numbers, declared_meaning, definition_meant, numbers_of}
+use Rattle.tla_program.specs.Recursion.{AreLevelsOf}
 use Rattle.tla_program.proofs.NameLemmas.{by_index_is}
 use Rattle.tla_uses.proofs.Meanings.{meant_within}
+use Rattle.tla_uses.proofs.ProgramLevels.{levels_exist}
 use Rattle.tla_tables.specs.declared.table.Table.{Table}
 use Rattle.tla_tables.specs.Assumed.{AreAssumed}
 use Rattle.tla_tables.specs.NameFaults.{HasFineNames, takes_in_program}
 use Rattle.tla_tables.specs.Tables.{AreMeant, IsTable}
-use Rattle.tla_tables.proofs.Faults.{still_in}
+use Rattle.tla_tables.proofs.Faults.{still_in, takes_still}
 use Rattle.tla_tables.proofs.Places.{counted_on, grows_none, grows_on, pushed_at}
-use Rattle.tla_tables.proofs.ProgramTakes.{needed_here, numbered_needed}
+use Rattle.tla_tables.proofs.ProgramTakes.{numbered_taken, taken_here}
 
 pub record AssumedAt (us : List ModuleUnit) (t : Tree) : Type 0 where
   pub place : ℕ
@@ -50,22 +52,22 @@ assumed_at (Constants ds ∷ us) j t e = (let r : AssumedAt us t = assumed_at us
 assumed_at (Recursive rs ∷ us) j t e = (let r : AssumedAt us t = assumed_at us j t e in record { place = suc r.place; stands = r.stands })
 assumed_at (Passed ∷ us) j t e = (let r : AssumedAt us t = assumed_at us j t e in record { place = suc r.place; stands = r.stands })
 
-fine_assumption : (p : Program) (c : Config) → HasFineNames p c → (j : ℕ) (t : Tree) → slice_get (assumptions_in p.units) j ≡ Some t → complaint (takes_in_program p c) t ≡ None
-fine_assumption p c fine j t e = one (complaint (takes_in_program p c) t) refl
+fine_assumption : (p : Program) (c : Config) (bs : List Bool) → AreLevelsOf p c bs → HasFineNames p c → (j : ℕ) (t : Tree) → slice_get (assumptions_in p.units) j ≡ Some t → complaint (takes_in_program p c bs) t ≡ None
+fine_assumption p c bs h fine j t e = one (complaint (takes_in_program p c bs) t) refl
   where
-    one : (o : Option NameFault) → complaint (takes_in_program p c) t ≡ o → o ≡ None
+    one : (o : Option NameFault) → complaint (takes_in_program p c bs) t ≡ o → o ≡ None
     one None q = refl
     one (Some f) q =
         let r : AssumedAt p.units t = assumed_at p.units j t e in
-        absurd (fine r.place f (record { unit = Assume t; stands = r.stands; wrong = q }))
+        absurd (fine r.place f (record { unit = Assume t; stands = r.stands; known = takes_in_program p c bs; are = (bs, h, refl); wrong = q }))
 
 -- each definition that a name means has a number
-takes_tabled : (p : Program) (c : Config) (values : List Val) (number : Numbers) (names : List Entry) (ops : List Operator) → AreNames p c values number names → IsTable p c values number ops → takes_of names ≡ takes_in_program p c
-takes_tabled p c values number names ops are table =
+takes_tabled : (p : Program) (c : Config) (bs : List Bool) → AreLevelsOf p c bs → (values : List Val) (number : Numbers) (names : List Entry) (ops : List Operator) → AreNames p c values number names → IsTable p c values number ops → takes_of ops names ≡ takes_in_program p c bs
+takes_tabled p c bs h values number names ops are table =
     fun_ext (λ (n : List ℕ).
-    ap (option_map needed_by) (are n)
-    ∙ numbered_needed number (declared_meaning p c values n) (λ needed j e. has j (meant_within p c values n (named needed (definition_meant j)) (by_index_is (declared_meaning p c values n) ∙ e)))
-    ∙ needed_here p c values n)
+    ap (option_map (taken_by ops)) (are n)
+    ∙ numbered_taken bs number ops (table.leveled bs h) (declared_meaning p c values n) (λ needed j e. has j (meant_within p c values n (named needed (definition_meant j)) (by_index_is (declared_meaning p c values n) ∙ e)))
+    ∙ taken_here bs p c values n)
   where
     has : (j : ℕ) → j < length (definitions_in p.units) → (k : ℕ) × (number j ≡ Some k)
     has j lt = elim (slice_get_cases (definitions_in p.units) j).1 [
@@ -73,12 +75,17 @@ takes_tabled p c values number names ops are table =
       | inr w ↦ absurd (omega (arith, lt, w.0))
     ]
 
-pub assumed_fine : (p : Program) (c : Config) (values : List Val) (number : Numbers) (names now : List Entry) (ops : List Operator) (params : List (List ℕ)) → HasFineNames p c → AreNames p c values number names → IsTable p c values number ops → now ≡ names → params ≡ [] → (j : ℕ) (t : Tree) → slice_get (assumptions_in p.units) j ≡ Some t → complaint (with_names (takes_of now) params) t ≡ None
-assumed_fine p c values number names now ops params fine are table same none j t at =
-    ap (λ (ps : List (List ℕ)). complaint (with_names (takes_of now) ps) t) none
-    ∙ ap (λ (l : List Entry). complaint (takes_of l) t) same
-    ∙ ap (λ (g : Takes). complaint g t) (takes_tabled p c values number names ops are table)
-    ∙ fine_assumption p c fine j t at
+assumed_fine : (p : Program) (c : Config) (bs : List Bool) → AreLevelsOf p c bs → (values : List Val) (number : Numbers) (names now : List Entry) (ops grown : List Operator) (params : List (List ℕ)) → HasFineNames p c → AreNames p c values number names → IsTable p c values number ops → AreIn (length ops) names → Grows ops grown → now ≡ names → params ≡ [] → (j : ℕ) (t : Tree) → slice_get (assumptions_in p.units) j ≡ Some t → complaint (with_names (takes_of grown now) params) t ≡ None
+assumed_fine p c bs h values number names now ops grown params fine are table known g same none j t at =
+    ap (λ (ps : List (List ℕ)). complaint (with_names (takes_of grown now) ps) t) none
+    ∙ ap (λ (l : List Entry). complaint (takes_of grown l) t) same
+    ∙ ap (λ (g : Takes). complaint g t) (takes_still names ops grown known g ∙ takes_tabled p c bs h values number names ops are table)
+    ∙ fine_assumption p c bs h fine j t at
+
+pub assumed_so : (p : Program) (c : Config) (values : List Val) (number : Numbers) (names now : List Entry) (ops grown : List Operator) (params : List (List ℕ)) → HasFineNames p c → AreNames p c values number names → IsTable p c values number ops → AreIn (length ops) names → Grows ops grown → now ≡ names → params ≡ [] → (j : ℕ) (t : Tree) → slice_get (assumptions_in p.units) j ≡ Some t → complaint (with_names (takes_of grown now) params) t ≡ None
+assumed_so p c values number names now ops grown params fine are table known g same none j t at =
+    let l : (bs : List Bool) × AreLevelsOf p c bs = levels_exist p c in
+    assumed_fine p c l.0 l.1 values number names now ops grown params fine are table known g same none j t at
 
 pub known_still : (old new : Table) (trees : List Tree) (i : ℕ) (terms : Terms) → AreAssumed old new trees i terms → AreIn (length old.operators) old.names → AreIn (length new.operators) new.names
 known_still old new trees i terms h known =

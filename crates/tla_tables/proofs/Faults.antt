@@ -1,10 +1,10 @@
 -- The first thing that is wrong with the names of the units.
-use Rattle.std.proofs.Common.{◌≡◌, ◌∙◌, sym, ap, subst, ℕ, List, [], ◌∷◌, ◌++◌, length, ◌<◌, ◌≤◌, ◌+◌, arith, take, get_or, inl, inr, length-append, ◌⊎◌}
+use Rattle.std.proofs.Common.{◌≡◌, ◌∙◌, sym, ap, refl, subst, ℕ, List, [], ◌∷◌, ◌++◌, length, ◌<◌, ◌≤◌, ◌+◌, arith, take, get_or, inl, inr, length-append, ◌⊎◌}
 use Rattle.std.specs.Prelude.{◌↔◌, Bool, false, IsTrue, Option, Some, None, slice_get, Contains}
 use Rattle.std.specs.List.{slice_index_or}
 use Rattle.std.proofs.lemmas.List.{take_more}
 use Rattle.std.proofs.lemmas.Option.{slice_get_within}
-use Rattle.tla_values.specs.Data.{Val}
+use Rattle.tla_values.specs.Data.{Val, truth}
 use Rattle.tla_ast.specs.declared.config.Config.{Config}
 use Rattle.tla_ast.specs.declared.module.Program.{Program}
 use Rattle.tla_ast.specs.declared.module.Unit.{Unit as ModuleUnit}
@@ -19,19 +19,18 @@ use Rattle.tla_scopes.specs.declared.meant.Meant.TheVariants as meant
 use Rattle.tla_scopes.specs.Standing.{AreIn, IsIn}
 use Rattle.tla_names.specs.declared.fault.NameFault.{NameFault}
 use Rattle.tla_names.specs.Complaints.{Takes}
+use Rattle.tla_names.specs.Means.{no_body}
 use Rattle.tla_names.specs.Outcomes.{Grows, takes_of}
+use Rattle.tla_names.proofs.AroundLemmas.{takes_grown}
 use Rattle.tla_program.specs.InUnits.{definitions_in}
-use Rattle.tla_program.specs.Names.{AreNames, by_index}
-use Rattle.tla_program.specs.Uses.{UsesItself}
+use Rattle.tla_program.specs.Recursion.{AreLevelsOf, MeetsRecursion}
 use Rattle.tla_program.proofs.DeclaredLemmas.{definitions_behind}
-use Rattle.use_order.specs.Uses as order
 use Rattle.use_order.proofs.Lists.{none_in}
 use Rattle.tla_tables.specs.NameFaults.{HasFineNames, IsFirstNameFault, IsNameFaultAt, definitions_before, takes_in_program}
-use Rattle.tla_tables.specs.UnitComplaints.{AreRecursive, AreUses, unit_complaint}
-use Rattle.tla_tables.proofs.ProgramTakes.{takes_are}
-use Rattle.tla_tables.proofs.UnitPlaces.{fault_is, is_fault}
+use Rattle.tla_tables.specs.UnitComplaints.{AreWrong, unit_complaint}
+use Rattle.tla_tables.proofs.UnitPlaces.{fault_is, is_fault, known_is}
 
-below_or_at : (j k : ℕ) → j < k + 1 → (j < k) ⊎ (j ≡ k)
+pub below_or_at : (j k : ℕ) → j < k + 1 → (j < k) ⊎ (j ≡ k)
 below_or_at j k lt = grind arith
 
 -- a value mentions no definition
@@ -42,6 +41,10 @@ nothing_known _ v q _ (mentioned_in_part at l m p k c w) = none_in p (subst (λ 
 
 pub known_below : (e : Term) (v : Val) → meaning_of e ≡ Known v → (k : ℕ) → MentionsBelow k e
 known_below e v q k j w = absurd (nothing_known e v q j w)
+
+-- the body that is to come uses nothing
+pub empty_body : (k : ℕ) → MentionsBelow k no_body
+empty_body k = known_below no_body (truth false) refl k
 
 in_more : (before count : ℕ) → before ≤ count → (m : Meant) → IsIn before m → IsIn count m
 in_more before count le (meant.Definition k) h = omega arith
@@ -74,39 +77,43 @@ one_at_most (Assume t) r e = (let none : r ≡ 0 = e in omega arith)
 one_at_most (Recursive rs) r e = (let none : r ≡ 0 = e in omega arith)
 one_at_most Passed r e = (let none : r ≡ 0 = e in omega arith)
 
--- the definition of that index uses itself where the mark says so
-pub marked : (p : Program) (c : Config) (uses : order.Table) (marks : List Bool) (i : ℕ) (b : Bool) → AreUses p c uses → AreRecursive uses marks → b ≡ slice_index_or marks i false → IsTrue b ↔ UsesItself p c i
-marked p c uses marks i b found are e =
-    (λ t. (found.leads i i).0 ((are i).0 (sym e ∙ t)), λ l. e ∙ (are i).1 ((found.leads i i).1 l))
+-- the definition of that index uses itself wrongly where the mark says so
+pub marked : (p : Program) (c : Config) (marks : List Bool) (i : ℕ) (b : Bool) → AreWrong p c marks → b ≡ slice_index_or marks i false → IsTrue b ↔ MeetsRecursion p c i
+marked p c marks i b are e = (λ t. (are i).0 (sym e ∙ t), λ l. e ∙ (are i).1 l)
 
-module _ (p : Program) (c : Config) (values : List Val) (names : List Entry) (a : AreNames p c values by_index names) (k : ℕ) (u : ModuleUnit) (stands : slice_get p.units k ≡ Some u) (i : ℕ) (at : i ≡ definitions_before p.units k) (b : Bool) (mark : IsTrue b ↔ UsesItself p c i) where
-  complaint_there : unit_complaint (takes_of names) b u ≡ unit_complaint (takes_in_program p c) b u
-  complaint_there = ap (λ (g : Takes). unit_complaint g b u) (takes_are p c values names a)
+-- names over a table that grew
+pub takes_still : (names : List Entry) (a b : List Operator) → AreIn (length a) names → Grows a b → takes_of b names ≡ takes_of a names
+takes_still names a b known g = takes_grown names [] a b (record { program = known; around = tt }) g
 
-  mark_there : IsTrue b ↔ UsesItself p c (definitions_before p.units k)
-  mark_there = subst (λ (n : ℕ). IsTrue b ↔ UsesItself p c n) at mark
+module _ (p : Program) (c : Config) (bs : List Bool) (h : AreLevelsOf p c bs) (names : List Entry) (ops : List Operator) (takes : takes_of ops names ≡ takes_in_program p c bs) (k : ℕ) (u : ModuleUnit) (stands : slice_get p.units k ≡ Some u) (i : ℕ) (at : i ≡ definitions_before p.units k) (b : Bool) (mark : IsTrue b ↔ MeetsRecursion p c i) where
+  complaint_there : unit_complaint (definitions_in p.units) (takes_of ops names) b u ≡ unit_complaint (definitions_in p.units) (takes_in_program p c bs) b u
+  complaint_there = ap (λ (g : Takes). unit_complaint (definitions_in p.units) g b u) takes
 
-  none_there : unit_complaint (takes_of names) b u ≡ None → (f : NameFault) → ¬ IsNameFaultAt p c k f
+  mark_there : IsTrue b ↔ MeetsRecursion p c (definitions_before p.units k)
+  mark_there = subst (λ (n : ℕ). IsTrue b ↔ MeetsRecursion p c n) at mark
+
+  none_there : unit_complaint (definitions_in p.units) (takes_of ops names) b u ≡ None → (f : NameFault) → ¬ IsNameFaultAt p c k f
   none_there none f w =
       let both : Some u ≡ Some w.unit = sym stands ∙ w.stands in
       let same : u ≡ w.unit = cc in
-      let some : unit_complaint (takes_in_program p c) b w.unit ≡ Some f = is_fault p c (definitions_before p.units k) w.unit f b mark_there w.wrong in
-      let here : unit_complaint (takes_in_program p c) b u ≡ Some f = ap (λ (x : ModuleUnit). unit_complaint (takes_in_program p c) b x) same ∙ some in
+      let some : unit_complaint (definitions_in p.units) w.known b w.unit ≡ Some f = is_fault p c w.known (definitions_before p.units k) w.unit f b mark_there w.wrong in
+      let known : w.known ≡ takes_in_program p c bs = known_is p c bs w.known h w.are in
+      let here : unit_complaint (definitions_in p.units) (takes_in_program p c bs) b u ≡ Some f = ap (λ (x : ModuleUnit). unit_complaint (definitions_in p.units) (takes_in_program p c bs) b x) same ∙ ap (λ (g : Takes). unit_complaint (definitions_in p.units) g b w.unit) (sym known) ∙ some in
       let bad : None ≡ Some f = sym none ∙ complaint_there ∙ here in
       absurd (cc)
 
   -- nothing is wrong with one more unit
-  pub fine_on : (o : Option NameFault) → o ≡ unit_complaint (takes_of names) b u → o ≡ None → ((j : ℕ) (f : NameFault) → j < k → ¬ IsNameFaultAt p c j f) → (j : ℕ) (f : NameFault) → j < k + 1 → ¬ IsNameFaultAt p c j f
-  fine_on o e n h j f lt w = elim (below_or_at j k lt) [
-    | inl less ↦ h j f less w
+  pub fine_on : (o : Option NameFault) → o ≡ unit_complaint (definitions_in p.units) (takes_of ops names) b u → o ≡ None → ((j : ℕ) (f : NameFault) → j < k → ¬ IsNameFaultAt p c j f) → (j : ℕ) (f : NameFault) → j < k + 1 → ¬ IsNameFaultAt p c j f
+  fine_on o e n before j f lt w = elim (below_or_at j k lt) [
+    | inl less ↦ before j f less w
     | inr same ↦ none_there (sym e ∙ n) f (subst (λ (x : ℕ). IsNameFaultAt p c x f) same w)
   ]
 
-  pub first_there : (f : NameFault) (o : Option NameFault) → o ≡ unit_complaint (takes_of names) b u → o ≡ Some f → ((j : ℕ) (g : NameFault) → j < k → ¬ IsNameFaultAt p c j g) → IsFirstNameFault p c f
-  first_there f o e s h = record {
+  pub first_there : (f : NameFault) (o : Option NameFault) → o ≡ unit_complaint (definitions_in p.units) (takes_of ops names) b u → o ≡ Some f → ((j : ℕ) (g : NameFault) → j < k → ¬ IsNameFaultAt p c j g) → IsFirstNameFault p c f
+  first_there f o e s before = record {
     index = k;
-    is = record { unit = u; stands = stands; wrong = fault_is p c (definitions_before p.units k) u f b mark_there (sym complaint_there ∙ sym e ∙ s) };
-    none_before = h;
+    is = record { unit = u; stands = stands; known = takes_in_program p c bs; are = (bs, h, refl); wrong = fault_is p c (takes_in_program p c bs) (definitions_before p.units k) u f b mark_there (sym complaint_there ∙ sym e ∙ s) };
+    none_before = before;
   }
 
 pub all_fine : (p : Program) (c : Config) (n k : ℕ) → length p.units ≤ n → n ≤ k → ((j : ℕ) (f : NameFault) → j < k → ¬ IsNameFaultAt p c j f) → HasFineNames p c

@@ -1,92 +1,90 @@
 //! The first thing that is wrong with the names of a program.
 
-ghost use Rattle.std.specs.Prelude.{◌≡◌, [], ◌∷◌, ℕ, List, IfOk, MatchOption, None, false, length};
-ghost use Rattle.std.specs.List.{slice_index_or};
+ghost use Rattle.std.specs.Prelude.{◌≡◌, [], ◌∷◌, ℕ, List, IfOk, MatchOption, None, length, map};
 ghost use Rattle.tla_values.specs.Data.{Val};
 ghost use Rattle.tla_ast.specs.declared.module.Unit.TheVariants.{Define};
 ghost use Rattle.tla_terms.specs.declared.operator.Own.TheVariants.{Apart};
 ghost use Rattle.term_parts.specs.Slots.{MentionsBelow, UsesSmaller};
 ghost use Rattle.tla_scopes.specs.Standing.{AreIn};
 ghost use Rattle.tla_names.specs.Complaints.{complaint};
-ghost use Rattle.tla_names.specs.Outcomes.{Grows, takes_of};
+ghost use Rattle.tla_names.specs.Outcomes.{Grows, above as above_level, takes_of};
 ghost use Rattle.tla_program.specs.InUnits.{definitions_in};
 ghost use Rattle.tla_program.specs.Names.{AreNames, by_index};
+ghost use Rattle.tla_program.specs.Recursion.{AreLevelsOf};
 ghost use Rattle.tla_tables.specs.NameFaults.{HasFineNames, IsFirstNameFault};
-ghost use Rattle.tla_tables.specs.UnitComplaints.{AreUses, unit_complaint};
+ghost use Rattle.tla_tables.specs.UnitComplaints.{AreUses, AreWrong, unit_complaint};
 ghost use Rattle.use_order.specs.Uses.{table_of};
 
-use crate::recursion::recursive;
+use crate::declaring::declared_fault;
+use crate::empty::no_body;
+use crate::recursion::{is_marked, recursive, wrong_marks};
 use crate::term::complaint_of;
 use std::alloc::Global;
 use tla_ast::{Config, Definition, Expr, Program, Unit};
 use tla_names::NameFault;
+use tla_program::definitions;
 use tla_scopes::ProgramNames;
-use tla_terms::{Level, Operator, Operators, Own, Term, TermNode};
-use tla_values::Value;
-use trace_base::{Names, NoMemory, Place, Text};
+use tla_terms::{Level, Operator, Operators, Own};
+use tla_uses::{definition_levels, strict_uses};
+use trace_base::{Names, NoMemory, Text};
+use uses_apart::order_apart;
 
-const NOWHERE: Place = Place {
-    file: 0,
-    line: 0,
-    col: 0,
-};
+/// Level 0 or above it.
+fn level(above: bool) -> Level
+    ensures { above_level result ≡ above }
+{
+    if above {
+        return Level::State;
+    }
+    Level::Constant
+}
 
-/// A definition that stands for one whose body is not known yet.
-fn placeholder(alloc: Global) -> Result<Operator, NoMemory>
+/// A definition that stands for one whose body is not known yet, of which it is known whether it is above level 0.
+fn placeholder(alloc: Global, above: bool) -> Result<Operator, NoMemory>
     ensures apart { IfOk result (λ o. o.own ≡ Apart) }
     ensures below { IfOk result (λ o. (k : ℕ) → MentionsBelow k o.body) }
+    ensures level { IfOk result (λ o. above_level o.level ≡ above) }
 {
     let name = Text::from_text(alloc, "")?;
-    let node = TermNode::Known(Value::boolean(false));
-    let body = Term::new(alloc, NOWHERE, Level::Constant, node)?;
+    let body = no_body(alloc)?;
     Ok(Operator {
         name,
         outer: 0,
         params: 0,
-        level: Level::Constant,
+        level: level(above),
         own: Own::Apart,
         body,
     })
 }
 
-/// As many definitions that stand for others.
-fn placeholders(alloc: Global, count: usize) -> Result<Operators, NoMemory>
-    ensures count { IfOk result (λ ops. length ops ≡ count) }
+/// A definition that stands for another, for each mark: whether it is above level 0.
+fn placeholders(alloc: Global, levels: &[bool]) -> Result<Operators, NoMemory>
     ensures smaller { IfOk result UsesSmaller }
+    ensures levels { IfOk result (λ ops. map (λ o. above_level o.level) ops ≡ levels.now) }
 {
     let mut table = Operators::new(alloc);
-    for made in 0..count {
-        let item = placeholder(alloc)?;
+    for above in levels {
+        let item = placeholder(alloc, *above)?;
         table.push(item)?;
     }
     Ok(table)
 }
 
-/// The mark at an index, if there is one.
-fn is_marked(marks: &[bool], index: usize) -> bool
-    ensures { result ≡ slice_index_or marks.now index false }
-{
-    match marks.get(index) {
-        Some(mark) => *mark,
-        None => false,
-    }
-}
-
-/// What is wrong with a definition that uses itself or does not.
+/// What is wrong with a definition that uses itself wrongly or does not.
 fn definition_fault(
     alloc: Global,
     names: &ProgramNames,
     table: &mut Operators,
-    itself: bool,
+    wrong: bool,
     definition: &Definition,
 ) -> Result<Option<NameFault>, NoMemory>
     requires known { AreIn (length table.old) names.now }
     requires ordered { UsesSmaller table.old }
-    ensures exact { IfOk result (λ o. o ≡ unit_complaint (takes_of names.now) itself (Define definition.now)) }
+    ensures exact { IfOk result (λ o. o ≡ unit_complaint [] (takes_of table.old names.now) wrong (Define definition.now)) }
     ensures grown { IfOk result (λ o. o ≡ None → Grows table.old table.new) }
     ensures smaller { IfOk result (λ o. o ≡ None → UsesSmaller table.new) }
 {
-    if itself {
+    if wrong {
         let name = definition.name.copy()?;
         return Ok(Some(NameFault::Recursion(name, definition.at)));
     }
@@ -102,7 +100,7 @@ fn assumption_fault(
 ) -> Result<Option<NameFault>, NoMemory>
     requires known { AreIn (length table.old) names.now }
     requires ordered { UsesSmaller table.old }
-    ensures exact { IfOk result (λ o. o ≡ complaint (takes_of names.now) tree.now) }
+    ensures exact { IfOk result (λ o. o ≡ complaint (takes_of table.old names.now) tree.now) }
     ensures grown { IfOk result (λ o. o ≡ None → Grows table.old table.new) }
     ensures smaller { IfOk result (λ o. o ≡ None → UsesSmaller table.new) }
 {
@@ -110,26 +108,27 @@ fn assumption_fault(
     complaint_of(alloc, names, &params, table, tree)
 }
 
-/// What is wrong with a unit, of which it is known whether it uses itself.
+/// What is wrong with a unit, of which it is known whether it uses itself wrongly.
 fn unit_fault(
     alloc: Global,
+    definitions: &[&Definition],
     names: &ProgramNames,
     table: &mut Operators,
-    itself: bool,
+    wrong: bool,
     unit: &Unit,
 ) -> Result<Option<NameFault>, NoMemory>
     requires known { AreIn (length table.old) names.now }
     requires ordered { UsesSmaller table.old }
-    ensures exact { IfOk result (λ o. o ≡ unit_complaint (takes_of names.now) itself unit.now) }
+    ensures exact { IfOk result (λ o. o ≡ unit_complaint (map (λ d. d.now) definitions.now) (takes_of table.old names.now) wrong unit.now) }
     ensures grown { IfOk result (λ o. o ≡ None → Grows table.old table.new) }
     ensures smaller { IfOk result (λ o. o ≡ None → UsesSmaller table.new) }
 {
     match unit {
-        Unit::Define(definition) => definition_fault(alloc, names, table, itself, definition),
+        Unit::Define(definition) => definition_fault(alloc, names, table, wrong, definition),
         Unit::Assume(tree) => assumption_fault(alloc, names, table, tree),
         Unit::Variables(_) => Ok(None),
         Unit::Constants(_) => Ok(None),
-        Unit::Recursive(_) => Ok(None),
+        Unit::Recursive(operators) => declared_fault(definitions, operators),
         Unit::Passed => Ok(None),
     }
 }
@@ -148,6 +147,45 @@ fn definitions_of(unit: &Unit) -> usize
     }
 }
 
+/// Of each definition whether it uses itself wrongly.
+fn wrong_of(
+    alloc: Global,
+    program: &Program,
+    config: &Config,
+    names: &ProgramNames,
+    uses: &[Vec<usize>],
+    levels: &[bool],
+) -> Result<Vec<bool>, NoMemory>
+    requires are { (values : List Val) × AreNames program.now config.now values by_index names.now }
+    requires used { AreUses program.now config.now (table_of uses.now) }
+    requires levels { AreLevelsOf program.now config.now levels.now }
+    ensures { IfOk result (λ marks. AreWrong program.now config.now marks.items) }
+{
+    let strict = strict_uses(alloc, program, config, names)?;
+    let strictly = recursive(alloc, &strict)?;
+    let itself = recursive(alloc, uses)?;
+    let marks = wrong_marks(alloc, &strictly, &itself, levels)?;
+    Ok(marks)
+}
+
+/// The least levels of the definitions, which are raised in an order of their uses.
+fn levels_in(
+    alloc: Global,
+    program: &Program,
+    config: &Config,
+    names: &ProgramNames,
+    uses: &[Vec<usize>],
+) -> Result<Vec<bool>, NoMemory>
+    requires are { (values : List Val) × AreNames program.now config.now values by_index names.now }
+    requires used { AreUses program.now config.now (table_of uses.now) }
+    ensures { IfOk result (λ marks. AreLevelsOf program.now config.now marks.items) }
+{
+    let itself = recursive(alloc, uses)?;
+    let order = order_apart(alloc, uses, &itself)?;
+    let levels = definition_levels(alloc, program, config, names, &order)?;
+    Ok(levels)
+}
+
 /// The first thing that is wrong with the names of a program, in the order of its units. The names tell definitions by their indices, and `uses` gives
 /// those that each definition uses.
 pub fn first_name_fault(
@@ -162,12 +200,14 @@ pub fn first_name_fault(
     requires used { AreUses program.now config.now (table_of uses.now) }
     ensures { IfOk result (λ o. MatchOption o (HasFineNames program.now config.now) (IsFirstNameFault program.now config.now)) }
 {
-    let marks = recursive(alloc, uses)?;
-    let mut table = placeholders(alloc, uses.len())?;
+    let definitions = definitions(alloc, &program.units)?;
+    let levels = levels_in(alloc, program, config, names, uses)?;
+    let marks = wrong_of(alloc, program, config, names, uses, &levels)?;
+    let mut table = placeholders(alloc, &levels)?;
     let mut index = 0;
     for unit in program.units.items() {
-        let itself = is_marked(&marks, index);
-        let found = unit_fault(alloc, names, &mut table, itself, unit)?;
+        let wrong = is_marked(&marks, index);
+        let found = unit_fault(alloc, &definitions, names, &mut table, wrong, unit)?;
         match found {
             Some(fault) => return Ok(Some(fault)),
             None => index += definitions_of(unit),

@@ -2,7 +2,10 @@
 #![tactic(auto)]
 
 mod assumed;
+mod declaring;
+mod empty;
 mod fault;
+mod own;
 mod recursion;
 mod table;
 mod term;

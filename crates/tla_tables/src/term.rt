@@ -6,7 +6,7 @@ ghost use Rattle.tla_scopes.specs.Scopes.{bind};
 ghost use Rattle.tla_scopes.specs.Standing.{AreIn};
 ghost use Rattle.tla_names.specs.Complaints.{complaint, with_names};
 ghost use Rattle.tla_names.specs.Means.{Means};
-ghost use Rattle.tla_names.specs.Outcomes.{Always, Complains, Grows, named_in, takes_of};
+ghost use Rattle.tla_names.specs.Outcomes.{Complains, Grows, Lasts, named_in, takes_of};
 ghost use Rattle.tla_names.specs.declared.fault.NameFault.{NameFault};
 
 use std::alloc::{AllocError, Global};
@@ -41,7 +41,7 @@ pub(crate) fn complaint_of(
 ) -> Result<Option<NameFault>, NoMemory>
     requires known { AreIn (length table.old) names.now }
     requires ordered { UsesSmaller table.old }
-    ensures exact { IfOk result (λ o. o ≡ complaint (with_names (takes_of names.now) params.now) tree.now) }
+    ensures exact { IfOk result (λ o. o ≡ complaint (with_names (takes_of table.old names.now) params.now) tree.now) }
     ensures grown { IfOk result (λ o. o ≡ None → Grows table.old table.new) }
     ensures smaller { IfOk result (λ o. o ≡ None → UsesSmaller table.new) }
 {
@@ -76,12 +76,12 @@ pub(crate) fn term_of(
 ) -> Result<Term, NoMemory>
     requires known { AreIn (length table.old) names.now }
     requires ordered { UsesSmaller table.old }
-    requires fine { complaint (with_names (takes_of names.now) params.now) tree.now ≡ None }
+    requires fine { complaint (with_names (takes_of table.old names.now) params.now) tree.now ≡ None }
     ensures grown { OnOk result (Grows table.old table.new) }
     ensures smaller { OnOk result (UsesSmaller table.new) }
     ensures unnamed { OnOk result (named_in table.new ≡ named_in table.old) }
     ensures below { IfOk result (MentionsBelow (length table.new)) }
-    ensures means { IfOk result (λ e. Always table.new (λ all. Means names.now all (bind [] params.now) tree.now e)) }
+    ensures means { IfOk result (λ e. Lasts (length table.old) table.new (λ all. Means names.now all (bind [] params.now) tree.now e)) }
 {
     match resolve_tree(alloc, names, params, table, tree) {
         Ok(term) => Ok(term),

@@ -1,7 +1,7 @@
 -- The level of a term: 0 of what is constant, 1 of what a state has, 2 of what a step has, 3 of what a whole behaviour has. It is that of the
 -- meaning over the levels of the parts, which stand in the parts (Lamport, Specifying Systems, 17.2; ENABLED and arguments as this project's
 -- profile has them).
-use Rattle.std.specs.Prelude.{ℕ, List, [], ◌∷◌, Option, Some, None, slice_get}
+use Rattle.std.specs.Prelude.{List, [], Option, Some, None, slice_get}
 use Rattle.tla_ast.specs.declared.operators.PrefixOperator.{PrefixOperator}
 use Rattle.tla_ast.specs.declared.operators.PrefixOperator.TheVariants as prefix
 use Rattle.tla_ast.specs.declared.operators.InfixOperator.{InfixOperator}
@@ -9,7 +9,7 @@ use Rattle.tla_ast.specs.declared.operators.InfixOperator.TheVariants as infix_o
 use Rattle.tla_terms.specs.declared.level.Level.{Level}
 use Rattle.tla_terms.specs.declared.level.Level.TheVariants.{Constant, State, Action, Temporal}
 use Rattle.tla_terms.specs.declared.operator.Operator.{Operator}
-use Rattle.tla_terms.specs.Terms.{Term, Meaning, Known, Named, Variable, Slot, Use, Standard, Parenthesized, Scoped, All, Any, Prefix, Infix, Postfix, SetOf, Filter, Map, Tuple, Function, FunctionSet, Record, RecordSet, Except, Quantified, Choose, If, Case, CaseOther, BoxAction, AngleAction, Fairness, Terms, NoTerms, MoreTerms, Operands, First, Next, Step, Prime, Index, Field, Steps, NoSteps, MoreSteps, Bounds, NoBounds, MoreBounds, Fields, NoFields, MoreFields, Changes, NoChanges, MoreChanges, Arms, NoArms, MoreArms, level_of}
+use Rattle.tla_terms.specs.Terms.{Meaning, Known, Named, Variable, Slot, Use, Standard, Parenthesized, Scoped, All, Any, Prefix, Infix, Postfix, SetOf, Filter, Map, Tuple, Function, FunctionSet, Record, RecordSet, Except, Quantified, Choose, If, Case, CaseOther, BoxAction, AngleAction, Fairness, Terms, NoTerms, MoreTerms, Operands, First, Next, Step, Prime, Index, Field, Steps, NoSteps, MoreSteps, Bounds, NoBounds, MoreBounds, Fields, NoFields, MoreFields, Changes, NoChanges, MoreChanges, Arms, NoArms, MoreArms, level_of}
 
 -- the greater of two levels
 abbrev pub joined : Level → Level → Level

@@ -2,7 +2,7 @@
 use Rattle.std.specs.Prelude.{◌≡◌, ℕ, zero, suc, refl}
 use Rattle.std.proofs.Common.{ap, ◌∙◌}
 use Rattle.std.specs.Coded.{Coded, code_by}
-use base.Stored.{Gv, gnil, gnum, gcons}
+use base.Stored.{Gv, gnum}
 use denote.Struct.Codes.{itself}
 use Rattle.tla_values.specs.Data.{Val}
 use Rattle.tla_values.specs.Tree.{stored, from_stored, from_stored-stored, to_tree, from_tree, from_tree-to_tree}

@@ -1,5 +1,5 @@
 -- For the prover: how terms are told apart, each as data of numbers, by the number of its constructor.
-use Rattle.std.specs.Prelude.{◌≡◌, ℕ, zero, suc, refl}
+use Rattle.std.specs.Prelude.{◌≡◌, zero, suc, refl}
 use Rattle.std.specs.Coded.{Coded, code_by}
 use base.Stored.{Gv, gnil, gnum, gcons}
 use denote.Struct.Codes.{itself}

@@ -4,7 +4,7 @@ use Rattle.std.proofs.Common.{arith}
 use denote.Param.Weighed.{most}
 use Rattle.trace_base.specs.declared.place.Place.{Place}
 use Rattle.tla_terms.specs.Terms as term
-use Rattle.tla_terms.specs.Terms.{Term, Terms, Operands, Steps, Bounds, Fields, Changes, Arms, Meaning}
+use Rattle.tla_terms.specs.Terms.{Term, Terms, Operands, Steps, Bounds, Fields, Changes, Arms}
 use Rattle.tla_terms.specs.TermSizes.{term_size, terms_size, operands_size, step_size, steps_size, bounds_size, fields_size, changes_size, arms_size}
 use Rattle.tla_terms.specs.TermViews.{node_view, step_view, terms_from, terms_of, operands_from, operands_of, steps_from, steps_of, bounds_from, bounds_of, fields_from, fields_of, changes_from, changes_of, arms_from, arms_of}
 use Rattle.tla_terms.specs.declared.level.Level.{Level}

@@ -1,4 +1,4 @@
-ghost use Rattle.std.specs.Prelude.{◌≡◌, ◌↔◌, ◌<◌, ◌≤◌, ℕ, [], ◌∷◌, ◌++◌, length, MatchOption, OnOk, OnErr, IsSome, option_copied, slice_get};
+ghost use Rattle.std.specs.Prelude.{◌≡◌, ◌↔◌, ◌<◌, ◌≤◌, ℕ, [], ◌∷◌, ◌++◌, length, MatchOption, OnOk, OnErr, IsSome, Some, option_copied, set, slice_get};
 ghost use Rattle.tla_terms.specs.Named.{IsNamed, IsVariable};
 
 use crate::ids::DefId;
@@ -28,6 +28,8 @@ impl Model for Operators {
 }
 
 impl Operators {
+    ghost use Rattle.tla_terms.specs.declared.operator.Operator.{Operator};
+
     /// No definitions.
     pub fn new(alloc: Global) -> Operators
         ensures { result ≡ [] }
@@ -59,6 +61,14 @@ impl Operators {
         ensures within { IsSome result ↔ (i < length self.now) }
     {
         self.items.get(i)
+    }
+
+    /// Gives the definition of that number another body.
+    pub fn set_body(&mut self, i: usize, body: Term)
+        requires within { i < length self.old }
+        ensures { (o : Operator) → slice_get self.old i ≡ Some o → self.new ≡ set self.old i (record o { body = body }) }
+    {
+        self.items[i].body = body;
     }
 
     /// The definitions as a slice.

@@ -23,7 +23,7 @@ use Rattle.tla_units.specs.Refusals.{BareUnit, ShallowUnit, ShallowWholeUnit, St
 use Rattle.tla_units.specs.Rests.{Expression, Definition}
 use Rattle.tla_units.proofs.Extents.{TextKind, Parted, Same, Before, Behind, parted, none_within, ends_first}
 use Rattle.tla_units.proofs.Locals.{IsLocal, before_any, local_assume, local_either, local_maybe_title, local_theorem, local_then}
-use Rattle.tla_units.proofs.OneModuleTokens.{Form, OfVariables, OfConstants, OfDefinition, OfAssumption, OfPassed, OfEquals, IsOfUnits, TextEnds, form_of, form_of_unit, tail_of, unit_begins, unit_form, variable_begins, constant_begins, assume_begins, theorem_begins}
+use Rattle.tla_units.proofs.OneModuleTokens.{Form, OfVariables, OfConstants, OfDefinition, OfAssumption, OfPassed, OfRecursive, OfEquals, IsOfUnits, TextEnds, form_of, form_of_unit, tail_of, unit_begins, unit_form, variable_begins, constant_begins, assume_begins, theorem_begins}
 use Rattle.tla_units.proofs.OpenStarts.{name_token, defined_token, word_token, no_title_open, no_word_open, nothing_open}
 use Rattle.tla_units.proofs.SameExtents.{Expressions, Defined, name_mark, defined_mark, title_whole}
 use Rattle.tla_units.proofs.OneModuleParts.{title_tail}
@@ -145,8 +145,9 @@ bare_form xs ys (inl h) q = not_defining (form_of xs) (declaring_form xs h.0 h.1
     not_defining : (f : Form) → (f ≡ OfVariables) ⊎ (f ≡ OfConstants) → f ≡ OfDefinition → ⊥
     not_defining f (inl a) q = cc
     not_defining f (inr a) q = cc
-bare_form xs ys (inr (inl h)) q = let e : OfPassed ≡ OfDefinition = sym (ap form_of h.1) ∙ q in cc
-bare_form xs ys (inr (inr h)) q = let e : OfEquals ≡ OfDefinition = sym (ap form_of h.1) ∙ q in cc
+bare_form xs ys (inr (inl h)) q = let e : OfRecursive ≡ OfDefinition = sym (ap form_of h.1.1) ∙ q in cc
+bare_form xs ys (inr (inr (inl h))) q = let e : OfPassed ≡ OfDefinition = sym (ap form_of h.1) ∙ q in cc
+bare_form xs ys (inr (inr (inr h))) q = let e : OfEquals ≡ OfDefinition = sym (ap form_of h.1) ∙ q in cc
 
 declaring_stated : (f : Form) → (f ≡ OfVariables) ⊎ (f ≡ OfConstants) → OfStated f → ⊥
 declaring_stated f (inl a) (inl b) = cc
@@ -158,11 +159,16 @@ equals_stated : (f : Form) → f ≡ OfEquals → OfStated f → ⊥
 equals_stated f a (inl b) = cc
 equals_stated f a (inr b) = cc
 
+recursive_stated : (f : Form) → f ≡ OfRecursive → OfStated f → ⊥
+recursive_stated f a (inl b) = cc
+recursive_stated f a (inr b) = cc
+
 -- nor has one of those the word of an assumption or of a theorem
 bare_word : (w : Word) (p : Place) (ws xs ys : List Laid) → BareUnit xs ys → xs ≡ word_token w p ∷ ws → OfStated (form_of xs) → ⊥
 bare_word w p ws xs ys (inl h) q f = declaring_stated (form_of xs) (declaring_form xs h.0 h.1) f
-bare_word w p ws xs ys (inr (inl h)) q f = word_no_dashes w p ws xs ys q h
-bare_word w p ws xs ys (inr (inr h)) q f = equals_stated (form_of xs) (ap form_of h.1) f
+bare_word w p ws xs ys (inr (inl h)) q f = recursive_stated (form_of xs) (ap form_of h.1.1) f
+bare_word w p ws xs ys (inr (inr (inl h))) q f = word_no_dashes w p ws xs ys q h
+bare_word w p ws xs ys (inr (inr (inr h))) q f = equals_stated (form_of xs) (ap form_of h.1) f
 
 -- ---- definitions
 
@@ -183,7 +189,7 @@ definition_by k (units.Define d) xs text mid p h q s m e t =
     not_deep Definition BegunDefinition FittingBegunDefinition k true text mid t.read t.rest t.here (d.name, d.at, d.params, d.form, d.body, h, tt) s m t.fits t.shallow t.deep (parted text mid t.read (t.here ∷ t.rest) (sym e ∙ t.whole))
 definition_by k (units.Variables ds) xs text mid p h q s m e t = let r : OfVariables ≡ OfDefinition = q in cc
 definition_by k (units.Constants ds) xs text mid p h q s m e t = let r : OfConstants ≡ OfDefinition = q in cc
-definition_by k (units.Recursive ds) xs text mid p h q s m e t = absurd h
+definition_by k (units.Recursive ds) xs text mid p h q s m e t = let r : OfRecursive ≡ OfDefinition = q in cc
 definition_by k (units.Assume e) xs text mid p h q s m w t = let r : OfAssumption ≡ OfDefinition = q in cc
 definition_by k units.Passed xs text mid p h q s m e t = let r : OfPassed ≡ OfDefinition = q in cc
 
@@ -279,7 +285,7 @@ stated_clash ends none k e xs text mid ws bs p word title t s m q d =
 stated_by : EndsThere → NoneFollows → Expressions → (u : ModuleUnit) (xs text mid : List Laid) (p : Place) → UnitText u text [] → ShallowUnit text → TextEnds mid → xs ≡ text ++ mid → TooNestedStated xs p → ⊥
 stated_by ends none k (units.Variables ds) xs text mid p h s m q d = declaring_stated (form_of xs) (inl (unit_first (units.Variables ds) xs text mid h q)) (stating_form xs d.body (deep_stating xs p d))
 stated_by ends none k (units.Constants ds) xs text mid p h s m q d = declaring_stated (form_of xs) (inr (unit_first (units.Constants ds) xs text mid h q)) (stating_form xs d.body (deep_stating xs p d))
-stated_by ends none k (units.Recursive ds) xs text mid p h s m q d = absurd h
+stated_by ends none k (units.Recursive ds) xs text mid p h s m q d = recursive_stated (form_of xs) (unit_first (units.Recursive ds) xs text mid h q) (stating_form xs d.body (deep_stating xs p d))
 stated_by ends none k (units.Define e) xs text mid p h s m q d = stated_no_definition (form_of xs) (stating_form xs d.body (deep_stating xs p d)) (unit_first (units.Define e) xs text mid h q)
 stated_by ends none k (units.Assume e) xs text mid p h s m q d = stated_clash ends none k e xs text mid h.0 h.2.0 p (inl h.1) h.2.1 h.2.2 s m q d
 stated_by ends none k units.Passed xs text mid p (inl h) s m q d =

@@ -155,7 +155,7 @@ local_maybe_places (suc n) =
 local_operator : (d : DeclaredOperator) → IsLocal (DeclaredOperatorText d)
 local_operator d = local_then (token d.at (kinds.Name d.name)) (MaybePlaces d.parameters) (local_token d.at (kinds.Name d.name)) (local_maybe_places d.parameters)
 
-pub local_operators : (ds : List DeclaredOperator) → IsLocal (DeclaredOperatorsText ds)
+local_operators : (ds : List DeclaredOperator) → IsLocal (DeclaredOperatorsText ds)
 local_operators [] = λ xs ys h. absurd h
 local_operators (d ∷ []) = local_operator d
 local_operators (d ∷ e ∷ ds) =
@@ -202,7 +202,7 @@ pub local_constants : (ds : List Declared) → IsLocal (UnitText (units.Constant
 local_constants ds = local_then constant_word (DeclaredNamesText ds) local_constant (local_declared ds)
 
 pub local_recursive : (ds : List DeclaredOperator) → IsLocal (UnitText (units.Recursive ds))
-local_recursive ds = λ xs ys h. absurd h
+local_recursive ds = local_then recursive_word (DeclaredOperatorsText ds) local_recursive_word (local_operators ds)
 
 pub local_definition : LocalDefinition → (d : UnitDefinition) → IsLocal (UnitText (units.Define d))
 local_definition local d xs ys h = let p = local d.name d.at d.params d.form d.body xs ys h in record { text = p.0; whole = p.1; anywhere = p.2 }

@@ -98,7 +98,6 @@ BeginsUnit marks.Comma = ⊥
 BeginsUnit marks.OpenParenthesis = ⊥
 BeginsUnit marks.CloseParenthesis = ⊥
 BeginsUnit marks.Underscore = ⊥
-BeginsUnit marks.Recursive = ⊥
 BeginsUnit marks.Defined = ⊥
 BeginsUnit marks.Extends = ⊥
 BeginsUnit marks.Heading = ⊥
@@ -166,7 +165,7 @@ ends_if marks.Dashes x b h = h
 ends_if marks.Equals x b h = h
 ends_if marks.Variables x b h = h
 ends_if marks.Constants x b h = h
-ends_if marks.Recursive x b h = absurd b
+ends_if marks.Recursive x b h = h
 ends_if marks.Assume x b h = h
 ends_if marks.Theorem x b h = h
 

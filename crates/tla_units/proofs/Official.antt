@@ -156,6 +156,7 @@ defined_of false xs ys h = (units.Define (record { name = h.0; at = h.1; params 
 unit_by : (fit : Bool) (o : Option Mark) (x : Laid) (xs ys : List Laid) → mark_of x ≡ o → Behind fit o x xs ys → SomeUnit fit (x ∷ xs) ys
 unit_by fit (Some marks.Variables) x xs ys e h = let r = listed_of xs ys h in (units.Variables r.0, (xs, marked_text marks.Variables (x ∷ xs) xs (e, refl), r.1), no_fits fit (units.Variables r.0) tt)
 unit_by fit (Some marks.Constants) x xs ys e h = let r = listed_of xs ys h in (units.Constants r.0, (xs, marked_text marks.Constants (x ∷ xs) xs (e, refl), r.1), no_fits fit (units.Constants r.0) tt)
+unit_by fit (Some marks.Recursive) x xs ys e h = let r = operators_of xs ys h in (units.Recursive r.0, (xs, marked_text marks.Recursive (x ∷ xs) xs (e, refl), r.1), no_fits fit (units.Recursive r.0) tt)
 unit_by fit (Some marks.Assume) x xs ys e h = assumed_of fit x xs ys e h
 unit_by fit (Some marks.Theorem) x xs ys e h = stated_of fit x xs ys e h
 unit_by fit (Some marks.Dashes) x xs ys e h = (units.Passed, inl (marked_text marks.Dashes (x ∷ xs) ys (e, h)), no_fits fit units.Passed tt)

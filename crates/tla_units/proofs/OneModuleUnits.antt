@@ -2,15 +2,17 @@
 use Rattle.std.proofs.Common.{◌≡◌, List, [], ◌∷◌, inl, inr, refl, sym, ap, subst, ◌∙◌}
 use Rattle.tla_ast.specs.declared.laid.Laid.{Laid}
 use Rattle.tla_tokens.specs.declared.token.Kind.TheVariants as kinds
+use Rattle.tla_tokens.specs.declared.token.Foreign.TheVariants as foreign
 use Rattle.tla_ast.specs.declared.module.Declared.{Declared}
+use Rattle.tla_ast.specs.declared.module.DeclaredOperator.{DeclaredOperator}
 use Rattle.tla_ast.specs.declared.module.Unit.{Unit as ModuleUnit}
 use Rattle.tla_ast.specs.declared.module.Unit.TheVariants as units
 use Rattle.tla_ast.specs.Trees.{Tree}
 use Rattle.tla_ast.specs.Fits.{Fits}
-use Rattle.tla_ast.specs.Modules.{DeclaredNamesText, MaybeTitle, UnitText, UnitsText, UnitFits, UnitsFit}
+use Rattle.tla_ast.specs.Modules.{DeclaredNamesText, DeclaredOperatorsText, MaybeTitle, UnitText, UnitsText, UnitFits, UnitsFit}
 use Rattle.reader_model.specs.LawsOfTrees.{SpelledRead, DefinitionRead}
 use Rattle.tla_units.proofs.OneModuleTokens.{OfEquals, form_of, TextEnds, form_ends, unit_form, unit_begins, units_are, some_behind, variable_behind, constant_behind, assume_behind, theorem_behind, dashes_no_theorem}
-use Rattle.tla_units.proofs.OneModuleParts.{declared_names_same, titled_same, definition_same}
+use Rattle.tla_units.proofs.OneModuleParts.{declared_names_same, operators_same, titled_same, definition_same}
 
 pub variables_same : (ds es : List Declared) (xs ys zs : List Laid) → UnitText (units.Variables ds) xs ys → UnitText (units.Variables es) xs zs → TextEnds ys → TextEnds zs → (units.Variables ds ≡ units.Variables es) × (ys ≡ zs)
 variables_same ds es xs ys zs h g a b =
@@ -23,6 +25,12 @@ constants_same ds es xs ys zs h g a b =
     let q : h.0 ≡ g.0 = constant_behind xs h.0 g.0 h.1 g.1 in
     let r = declared_names_same ds es h.0 ys zs h.2 (subst (λ v. DeclaredNamesText es v zs) (sym q) g.2) a b in
     (ap units.Constants r.0, r.1)
+
+pub recursive_same : (ds es : List DeclaredOperator) (xs ys zs : List Laid) → UnitText (units.Recursive ds) xs ys → UnitText (units.Recursive es) xs zs → TextEnds ys → TextEnds zs → (units.Recursive ds ≡ units.Recursive es) × (ys ≡ zs)
+recursive_same ds es xs ys zs h g a b =
+    let q : h.0 ≡ g.0 = some_behind (kinds.Foreign foreign.Recursive) xs xs h.0 g.0 refl h.1 g.1 in
+    let r = operators_same ds es h.0 ys zs h.2 (subst (λ v. DeclaredOperatorsText es v zs) (sym q) g.2) a b in
+    (ap units.Recursive r.0, r.1)
 
 assume_same : SpelledRead → (e f : Tree) (xs ys zs : List Laid) → UnitText (units.Assume e) xs ys → UnitText (units.Assume f) xs zs → Fits e → Fits f → TextEnds ys → TextEnds zs → (units.Assume e ≡ units.Assume f) × (ys ≡ zs)
 assume_same read e f xs ys zs h g k l a b =
@@ -43,7 +51,7 @@ passed_same read xs ys zs (inr h) (inr g) a b =
 unit_same : SpelledRead → DefinitionRead → (u v : ModuleUnit) (xs ys zs : List Laid) → UnitText u xs ys → UnitText v xs zs → UnitFits u → UnitFits v → TextEnds ys → TextEnds zs → (u ≡ v) × (ys ≡ zs)
 unit_same read defined (units.Variables ds) (units.Variables es) xs ys zs h g k l a b = variables_same ds es xs ys zs h g a b
 unit_same read defined (units.Constants ds) (units.Constants es) xs ys zs h g k l a b = constants_same ds es xs ys zs h g a b
-unit_same read defined (units.Recursive ds) (units.Recursive es) xs ys zs h g k l a b = absurd h
+unit_same read defined (units.Recursive ds) (units.Recursive es) xs ys zs h g k l a b = recursive_same ds es xs ys zs h g a b
 unit_same read defined (units.Define d) (units.Define e) xs ys zs h g k l a b =
     let r = definition_same defined d e xs ys zs h g k l a b in
     (ap units.Define r.0, r.1)

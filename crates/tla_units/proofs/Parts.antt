@@ -13,7 +13,7 @@ use Rattle.tla_ast.specs.declared.module.Unit.TheVariants as units
 use Rattle.tla_ast.specs.Trees.{Tree}
 use Rattle.tla_ast.specs.Grammar.{◌⨟◌, token, sign, word, name, some_token, NamesText, DefinitionRest}
 use Rattle.tla_ast.specs.Fits.{Spells}
-use Rattle.tla_ast.specs.Modules.{DeclaredText, DeclaredNamesText, PlacesText, MaybePlaces, DeclaredOperatorText, DeclaredOperatorsText, underscore, UnitText, UnitsText, UnitFits, UnitsFit, MaybeTitle, ExtendsText, SpellsModule, variable_word, constant_word, assume_word, theorem_word}
+use Rattle.tla_ast.specs.Modules.{DeclaredText, DeclaredNamesText, PlacesText, MaybePlaces, DeclaredOperatorText, DeclaredOperatorsText, underscore, recursive_word, UnitText, UnitsText, UnitFits, UnitsFit, MaybeTitle, ExtendsText, SpellsModule, variable_word, constant_word, assume_word, theorem_word}
 use Rattle.tla_units.specs.Parts.{Part}
 use Rattle.tla_units.specs.Refusals.{ShallowWholeModule, ShallowWholeUnits}
 
@@ -119,6 +119,11 @@ variables_unit ds xs a b p q =
 
 pub constants_unit : (ds : List Declared) (xs : List Laid) (a b : ℕ) → Part constant_word xs a (a + 1) → Part (DeclaredNamesText ds) xs (a + 1) b → Part (UnitText (units.Constants ds)) xs a b
 constants_unit ds xs a b p q =
+    let a_b : a + 1 < b = q.ahead in
+    record { text = (drop (a + 1) xs, p.text, q.text); ahead = omega (arith, a_b); within = q.within }
+
+pub recursive_unit : (ds : List DeclaredOperator) (xs : List Laid) (a b : ℕ) → Part recursive_word xs a (a + 1) → Part (DeclaredOperatorsText ds) xs (a + 1) b → Part (UnitText (units.Recursive ds)) xs a b
+recursive_unit ds xs a b p q =
     let a_b : a + 1 < b = q.ahead in
     record { text = (drop (a + 1) xs, p.text, q.text); ahead = omega (arith, a_b); within = q.within }
 

@@ -4,6 +4,7 @@ use Rattle.std.proofs.lemmas.List.{append-nil}
 use Rattle.tla_ast.specs.declared.laid.Laid.{Laid}
 use Rattle.tla_ast.specs.declared.expr.Definition.{Definition as UnitDefinition}
 use Rattle.tla_ast.specs.declared.module.Declared.{Declared}
+use Rattle.tla_ast.specs.declared.module.DeclaredOperator.{DeclaredOperator}
 use Rattle.tla_ast.specs.declared.module.Unit.{Unit as ModuleUnit}
 use Rattle.tla_ast.specs.declared.module.Unit.TheVariants as units
 use Rattle.tla_tokens.specs.declared.token.Kind.TheVariants as kinds
@@ -11,23 +12,23 @@ use Rattle.tla_ast.specs.Begun.{Begun}
 use Rattle.tla_ast.specs.Fits.{Spells}
 use Rattle.tla_ast.specs.Trees.{Tree}
 use Rattle.tla_ast.specs.Grammar.{Span, ◌⨟◌, either, some_token}
-use Rattle.tla_ast.specs.Modules.{DeclaredNamesText, MaybeTitle, UnitText, variable_word, constant_word, assume_word, theorem_word}
+use Rattle.tla_ast.specs.Modules.{DeclaredNamesText, MaybeTitle, UnitText, variable_word, constant_word, recursive_word, assume_word, theorem_word}
 use Rattle.reader_model.specs.Beginnings.{BegunDefinition, FittingBegun, FittingBegunDefinition}
 use Rattle.reader_model.specs.LawsOfExtents.{LocalText, LocalDefinition}
 use Rattle.tla_exprs.specs.Nesting.{Shallow, ShallowDefinition}
 use Rattle.tla_exprs.specs.Refusals.{GoesAsFar}
 use Rattle.tla_units.specs.Reads.{ShallowTitled}
-use Rattle.tla_units.specs.Refusals.{Begins, DeclarationText, ShallowUnit, ShallowWholeUnit, SoManyUnits, ShallowWholeUnits, ShallowUnits, SomeExtends}
-use Rattle.tla_units.specs.Rests.{Listed, Title, Extended}
-use Rattle.tla_units.proofs.Locals.{IsLocal, before_any, all_alone, joined, local_either, local_kind, local_variable, local_constant, local_assume, local_theorem, local_title, local_some_extends, local_maybe_title, local_variables, local_constants, local_definition, local_assumption, local_passed, local_whole_units}
+use Rattle.tla_units.specs.Refusals.{Begins, DeclarationText, RecursiveText, ShallowUnit, ShallowWholeUnit, SoManyUnits, ShallowWholeUnits, ShallowUnits, SomeExtends}
+use Rattle.tla_units.specs.Rests.{Listed, Operators, Title, Extended}
+use Rattle.tla_units.proofs.Locals.{IsLocal, before_any, all_alone, joined, local_either, local_kind, local_variable, local_constant, local_recursive_word, local_recursive, local_assume, local_theorem, local_title, local_some_extends, local_maybe_title, local_variables, local_constants, local_definition, local_assumption, local_passed, local_whole_units}
 use Rattle.tla_units.proofs.MarksTold.{plain}
-use Rattle.tla_units.proofs.Official.{listed_of, extends_of, title_of}
+use Rattle.tla_units.proofs.Official.{listed_of, operators_of, extends_of, title_of}
 
 -- ---- the beginning of a unit
 
 -- nothing stands there
 pub shallow_nothing : ShallowUnit []
-shallow_nothing = inl (plain kinds.Dashes ∷ [], inr (inl (record { file = 0; line = 0; col = 0 }, refl)))
+shallow_nothing = inl (plain kinds.Dashes ∷ [], inr (inr (inl (record { file = 0; line = 0; col = 0 }, refl))))
 
 local_declaring : IsLocal (either variable_word constant_word)
 local_declaring = local_either variable_word constant_word local_variable local_constant
@@ -39,6 +40,11 @@ pub shallow_declared : (xs ws text : List Laid) → either variable_word constan
 shallow_declared xs ws text h e l b =
     let whole : DeclarationText (text ++ (l ++ b.0)) [] = (l ++ b.0, before_any (either variable_word constant_word) local_declaring xs ws text h e (l ++ b.0), listed_of (l ++ b.0) [] b.1) in
     inl (b.0, inl (subst (λ v. DeclarationText v []) (sym (append_assoc text l b.0)) whole))
+
+pub shallow_recursive : (xs ws text : List Laid) → recursive_word xs ws → xs ≡ text ++ ws → (l : List Laid) → Begins Operators l → ShallowUnit (text ++ l)
+shallow_recursive xs ws text h e l b =
+    let whole : RecursiveText (text ++ (l ++ b.0)) [] = (l ++ b.0, before_any recursive_word local_recursive_word xs ws text h e (l ++ b.0), operators_of (l ++ b.0) [] b.1) in
+    inl (b.0, inr (inl (subst (λ v. RecursiveText v []) (sym (append_assoc text l b.0)) whole)))
 
 pub shallow_titled : (xs ys text : List Laid) → Title xs ys → xs ≡ text ++ ys → (l : List Laid) → Shallow l → ShallowTitled (text ++ l)
 shallow_titled xs ys text h e l s = record { title = text; body = l; whole = refl; titled = inr (all_alone Title local_title xs ys text h e); shallow = s }
@@ -72,11 +78,17 @@ constants_shallow ds xs ys h =
     let w : UnitText (units.Constants ds) p.text [] = all_alone (UnitText (units.Constants ds)) (local_constants ds) xs ys p.text h p.whole in
     whole_unit (units.Constants ds) (local_constants ds) xs ys p.text h p.whole (declaration_alone ds p.text (w.0, inr w.1, w.2))
 
+pub recursive_shallow : (ds : List DeclaredOperator) (xs ys : List Laid) → UnitText (units.Recursive ds) xs ys → ShallowWholeUnit xs ys
+recursive_shallow ds xs ys h =
+    let p = local_recursive ds xs ys h in
+    let w : UnitText (units.Recursive ds) p.text [] = all_alone (UnitText (units.Recursive ds)) (local_recursive ds) xs ys p.text h p.whole in
+    whole_unit (units.Recursive ds) (local_recursive ds) xs ys p.text h p.whole (inl ([], inr (inl (subst (λ v. RecursiveText v []) (sym (append-nil p.text)) (w.0, w.1, (ds, w.2))))))
+
 pub dashes_shallow : (xs ys : List Laid) → some_token kinds.Dashes xs ys → ShallowWholeUnit xs ys
 dashes_shallow xs ys h =
     let p = local_kind kinds.Dashes xs ys h in
     let w : some_token kinds.Dashes p.text [] = all_alone (some_token kinds.Dashes) (local_kind kinds.Dashes) xs ys p.text h p.whole in
-    record { text = p.text; whole = p.whole; unit = units.Passed; spelled = inl w; shallow = inl ([], inr (inl (subst (λ v. some_token kinds.Dashes v []) (sym (append-nil p.text)) w))) }
+    record { text = p.text; whole = p.whole; unit = units.Passed; spelled = inl w; shallow = inl ([], inr (inr (inl (subst (λ v. some_token kinds.Dashes v []) (sym (append-nil p.text)) w)))) }
 
 -- what was read as far as a text goes
 as_far : (B F H : List Laid → Type 0) (laid : List Laid) (from behind : ℕ) → GoesAsFar B F H laid from behind → (text : List Laid) × (drop from laid ≡ text ++ drop behind laid) × H text
@@ -130,7 +142,7 @@ pub shallow_equals : (xs ys text : List Laid) → some_token kinds.Equals xs ys 
 shallow_equals xs ys text h e l q =
     let w : some_token kinds.Equals (text ++ []) [] = before_any (some_token kinds.Equals) (local_kind kinds.Equals) xs ys text h e [] in
     let there : some_token kinds.Equals (text ++ l) [] = subst (λ v. some_token kinds.Equals (text ++ v) []) (sym q) w in
-    inl ([], inr (inr (subst (λ v. some_token kinds.Equals v []) (sym (append-nil (text ++ l))) there)))
+    inl ([], inr (inr (inr (subst (λ v. some_token kinds.Equals v []) (sym (append-nil (text ++ l))) there))))
 
 -- ---- the heading
 

@@ -8,7 +8,7 @@ use Rattle.tla_ast.specs.Grammar.{nothing}
 use Rattle.tla_exprs.specs.declared.fault.ParseFault.{ParseFault}
 use Rattle.tla_exprs.specs.Refused.{IsRefusedAt}
 use Rattle.tla_units.specs.Marks.{mark_of, kind_mark, first_mark}
-use Rattle.tla_units.specs.Rests.{Rest, ◌▹◌, Then, Marked, Listed, Titled, Definition, Behind, UnitPart, Last, UnitsLeft, Tail}
+use Rattle.tla_units.specs.Rests.{Rest, ◌▹◌, Then, Marked, Listed, Operators, Titled, Definition, Behind, UnitPart, Last, UnitsLeft, Tail}
 use Rattle.tla_units.specs.Reads.{SameHead, Leads, RefusedIn, BegunBy}
 use Rattle.tla_units.specs.declared.marks.Mark.{Mark}
 use Rattle.tla_units.specs.declared.marks.Mark.TheVariants as marks
@@ -34,6 +34,7 @@ IsUnitMark o = (m : Mark) × (o ≡ Some m) × BeginsUnit m
 unit_mark : (fit : Bool) (o : Option Mark) (x : Laid) (xs ys : List Laid) → Behind fit o x xs ys → IsUnitMark o
 unit_mark fit (Some marks.Variables) x xs ys h = (marks.Variables, refl, tt)
 unit_mark fit (Some marks.Constants) x xs ys h = (marks.Constants, refl, tt)
+unit_mark fit (Some marks.Recursive) x xs ys h = (marks.Recursive, refl, tt)
 unit_mark fit (Some marks.Assume) x xs ys h = (marks.Assume, refl, tt)
 unit_mark fit (Some marks.Theorem) x xs ys h = (marks.Theorem, refl, tt)
 unit_mark fit (Some marks.Dashes) x xs ys h = (marks.Dashes, refl, tt)
@@ -88,6 +89,10 @@ tail_variables (x ∷ xs) ws h = subst (λ v. Leads Tail (Listed ▹ Tail) (x �
 pub tail_constants : (xs ws : List Laid) → Marked marks.Constants xs ws → Leads Tail (Listed ▹ Tail) xs ws
 tail_constants [] ws h = absurd h
 tail_constants (x ∷ xs) ws h = subst (λ v. Leads Tail (Listed ▹ Tail) (x ∷ xs) v) h.1 (tail_token marks.Constants x xs h.0 (λ q. cc))
+
+pub tail_recursive : (xs ws : List Laid) → Marked marks.Recursive xs ws → Leads Tail (Operators ▹ Tail) xs ws
+tail_recursive [] ws h = absurd h
+tail_recursive (x ∷ xs) ws h = subst (λ v. Leads Tail (Operators ▹ Tail) (x ∷ xs) v) h.1 (tail_token marks.Recursive x xs h.0 (λ q. cc))
 
 pub tail_assume : (xs ws : List Laid) → Marked marks.Assume xs ws → Leads Tail (Then Titled Tail) xs ws
 tail_assume [] ws h = absurd h

@@ -21,14 +21,14 @@ use Rattle.tla_exprs.specs.Refused.{IsRefusedAt}
 use Rattle.tla_units.specs.Marks.{first_mark}
 use Rattle.tla_units.specs.Reads.{Leads, ReadsTitle, RefusedIn, NeverDeep, DeepExpression, DeepDefinition, DeepTitled, DeepStated, DeepUnit, DeepUnits, ShallowTitled}
 use Rattle.tla_units.specs.Refusals.{Begins, ShallowUnit, ShallowUnits, ShallowWholeUnits}
-use Rattle.tla_units.specs.Rests.{◌▹◌, Then, Marked, Listed, Titled, Expression, Definition, Last, Tail}
+use Rattle.tla_units.specs.Rests.{◌▹◌, Then, Marked, Listed, Operators, Titled, Expression, Definition, Last, Tail}
 use Rattle.tla_units.specs.declared.marks.Mark.{Mark}
 use Rattle.tla_units.specs.declared.marks.Mark.TheVariants as marks
 use Rattle.tla_units.proofs.Extents.{LastIsEnd, Passed, passed, part_refused}
 use Rattle.tla_units.proofs.Leading.{leads_on, refused_on, stay}
 use Rattle.tla_units.proofs.Official.{marked_text}
-use Rattle.tla_units.proofs.ShallowRead.{shallow_nothing, shallow_declared, shallow_stated, shallow_units}
-use Rattle.tla_units.proofs.TailSteps.{NoUnit, tail_ending, tail_variables, tail_constants, tail_assume, tail_theorem, tail_definition, tail_last, some_tail, last_tokens, unit_refused}
+use Rattle.tla_units.proofs.ShallowRead.{shallow_nothing, shallow_declared, shallow_recursive, shallow_stated, shallow_units}
+use Rattle.tla_units.proofs.TailSteps.{NoUnit, tail_ending, tail_variables, tail_constants, tail_recursive, tail_assume, tail_theorem, tail_definition, tail_last, some_tail, last_tokens, unit_refused}
 use Rattle.tla_units.proofs.TextKinds.{expression_kind, expression_open, definition_kind, definition_open, none_titled}
 use Rattle.tla_units.proofs.Titles.{titled_passed, titled_refused}
 
@@ -49,6 +49,14 @@ pub constants_refused : (xs ws : List Laid) (e : ParseFault) → Marked marks.Co
 constants_refused xs ws e t r =
     let there : Leads Tail (Listed ▹ Tail) xs ws = tail_constants xs ws t in
     refused_on Tail (Listed ▹ Tail) (DeepUnit xs) NeverDeep ShallowUnit (Begins Listed) xs ws e there (λ p d. absurd d) (shallow_declared xs ws there.text (inr (marked_text marks.Constants xs ws t)) there.whole) r
+
+pub recursive_far : (xs ws ys : List Laid) → Marked marks.Recursive xs ws → Leads (Operators ▹ Tail) Tail ws ys → Leads Tail Tail xs ys
+recursive_far xs ws ys t h = leads_on Tail (Operators ▹ Tail) Tail xs ws ys (tail_recursive xs ws t) h
+
+pub recursive_refused : (xs ws : List Laid) (e : ParseFault) → Marked marks.Recursive xs ws → RefusedIn (Operators ▹ Tail) NeverDeep (Begins Operators) ws e → RefusedIn Tail (DeepUnit xs) ShallowUnit xs e
+recursive_refused xs ws e t r =
+    let there : Leads Tail (Operators ▹ Tail) xs ws = tail_recursive xs ws t in
+    refused_on Tail (Operators ▹ Tail) (DeepUnit xs) NeverDeep ShallowUnit (Begins Operators) xs ws e there (λ p d. absurd d) (shallow_recursive xs ws there.text (marked_text marks.Recursive xs ws t) there.whole) r
 
 -- ---- the last token
 

@@ -3,13 +3,14 @@ use Rattle.std.specs.Prelude.{◌≡◌, ◌⊎◌, ℕ, zero, suc, List, [], �
 use Rattle.trace_base.specs.declared.place.Place.{Place}
 use Rattle.tla_ast.specs.declared.laid.Laid.{Laid}
 use Rattle.tla_ast.specs.declared.module.Declared.{Declared}
+use Rattle.tla_ast.specs.declared.module.DeclaredOperator.{DeclaredOperator}
 use Rattle.tla_ast.specs.declared.module.Module.{Module}
 use Rattle.tla_ast.specs.declared.module.Unit.{Unit as ModuleUnit}
 use Rattle.tla_tokens.specs.declared.token.Kind.TheVariants as kinds
 use Rattle.tla_tokens.specs.declared.token.Word.TheVariants as words
 use Rattle.tla_ast.specs.Begun.{BegunModule, FittingBegunModule}
 use Rattle.tla_ast.specs.Grammar.{Span, ◌⨟◌, nothing, either, some_token, word, name}
-use Rattle.tla_ast.specs.Modules.{DeclaredNamesText, ExtendsText, MaybeTitle, SpellsModule, UnitText, variable_word, constant_word, assume_word, theorem_word}
+use Rattle.tla_ast.specs.Modules.{DeclaredNamesText, DeclaredOperatorsText, ExtendsText, MaybeTitle, SpellsModule, UnitText, variable_word, constant_word, recursive_word, assume_word, theorem_word}
 use Rattle.reader_model.specs.Beginnings.{FittingBegun, FittingBegunDefinition}
 use Rattle.reader_model.specs.Meeting.{Meets, at_place}
 use Rattle.tla_exprs.specs.Nesting.{Shallow, ShallowDefinition}
@@ -28,9 +29,13 @@ Begins R read = (more : List Laid) × R (read ++ more) []
 abbrev pub DeclarationText : Span
 DeclarationText = either variable_word constant_word ⨟ (λ xs ys. (names : List Declared) × DeclaredNamesText names xs ys)
 
+-- RECURSIVE, and declared operators with commas between them
+abbrev pub RecursiveText : Span
+RecursiveText = recursive_word ⨟ (λ xs ys. (operators : List DeclaredOperator) × DeclaredOperatorsText operators xs ys)
+
 -- a declaration, dashes, or the equals signs behind all units: no expression stands in one, and nothing in it is ever unfinished
 abbrev pub BareUnit : Span
-BareUnit = either DeclarationText (either (some_token kinds.Dashes) (some_token kinds.Equals))
+BareUnit = either DeclarationText (either RecursiveText (either (some_token kinds.Dashes) (some_token kinds.Equals)))
 
 -- the word of an assumption or of a theorem, and a name and `==` or not
 abbrev pub StatedText : List Laid → Type 0

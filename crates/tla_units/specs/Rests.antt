@@ -84,6 +84,7 @@ Titled fit = either nothing Title ⨟ Expression fit
 abbrev pub Behind : Bool → Option Mark → Laid → Span
 Behind fit (Some marks.Variables) x = Listed
 Behind fit (Some marks.Constants) x = Listed
+Behind fit (Some marks.Recursive) x = Operators
 Behind fit (Some marks.Assume) x = Titled fit
 Behind fit (Some marks.Theorem) x = Titled fit
 Behind fit (Some marks.Dashes) x = nothing

@@ -12,6 +12,5 @@ mod units;
 
 pub use laid_ends::laid_ends_once;
 pub use module_laws::{one_module, shallow_not_refused};
-pub use operators::declared_operators;
 pub use reader::module;
 pub use tla_exprs::ParseFault;

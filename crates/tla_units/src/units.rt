@@ -1,7 +1,7 @@
 //! The units of a module.
 
 ghost use Rattle.std.specs.Prelude.{◌≡◌, ◌+◌, ◌<◌, ◌≤◌, Some, length, drop, IfOk, IfErr};
-ghost use Rattle.tla_ast.specs.Modules.{LaidEndsOnce, MaybeTitle, variable_word, constant_word, assume_word, theorem_word, UnitText, UnitsText, UnitFits, UnitsFit};
+ghost use Rattle.tla_ast.specs.Modules.{LaidEndsOnce, MaybeTitle, variable_word, constant_word, recursive_word, assume_word, theorem_word, UnitText, UnitsText, UnitFits, UnitsFit};
 ghost use Rattle.tla_units.specs.Marks.{first_mark};
 ghost use Rattle.tla_units.specs.Parts.{Part};
 ghost use Rattle.tla_units.specs.Reads.{Leads, Lacks, ReadsTitle, RefusedIn, DeepUnit, DeepUnits};
@@ -11,6 +11,7 @@ ghost use Rattle.tla_units.specs.declared.marks.Mark.TheVariants as marks;
 
 use crate::marks::{Mark, mark_at};
 use crate::names::declared_names;
+use crate::operators::declared_operators;
 use reader_model::{laws_of_extents, laws_of_refusals};
 use std::alloc::Global;
 use tla_ast::{Laid, Unit, Units};
@@ -62,6 +63,21 @@ fn constants(alloc: Global, laid: &[Laid], from: usize) -> Result<(Unit, usize),
 {
     let (names, next) = declared_names(alloc, laid, from + 1)?;
     Ok((Unit::Constants(names), next))
+}
+
+/// Reads the operators behind RECURSIVE.
+fn recursive(alloc: Global, laid: &[Laid], from: usize) -> Result<(Unit, usize), ParseFault>
+    requires ends { LaidEndsOnce laid.now }
+    requires word { Part recursive_word laid.now from (from + 1) }
+    requires token { Marked marks.Recursive (drop from laid.now) (drop (from + 1) laid.now) }
+    ensures part { IfOk result (λ r. Part (UnitText r.0) laid.now from r.1) }
+    ensures fits { IfOk result (λ r. UnitFits r.0) }
+    ensures far { IfOk result (λ r. Leads Tail Tail (drop from laid.now) (drop r.1 laid.now)) }
+    ensures shallow { IfOk result (λ r. ShallowWholeUnit (drop from laid.now) (drop r.1 laid.now)) }
+    ensures refused { IfErr result (λ e. RefusedIn Tail (DeepUnit (drop from laid.now)) ShallowUnit (drop from laid.now) e) }
+{
+    let (operators, next) = declared_operators(alloc, laid, from + 1)?;
+    Ok((Unit::Recursive(operators), next))
 }
 
 /// Reads a definition.
@@ -131,7 +147,7 @@ fn unit(alloc: Global, laid: &[Laid], from: usize) -> Result<(Unit, usize), Pars
     match mark_at(laid, from) {
         Some(Mark::Variables) => variables(alloc, laid, from),
         Some(Mark::Constants) => constants(alloc, laid, from),
-        Some(Mark::Recursive) => Err(fault_at(laid, from)),
+        Some(Mark::Recursive) => recursive(alloc, laid, from),
         Some(Mark::Name) => defined(alloc, laid, from),
         Some(Mark::Assume) => assumption(alloc, laid, from),
         Some(Mark::Theorem) => theorem(alloc, laid, from),

@@ -22,20 +22,20 @@ use Rattle.tla_uses.specs.UsedNames.{AreUsed, IsUsed, UsesBy, number_in, number_
 use Rattle.tla_program.proofs.Values.{means_with_other_values}
 use Rattle.tla_uses.proofs.Meanings.{meant_within}
 
-not_in_none : {A : Type 0} (x : A) → Contains [] x → ⊥
+pub not_in_none : {A : Type 0} (x : A) → Contains [] x → ⊥
 not_in_none x (k, h, e) = absurd (omega arith)
 
-only_one : (i j : ℕ) → Contains (i ∷ []) j → i ≡ j
+pub only_one : (i j : ℕ) → Contains (i ∷ []) j → i ≡ j
 only_one i j (zero, h, e) = e
 only_one i j (suc k, h, e) = absurd (omega arith)
 
-has_one : (j : ℕ) → Contains (j ∷ []) j
+pub has_one : (j : ℕ) → Contains (j ∷ []) j
 has_one j = let z : 0 < 1 = omega arith in (0, z, refl)
 
-in_tail : {A : Type 0} (x y : A) (xs : List A) → Contains xs y → Contains (x ∷ xs) y
+pub in_tail : {A : Type 0} (x y : A) (xs : List A) → Contains xs y → Contains (x ∷ xs) y
 in_tail x y xs (k, h, e) = let less : suc k < length (x ∷ xs) = omega (arith, h) in (suc k, less, e)
 
-in_head : {A : Type 0} (x : A) (xs : List A) → Contains (x ∷ xs) x
+pub in_head : {A : Type 0} (x : A) (xs : List A) → Contains (x ∷ xs) x
 in_head x xs = let less : 0 < length (x ∷ xs) = omega arith in (0, less, refl)
 
 -- What a definition uses.
@@ -129,7 +129,7 @@ as_many names (d ∷ ds) (js ∷ uses) h = ap suc (as_many names ds uses h.1)
 
 -- In a program.
 
-number_meant : (m : Meant) (j : ℕ) → number_of m ≡ Some j → m ≡ definition_meant j
+pub number_meant : (m : Meant) (j : ℕ) → number_of m ≡ Some j → m ≡ definition_meant j
 number_meant (meant.Definition k) j e = let q : k.0 ≡ j = cc in ap (λ (i : ℕ). meant.Definition (record { 0 = i })) q
 number_meant (meant.Slot i) j e = absurd (cc)
 number_meant (meant.Variable x) j e = absurd (cc)
@@ -137,11 +137,11 @@ number_meant (meant.Known v) j e = absurd (cc)
 number_meant (meant.Set s) j e = absurd (cc)
 number_meant (meant.Standard s) j e = absurd (cc)
 
-record MeantBy (o : Option Named) (j : ℕ) : Type 0 where
+pub record MeantBy (o : Option Named) (j : ℕ) : Type 0 where
   pub needed : ℕ
   pub is : o ≡ Some (named needed (definition_meant j))
 
-meant_by : (o : Option Named) (j : ℕ) → number_in o ≡ Some j → MeantBy o j
+pub meant_by : (o : Option Named) (j : ℕ) → number_in o ≡ Some j → MeantBy o j
 meant_by None j e = absurd (cc)
 meant_by (Some w) j e = record { needed = w.needed; is = ap (λ (m : Meant). Some (named w.needed m)) (number_meant w.meant j e) }
 

@@ -1,1 +1,3 @@
+pub mod StrictNames
+pub mod ToldLevels
 pub mod UsedNames

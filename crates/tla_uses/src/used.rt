@@ -30,8 +30,8 @@ fn number_of(meant: &Meant) -> Option<usize>
     }
 }
 
-/// The definition that a name means.
-fn definition_of(names: &ProgramNames, name: &Text) -> Option<usize>
+/// The definition that a name means, if it means one.
+pub fn definition_of(names: &ProgramNames, name: &Text) -> Option<usize>
     ensures { result ≡ number_in (among names.now name.now) }
 {
     match names.get(name) {

@@ -1,7 +1,5 @@
-//! Rows of modules in pieces: how many units are read, and which names the pieces declare that are not; and of operators that are declared before they are defined.
+//! Rows of modules in pieces: how many units are read, and which names the pieces declare that are not.
 #![tactic(auto)]
 
-#[cfg(test)]
-mod declared;
 #[cfg(test)]
 mod tests;

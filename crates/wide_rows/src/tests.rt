@@ -127,7 +127,7 @@ fn pieces_are_read(rt: HostRuntime) -> Result<(), Fail> {
     let rows = [
         (STEPS, "4 []"),
         (LEAVES, "5 [] [] [] []"),
-        (FOREIGN, "6 [N,F] [S] [K] [Each] [Some] [I] []"),
+        (FOREIGN, "7 [N,F] [K] [Each] [Some] [I] []"),
         (UNFINISHED, "3 [Init] [Last]"),
         (NO_COMMA, "P1 Expected"),
         (NESTED, "P4 OutOfProfile"),

@@ -3,13 +3,14 @@ use Rattle.std.proofs.Common.{◌≡◌, ◌∙◌, ◌⊎◌, inl, inr, ℕ, ze
 use Rattle.std.specs.Prelude.{Some, Contains, slice_get}
 use Rattle.tla_ast.specs.declared.config.Config.{Config}
 use Rattle.tla_ast.specs.declared.expr.Definition.{Definition}
+use Rattle.tla_ast.specs.declared.module.DeclaredOperator.{DeclaredOperator}
 use Rattle.tla_ast.specs.declared.module.Program.{Program}
 use Rattle.tla_ast.specs.declared.module.Unit.{Unit as ModuleUnit}
 use Rattle.tla_ast.specs.declared.module.Unit.TheVariants.{Variables, Constants, Recursive, Define, Assume, Passed}
 use Rattle.tla_ast.specs.Trees.{Tree}
 use Rattle.tla_program.specs.InUnits.{assumptions_in, definitions_in}
 use Rattle.wide_trees.specs.Laws.{AskedIsBad, FineStays, NeededStays, NothingIsLost, NothingIsMade, OneAlone, OnePruned, OverIsNotNeeded}
-use Rattle.wide_trees.specs.Pruning.{GoesWith, IsBad, IsNeeded, IsOther, LeansOn, NeedsBad, Parted, Without, all_parted, behind, by_a_definition, by_the_run, has_gone, has_lost, is_gone, is_left, lacks, uses_bad}
+use Rattle.wide_trees.specs.Pruning.{DeclaresGone, GoesWith, IsBad, IsNeeded, IsOther, LeansOn, NeedsBad, Parted, Without, all_parted, behind, by_a_definition, by_the_run, declares_gone, declares_lost, has_gone, has_lost, is_gone, is_left, lacks, uses_bad}
 
 in_head : {A : Type 0} (x : A) (xs : List A) → Contains (x ∷ xs) x
 in_head x xs = let less : 0 < length (x ∷ xs) = omega arith in (0, less, refl)
@@ -143,12 +144,16 @@ module _ (p : Program) (c : Config) (unread : List (List ℕ)) (none : NothingIs
   none_assumed e h (has_lost n m l) = none.1 e n h m l
   none_assumed e h (has_gone n i m d b) = none_bad i b
 
+  none_declared : (rs : List DeclaredOperator) → Contains p.units (Recursive rs) → DeclaresGone p c unread (IsBad p c unread) rs → ⊥
+  none_declared rs h (declares_lost r m l) = none.2 rs r h m l
+  none_declared rs h (declares_gone r i m d b) = none_bad i b
+
   none_goes : (i : ℕ) (u : ModuleUnit) → Contains p.units u → GoesWith p c unread (IsBad p c unread) i u → ⊥
   none_goes i (Variables ds) h b = b
   none_goes i (Constants ds) h b = b
   none_goes i (Define d) h b = none_bad i b
   none_goes i (Assume e) h b = none_assumed e (assumed_in p.units e h) b
-  none_goes i (Recursive rs) h b = b
+  none_goes i (Recursive rs) h b = none_declared rs h b
   none_goes i Passed h b = b
 
 -- programs that have the same parts

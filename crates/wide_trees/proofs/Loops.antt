@@ -11,6 +11,7 @@ use Rattle.std.proofs.lemmas.Option.{slice_get-map, slice_get_within, slice_get_
 use Rattle.std.specs.Str.{bytes_eq}
 use Rattle.tla_ast.specs.declared.expr.Definition.{Definition}
 use Rattle.tla_ast.specs.declared.config.Config.{Config}
+use Rattle.tla_ast.specs.declared.module.DeclaredOperator.{DeclaredOperator}
 use Rattle.tla_ast.specs.declared.module.Program.{Program}
 use Rattle.tla_ast.specs.declared.module.Unit.{Unit as ModuleUnit}
 use Rattle.tla_ast.specs.declared.module.Unit.TheVariants.{Variables, Constants, Recursive, Define, Assume, Passed}
@@ -20,7 +21,7 @@ use Rattle.tla_scopes.specs.Mentions.{is_one_of, mentions}
 use Rattle.tla_program.proofs.Cuts.{cut_at, cut_end}
 use Rattle.tla_program.specs.Names.{index_among, names_defined}
 use Rattle.use_reach.specs.Reach.{IsReached}
-use Rattle.wide_trees.specs.Parts.{AreGone, HasBadName, IsNamedAt, IsOver, Lacks, LacksAt, LosesName, is_bad_name, is_lost_in}
+use Rattle.wide_trees.specs.Parts.{AreGone, DeclaresBad, HasBadName, IsNamedAt, IsOver, Lacks, LacksAt, LosesName, is_bad_name, is_bad_operator, is_lost_in}
 use Rattle.wide_trees.specs.Pruning.{NeedsBad, behind}
 
 -- ---- one of the free names of a tree
@@ -243,6 +244,20 @@ some_unread_needs p c unread roots b e t =
 pub assumed_over : {E : Type 0} (names : List Entry) (unread : List (List ℕ)) (bad : List Bool) (i : ℕ) (u : ModuleUnit) (e : Tree) (r : Result Bool E) → u ≡ Assume e
     → IfOk r (λ b. IsTrue b ↔ HasBadName names unread bad e) → IfOk r (λ b. IsTrue b ↔ IsOver names unread bad i u)
 assumed_over names unread bad i u e r is h = subst (λ v. IfOk r (λ b. IsTrue b ↔ IsOver names unread bad i v)) (sym is) h
+
+-- and a declaration as the names behind it say
+declares_by : (names : List Entry) (unread : List (List ℕ)) (bad : List Bool) (rs : List DeclaredOperator) (b : Bool) → b ≡ list_any (is_bad_operator names unread bad) rs
+    → IsTrue b ↔ DeclaresBad names unread bad rs
+declares_by names unread bad rs b is = (
+  λ t.
+      let found = Any-from_list_any (is_bad_operator names unread bad) rs (sym is ∙ t) in
+      record { operator = found.1; declared = (found.0, found.2, found.3); is_bad = found.4 },
+  λ h. is ∙ list_any-from_Any (is_bad_operator names unread bad) rs (h.declared.0, h.operator, h.declared.1, h.declared.2, h.is_bad),
+)
+
+pub declared_over : (names : List Entry) (unread : List (List ℕ)) (bad : List Bool) (i : ℕ) (u : ModuleUnit) (rs : List DeclaredOperator) (b : Bool) → u ≡ Recursive rs
+    → b ≡ list_any (is_bad_operator names unread bad) rs → IsTrue b ↔ IsOver names unread bad i u
+declared_over names unread bad i u rs b is e = subst (λ v. IsTrue b ↔ IsOver names unread bad i v) (sym is) (declares_by names unread bad rs b e)
 
 pub if_ok_so : {A E : Type 0} (P Q : A → Type 0) (r : Result A E) → ((a : A) → P a → Q a) → IfOk r P → IfOk r Q
 if_ok_so P Q (Ok a) so h = so a h

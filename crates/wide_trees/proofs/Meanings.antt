@@ -4,6 +4,7 @@ use Rattle.std.specs.Prelude.{Bool, true, false, ◌&&◌, ◌||◌, not, is_non
 use Rattle.tla_values.specs.Data.{Val}
 use Rattle.tla_ast.specs.declared.config.Config.{Config}
 use Rattle.tla_ast.specs.declared.expr.Definition.{Definition}
+use Rattle.tla_ast.specs.declared.module.DeclaredOperator.{DeclaredOperator}
 use Rattle.tla_ast.specs.declared.module.Program.{Program}
 use Rattle.tla_ast.specs.declared.module.Unit.{Unit as ModuleUnit}
 use Rattle.tla_ast.specs.declared.module.Unit.TheVariants.{Variables, Constants, Recursive, Define, Assume, Passed}
@@ -23,8 +24,8 @@ use Rattle.tla_program.proofs.Values.{means_with_other_values}
 use Rattle.tla_uses.specs.UsedNames.{number_in, number_of}
 use Rattle.use_order.specs.Uses.{Table, Uses}
 use Rattle.use_reach.specs.Reach.{IsLeading, IsLedTo, IsReached, is_first, is_last, is_used as is_led, is_user}
-use Rattle.wide_trees.specs.Parts.{AreGone, HasBadName, IsNamedAt, IsOver, IsWithout, LacksAt, Lacks, is_lost, is_set_at, gone_of, left_of}
-use Rattle.wide_trees.specs.Pruning.{GoesWith, IsBad, IsLacking, IsLost, IsNeeded, LeansOn, Parted, Without, all_parted, behind, has_gone, has_lost, is_gone, is_left, is_root, is_used, lacks, uses_bad}
+use Rattle.wide_trees.specs.Parts.{AreGone, DeclaresBad, HasBadName, IsNamedAt, IsOver, IsWithout, LacksAt, Lacks, is_lost, is_set_at, gone_of, left_of}
+use Rattle.wide_trees.specs.Pruning.{DeclaresGone, GoesWith, IsBad, IsLacking, IsLost, IsNeeded, LeansOn, Parted, Without, all_parted, behind, declares_gone, declares_lost, has_gone, has_lost, is_gone, is_left, is_root, is_used, lacks, uses_bad}
 
 -- ---- a name that means nothing means nothing, whatever the constants are
 
@@ -168,12 +169,31 @@ module _ (p : Program) (c : Config) (values : List Val) (names : List Entry) (ar
         let set : is_set_at flags (number_in (among names n)) ≡ true = ap (is_set_at flags) (number_is n i d) ∙ (exact i).1 b in
         record { name = n; mentioned = m; is_bad = or_second (is_lost names unread n) (is_set_at flags (number_in (among names n))) set }
 
+    declared_at : (rs : List DeclaredOperator) (r : DeclaredOperator) (o : Option ℕ) → number_in (among names r.name) ≡ o → Contains rs r → is_set_at flags o ≡ true → DeclaresGone p c unread Goes rs
+    declared_at rs r None q m h = absurd (cc)
+    declared_at rs r (Some j) q m h = declares_gone r j m (means_definition r.name j q) ((exact j).0 h)
+
+    declares_one : (rs : List DeclaredOperator) → DeclaresBad names unread flags rs → DeclaresGone p c unread Goes rs
+    declares_one rs h =
+        let n = h.operator.name in
+        elim (either (is_lost names unread n) (is_set_at flags (number_in (among names n))) h.is_bad) [
+          | inl l ↦ declares_lost h.operator h.declared (lost_in unread n l)
+          | inr b ↦ declared_at rs h.operator (number_in (among names n)) refl h.declared b
+        ]
+
+    declares_bad : (rs : List DeclaredOperator) → DeclaresGone p c unread Goes rs → DeclaresBad names unread flags rs
+    declares_bad rs (declares_lost r m l) =
+        record { operator = r; declared = m; is_bad = or_first (is_lost names unread r.name) (is_set_at flags (number_in (among names r.name))) (is_in_lost unread r.name l) }
+    declares_bad rs (declares_gone r i m d b) =
+        let set : is_set_at flags (number_in (among names r.name)) ≡ true = ap (is_set_at flags) (number_is r.name i d) ∙ (exact i).1 b in
+        record { operator = r; declared = m; is_bad = or_second (is_lost names unread r.name) (is_set_at flags (number_in (among names r.name))) set }
+
     goes : (i : ℕ) (u : ModuleUnit) → IsOver names unread flags i u → GoesWith p c unread Goes i u
     goes i (Variables ds) h = h
     goes i (Constants ds) h = h
     goes i (Define d) h = (exact i).0 h
     goes i (Assume e) h = leans_on e h
-    goes i (Recursive rs) h = h
+    goes i (Recursive rs) h = declares_one rs h
     goes i Passed h = h
 
     is_to_go : (i : ℕ) (u : ModuleUnit) → GoesWith p c unread Goes i u → IsOver names unread flags i u
@@ -181,7 +201,7 @@ module _ (p : Program) (c : Config) (values : List Val) (names : List Entry) (ar
     is_to_go i (Constants ds) h = h
     is_to_go i (Define d) h = (exact i).1 h
     is_to_go i (Assume e) h = has_bad_name e h
-    is_to_go i (Recursive rs) h = h
+    is_to_go i (Recursive rs) h = declares_bad rs h
     is_to_go i Passed h = h
 
     pub goes_with : (i : ℕ) (u : ModuleUnit) → IsOver names unread flags i u ↔ GoesWith p c unread Goes i u

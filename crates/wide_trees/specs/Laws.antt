@@ -2,8 +2,10 @@
 use Rattle.std.specs.Prelude.{◌≡◌, ◌⊎◌, ℕ, true, false, List, [], Option, Some, Contains, slice_get}
 use Rattle.tla_ast.specs.declared.config.Config.{Config}
 use Rattle.tla_ast.specs.declared.expr.Definition.{Definition}
+use Rattle.tla_ast.specs.declared.module.DeclaredOperator.{DeclaredOperator}
 use Rattle.tla_ast.specs.declared.module.Program.{Program}
 use Rattle.tla_ast.specs.declared.module.Unit.{Unit as ModuleUnit}
+use Rattle.tla_ast.specs.declared.module.Unit.TheVariants.{Recursive}
 use Rattle.tla_ast.specs.Trees.{Tree}
 use Rattle.tla_scopes.specs.Mentions.{is_one_of, mentions}
 use Rattle.tla_program.specs.InUnits.{assumptions_in, constants_in, definitions_in, variables_in}
@@ -59,11 +61,12 @@ abbrev pub OneAlone : Type 0
 OneAlone = (p : Program) (c : Config) (unread roots : List (List ℕ)) (q r : Program) (over others : List ModuleUnit)
     → Alone p c unread roots q over → Alone p c unread roots r others → (q ≡ r) × (over ≡ others)
 
--- no definition lacks something, and no lost name is free in what is assumed
+-- no definition lacks something, and no lost name is free in what is assumed, or declared by RECURSIVE
 abbrev pub NothingIsLost : Program → Config → List (List ℕ) → Type 0
 NothingIsLost p c unread =
     ((i : ℕ) (d : Definition) → slice_get (definitions_in p.units) i ≡ Some d → ¬ IsLacking p c unread d)
     × ((e : Tree) (n : List ℕ) → Contains (assumptions_in p.units) e → mentions n e ≡ true → ¬ IsLost p c unread n)
+    × ((rs : List DeclaredOperator) (r : DeclaredOperator) → Contains p.units (Recursive rs) → Contains rs r → ¬ IsLost p c unread r.name)
 
 -- where nothing is lost the program stays as it is
 abbrev pub FineStays : Type 0

@@ -2,6 +2,7 @@
 use Rattle.std.specs.Prelude.{◌≡◌, ◌⊎◌, ◌↔◌, ◌<◌, ℕ, Bool, true, false, ◌&&◌, ◌||◌, not, if◌then◌else◌, is_none, List, [], ◌∷◌, Contains, Option, None, Some, slice_get}
 use Rattle.std.specs.List.{slice_index_or}
 use Rattle.tla_ast.specs.declared.expr.Definition.{Definition}
+use Rattle.tla_ast.specs.declared.module.DeclaredOperator.{DeclaredOperator}
 use Rattle.tla_ast.specs.declared.module.Program.{Program}
 use Rattle.tla_ast.specs.declared.module.Unit.{Unit as ModuleUnit}
 use Rattle.tla_ast.specs.declared.module.Unit.TheVariants.{Variables, Constants, Recursive, Define, Assume, Passed}
@@ -56,13 +57,23 @@ pub record HasBadName (names : List Entry) (unread : List (List ℕ)) (bad : Lis
   pub mentioned : mentions name e ≡ true
   pub is_bad : is_bad_name names unread bad name ≡ true
 
+-- the name of a declared operator is one
+abbrev pub is_bad_operator : List Entry → List (List ℕ) → List Bool → DeclaredOperator → Bool
+is_bad_operator names unread bad r = is_bad_name names unread bad r.name
+
+-- and one of these operators has such a name
+pub record DeclaresBad (names : List Entry) (unread : List (List ℕ)) (bad : List Bool) (rs : List DeclaredOperator) : Type 0 where
+  pub operator : DeclaredOperator
+  pub declared : Contains rs operator
+  pub is_bad : is_bad_operator names unread bad operator ≡ true
+
 -- the unit is to be passed over, where a definition would have this index
 abbrev pub IsOver : List Entry → List (List ℕ) → List Bool → ℕ → ModuleUnit → Type 0
 IsOver names unread bad i (Variables ds) = ⊥
 IsOver names unread bad i (Constants ds) = ⊥
 IsOver names unread bad i (Define d) = is_set_at bad (Some i) ≡ true
 IsOver names unread bad i (Assume e) = HasBadName names unread bad e
-IsOver names unread bad i (Recursive rs) = ⊥
+IsOver names unread bad i (Recursive rs) = DeclaresBad names unread bad rs
 IsOver names unread bad i Passed = ⊥
 
 -- for each of these units, before which there are so many definitions, whether it goes

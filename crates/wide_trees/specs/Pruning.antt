@@ -4,12 +4,14 @@
 -- 2. A definition is bad where it has a lost name or is named by one that was not read, and where it uses a bad one.
 -- 3. Needed is what some names define, and what that uses, directly or through others. They are looked up as those behind INIT and NEXT are: without what
 --    the configuration puts in their place.
--- 4. Definitions go, and with them the assumptions that have a lost name or use one that goes (`Without`).
+-- 4. Definitions go, and with them the assumptions that have a lost name or use one that goes, and each RECURSIVE behind which such a name stands
+--    (`Without`).
 -- 5. Where one of those names was not read, or something needed is bad, nothing can be pruned. Else the bad definitions go (`Pruned`). Or all go that are
 --    not needed (`Alone`).
 use Rattle.std.specs.Prelude.{◌≡◌, ◌⊎◌, ℕ, ◌+◌, ◌<◌, true, false, List, [], ◌∷◌, length, None, Some, Contains, slice_get}
 use Rattle.tla_ast.specs.declared.config.Config.{Config}
 use Rattle.tla_ast.specs.declared.expr.Definition.{Definition}
+use Rattle.tla_ast.specs.declared.module.DeclaredOperator.{DeclaredOperator}
 use Rattle.tla_ast.specs.declared.module.Program.{Program}
 use Rattle.tla_ast.specs.declared.module.Unit.{Unit as ModuleUnit}
 use Rattle.tla_ast.specs.declared.module.Unit.TheVariants.{Variables, Constants, Recursive, Define, Assume, Passed}
@@ -55,13 +57,18 @@ pub data LeansOn (p : Program) (c : Config) (unread : List (List ℕ)) (Goes : �
   has_lost : (n : List ℕ) → mentions n e ≡ true → IsLost p c unread n → LeansOn p c unread Goes e
   has_gone : (n : List ℕ) (i : ℕ) → mentions n e ≡ true → MeansDefinition p c n i → Goes i → LeansOn p c unread Goes e
 
+-- one of the declared operators has a lost name, or its definition goes
+pub data DeclaresGone (p : Program) (c : Config) (unread : List (List ℕ)) (Goes : ℕ → Type 0) (rs : List DeclaredOperator) : Type 0 where
+  declares_lost : (r : DeclaredOperator) → Contains rs r → IsLost p c unread r.name → DeclaresGone p c unread Goes rs
+  declares_gone : (r : DeclaredOperator) (i : ℕ) → Contains rs r → MeansDefinition p c r.name i → Goes i → DeclaresGone p c unread Goes rs
+
 -- the unit goes with those definitions, where one would have this index
 abbrev pub GoesWith : Program → Config → List (List ℕ) → (ℕ → Type 0) → ℕ → ModuleUnit → Type 0
 GoesWith p c unread Goes i (Variables ds) = ⊥
 GoesWith p c unread Goes i (Constants ds) = ⊥
 GoesWith p c unread Goes i (Define d) = Goes i
 GoesWith p c unread Goes i (Assume e) = LeansOn p c unread Goes e
-GoesWith p c unread Goes i (Recursive rs) = ⊥
+GoesWith p c unread Goes i (Recursive rs) = DeclaresGone p c unread Goes rs
 GoesWith p c unread Goes i Passed = ⊥
 
 -- the index of a definition behind the unit

@@ -4,13 +4,13 @@ ghost use Rattle.std.specs.Prelude.{◌≡◌, ◌↔◌, ◌<◌, ◌-◌, ◌^
 ghost use Rattle.std.specs.List.{list_any};
 ghost use Rattle.tla_scopes.specs.Scopes.{among};
 ghost use Rattle.tla_uses.specs.UsedNames.{number_in, number_of};
-ghost use Rattle.wide_trees.specs.Parts.{AreGone, HasBadName, IsOver, is_bad_name, is_set_at};
+ghost use Rattle.wide_trees.specs.Parts.{AreGone, HasBadName, IsOver, is_bad_name, is_bad_operator, is_set_at};
 ghost use Rattle.wide_trees.specs.Pruning.{behind};
 
 use crate::lost::is_lost;
 use free_names::free_names;
 use std::alloc::Global;
-use tla_ast::{Expr, Unit, Units};
+use tla_ast::{DeclaredOperator, Expr, Unit, Units};
 use tla_scopes::{Meant, ProgramNames};
 use trace_base::{NoMemory, Text};
 
@@ -84,6 +84,23 @@ fn is_bad_assumption(
     Ok(some_bad(names, unread, bad, free.items()))
 }
 
+/// Whether one of the declared operators has a name that is lost, or that means a definition that is bad.
+fn declares_bad(
+    names: &ProgramNames,
+    unread: &[Text],
+    bad: &[bool],
+    operators: &[DeclaredOperator],
+) -> bool
+    ensures { result ≡ list_any (is_bad_operator names.now unread.now bad.now) operators.now }
+{
+    for operator in operators {
+        if is_bad_name(names, unread, bad, &operator.name) {
+            return true;
+        }
+    }
+    false
+}
+
 /// Whether the unit is to be passed over, where a definition would have this index.
 fn is_over(
     alloc: Global,
@@ -100,7 +117,7 @@ fn is_over(
         Unit::Constants(_) => Ok(false),
         Unit::Define(_) => Ok(is_set_at(bad, Some(index))),
         Unit::Assume(tree) => is_bad_assumption(alloc, names, unread, bad, tree),
-        Unit::Recursive(_) => Ok(false),
+        Unit::Recursive(operators) => { Ok(declares_bad(names, unread, bad, operators.items())) }
         Unit::Passed => Ok(false),
     }
 }

@@ -1,6 +1,6 @@
-use Rattle.std.proofs.Common.{◌≡◌, ◌<◌, ◌∙◌, ap, sym, subst, arith, List, ℕ}
+use Rattle.std.proofs.Common.{◌≡◌, ◌<◌, ◌∙◌, ap, sym, subst, arith, List, ℕ, rules}
 use Rattle.tla_ast.specs.Trees as tree
-use Rattle.tla_ast.specs.Trees.{Tree, place_of}
+use Rattle.tla_ast.specs.Trees.{place_of}
 use Rattle.tla_terms.specs.Levels.{level_for}
 use Rattle.tla_scopes.specs.FirstOperands.{first_of}
 use Rattle.tla_ast.specs.TreeSizes.{tree_size, trees_size, operands_size, step_size, steps_size, bounds_size, fields_size, changes_size, arms_size, definitions_size}
@@ -8,12 +8,12 @@ use Rattle.tla_ast.specs.TreeViews.{node_view, step_view, trees_of, operands_of,
 use Rattle.tla_terms.specs.Terms as term
 use Rattle.tla_terms.specs.TermViews as terms
 use Rattle.tla_names.specs.declared.pending.Pending.{Pending}
-use Rattle.tla_names.specs.Around.{Here, takes}
-use Rattle.tla_names.specs.Complaints.{complaint, complaints, operands_complaint, with_name, steps_complaint, bounds_complaint, fields_complaint, changes_complaint, arms_complaint, definitions_complaint}
+use Rattle.tla_names.specs.Around.{takes}
+use Rattle.tla_names.specs.Complaints.{Takes, bound_name, complaint, complaints, operands_complaint, with_name, steps_complaint, bounds_complaint, fields_complaint, changes_complaint, arms_complaint, definitions_complaint}
 use Rattle.tla_names.specs.Outcomes.{Complains}
 use Rattle.tla_names.specs.Pendings.{Opens}
 use Rattle.tla_scopes.specs.Scopes.{at_sign}
-use Rattle.tla_names.specs.Reads.{ResolvesUnder, RefusesOthers}
+use Rattle.tla_names.specs.Reads.{Resolves, ResolvesUnder, RefusesOthers}
 use Rattle.tla_scopes.proofs.Below.{tree_below, first_below, operand_below, step_below, set_below, field_below, path_below, change_below, test_below, arm_below, body_below, step_falls}
 use Rattle.tla_names.proofs.ListReads as lists
 use Rattle.tla_names.proofs.Defining as defining
@@ -39,7 +39,7 @@ resolve_each-returns-clause-fine t c =
 
 pub resolve_each-returns-in_err-term-clause-refused : goal.resolve_each-returns-in_err-term-clause-refused
 resolve_each-returns-in_err-term-clause-refused t c =
-    stopped c.from_residual.result c.in_err-term.field-0.0 (Complains (complaints (takes c.args.walk.now.here) c.args.trees.now)) c.from_residual.ensures.1
+    stopped c.from_residual.result c.in_err-term.field-0.0 (Complains (complaints (takes c.args.walk.now) c.args.trees.now)) c.from_residual.ensures.1
     (lists.trees_refused c.args.walk.now c.loop-tree.walk c.items-tree-items.result.now c.args.trees.now c.loop-tree.tree-index c.loop-tree.terms c.tree-item.result c.in_err-term.field-0.0 c.items-tree-items.ensures c.loop-tree-test.true c.tree-item.is c.loop-tree.invariant c.in_err-term.ensures.refused)
 
 pub resolve_each-loop-tree-preserved : goal.resolve_each-loop-tree-preserved
@@ -62,7 +62,7 @@ resolve_steps-returns-clause-fine t c =
 
 pub resolve_steps-returns-in_err-step-clause-refused : goal.resolve_steps-returns-in_err-step-clause-refused
 resolve_steps-returns-in_err-step-clause-refused t c =
-    stopped c.from_residual.result c.in_err-step.field-0.0 (Complains (steps_complaint (takes c.args.walk.now.here) c.args.trees.now)) c.from_residual.ensures.1
+    stopped c.from_residual.result c.in_err-step.field-0.0 (Complains (steps_complaint (takes c.args.walk.now) c.args.trees.now)) c.from_residual.ensures.1
     (lists.steps_refused c.args.walk.now c.loop-tree.walk c.items-tree-items.result.now c.args.trees.now c.loop-tree.tree-index c.loop-tree.steps c.tree-item.result c.in_err-step.field-0.0 c.items-tree-items.ensures c.loop-tree-test.true c.tree-item.is c.loop-tree.invariant c.in_err-step.ensures.refused)
 
 pub resolve_steps-loop-tree-preserved : goal.resolve_steps-loop-tree-preserved
@@ -85,7 +85,7 @@ resolve_bounds-returns-clause-fine t c =
 
 pub resolve_bounds-returns-in_err-set-clause-refused : goal.resolve_bounds-returns-in_err-set-clause-refused
 resolve_bounds-returns-in_err-set-clause-refused t c =
-    stopped c.from_residual.result c.in_err-set.field-0.0 (Complains (bounds_complaint (takes c.args.walk.now.here) c.args.trees.now)) c.from_residual.ensures.1
+    stopped c.from_residual.result c.in_err-set.field-0.0 (Complains (bounds_complaint (takes c.args.walk.now) c.args.trees.now)) c.from_residual.ensures.1
     (lists.bounds_refused c.args.walk.now c.loop-tree.walk c.items-tree-items.result.now c.args.trees.now c.loop-tree.tree-index c.loop-tree.bounds c.tree-item.result c.in_err-set.field-0.0 c.items-tree-items.ensures c.loop-tree-test.true c.tree-item.is c.loop-tree.invariant c.in_err-set.ensures.refused)
 
 pub resolve_bounds-loop-tree-preserved : goal.resolve_bounds-loop-tree-preserved
@@ -108,7 +108,7 @@ resolve_fields-returns-clause-fine t c =
 
 pub resolve_fields-returns-in_err-value-clause-refused : goal.resolve_fields-returns-in_err-value-clause-refused
 resolve_fields-returns-in_err-value-clause-refused t c =
-    stopped c.from_residual.result c.in_err-value.field-0.0 (Complains (fields_complaint (takes c.args.walk.now.here) c.args.trees.now)) c.from_residual.ensures.1
+    stopped c.from_residual.result c.in_err-value.field-0.0 (Complains (fields_complaint (takes c.args.walk.now) c.args.trees.now)) c.from_residual.ensures.1
     (lists.fields_refused c.args.walk.now c.loop-tree.walk c.items-tree-items.result.now c.args.trees.now c.loop-tree.tree-index c.loop-tree.fields c.tree-item.result c.in_err-value.field-0.0 c.items-tree-items.ensures c.loop-tree-test.true c.tree-item.is c.loop-tree.invariant c.in_err-value.ensures.refused)
 
 pub resolve_fields-loop-tree-preserved : goal.resolve_fields-loop-tree-preserved
@@ -137,13 +137,13 @@ resolve_arms-returns-clause-fine t c =
 
 pub resolve_arms-returns-in_err-test-clause-refused : goal.resolve_arms-returns-in_err-test-clause-refused
 resolve_arms-returns-in_err-test-clause-refused t c =
-    stopped c.from_residual.result c.in_err-test.field-0.0 (Complains (arms_complaint (takes c.args.walk.now.here) c.args.trees.now)) c.from_residual.ensures.1
-    (lists.arms_refused c.args.walk.now c.loop-tree.walk c.items-tree-items.result.now c.args.trees.now c.loop-tree.tree-index c.loop-tree.arms c.tree-item.result c.in_err-test.field-0.0 c.items-tree-items.ensures c.loop-tree-test.true c.tree-item.is c.loop-tree.invariant (complains_first (complaint (takes c.loop-tree.walk.here) c.tree-item.result.test) (complaint (takes c.loop-tree.walk.here) c.tree-item.result.value) c.in_err-test.field-0.0 c.in_err-test.ensures.refused))
+    stopped c.from_residual.result c.in_err-test.field-0.0 (Complains (arms_complaint (takes c.args.walk.now) c.args.trees.now)) c.from_residual.ensures.1
+    (lists.arms_refused c.args.walk.now c.loop-tree.walk c.items-tree-items.result.now c.args.trees.now c.loop-tree.tree-index c.loop-tree.arms c.tree-item.result c.in_err-test.field-0.0 c.items-tree-items.ensures c.loop-tree-test.true c.tree-item.is c.loop-tree.invariant (complains_first (complaint (takes c.loop-tree.walk) c.tree-item.result.test) (complaint (takes c.loop-tree.walk) c.tree-item.result.value) c.in_err-test.field-0.0 c.in_err-test.ensures.refused))
 
 pub resolve_arms-returns-in_err-value-clause-refused : goal.resolve_arms-returns-in_err-value-clause-refused
 resolve_arms-returns-in_err-value-clause-refused t c =
-    stopped c.from_residual-in_err-value.result c.in_err-value.field-0.0 (Complains (arms_complaint (takes c.args.walk.now.here) c.args.trees.now)) c.from_residual-in_err-value.ensures.1
-    (lists.arms_refused c.args.walk.now c.loop-tree.walk c.items-tree-items.result.now c.args.trees.now c.loop-tree.tree-index c.loop-tree.arms c.tree-item.result c.in_err-value.field-0.0 c.items-tree-items.ensures c.loop-tree-test.true c.tree-item.is c.loop-tree.invariant (refused_later c.loop-tree.walk c.resolve.new.walk (λ (h : Here). complaint (takes h) c.tree-item.result.value) c.in_err-value.field-0.0 c.in_ok-test.ensures.fine c.in_err-value.ensures.refused))
+    stopped c.from_residual-in_err-value.result c.in_err-value.field-0.0 (Complains (arms_complaint (takes c.args.walk.now) c.args.trees.now)) c.from_residual-in_err-value.ensures.1
+    (lists.arms_refused c.args.walk.now c.loop-tree.walk c.items-tree-items.result.now c.args.trees.now c.loop-tree.tree-index c.loop-tree.arms c.tree-item.result c.in_err-value.field-0.0 c.items-tree-items.ensures c.loop-tree-test.true c.tree-item.is c.loop-tree.invariant (refused_later c.loop-tree.walk c.resolve.new.walk (λ (g : Takes). complaint g c.tree-item.result.value) c.in_err-value.field-0.0 c.in_ok-test.ensures.fine c.in_err-value.ensures.refused))
 
 pub resolve_arms-loop-tree-preserved : goal.resolve_arms-loop-tree-preserved
 resolve_arms-loop-tree-preserved t c =
@@ -171,13 +171,13 @@ resolve_changes-returns-clause-fine t c =
 
 pub resolve_changes-returns-in_err-path-clause-refused : goal.resolve_changes-returns-in_err-path-clause-refused
 resolve_changes-returns-in_err-path-clause-refused t c =
-    stopped c.from_residual-in_err-path.result c.in_err-path.field-0.0 (Complains (changes_complaint (takes c.args.walk.now.here) c.args.trees.now)) c.from_residual-in_err-path.ensures.1
-    (lists.changes_refused c.args.walk.now c.loop-tree.walk c.items-tree-items.result.now c.args.trees.now c.loop-tree.tree-index c.loop-tree.changes c.tree-item.result c.in_err-path.field-0.0 c.items-tree-items.ensures c.loop-tree-test.true c.tree-item.is c.loop-tree.invariant (complains_first (steps_complaint (takes c.loop-tree.walk.here) c.tree-item.result.path) (complaint (with_name (takes c.loop-tree.walk.here) at_sign 0) c.tree-item.result.value) c.in_err-path.field-0.0 c.in_err-path.ensures.refused))
+    stopped c.from_residual-in_err-path.result c.in_err-path.field-0.0 (Complains (changes_complaint (takes c.args.walk.now) c.args.trees.now)) c.from_residual-in_err-path.ensures.1
+    (lists.changes_refused c.args.walk.now c.loop-tree.walk c.items-tree-items.result.now c.args.trees.now c.loop-tree.tree-index c.loop-tree.changes c.tree-item.result c.in_err-path.field-0.0 c.items-tree-items.ensures c.loop-tree-test.true c.tree-item.is c.loop-tree.invariant (complains_first (steps_complaint (takes c.loop-tree.walk) c.tree-item.result.path) (complaint (with_name (takes c.loop-tree.walk) at_sign bound_name) c.tree-item.result.value) c.in_err-path.field-0.0 c.in_err-path.ensures.refused))
 
 pub resolve_changes-returns-in_err-value-clause-refused : goal.resolve_changes-returns-in_err-value-clause-refused
 resolve_changes-returns-in_err-value-clause-refused t c =
-    stopped c.from_residual-in_err-value.result c.in_err-value.field-0.0 (Complains (changes_complaint (takes c.args.walk.now.here) c.args.trees.now)) c.from_residual-in_err-value.ensures.1
-    (lists.changes_refused c.args.walk.now c.loop-tree.walk c.items-tree-items.result.now c.args.trees.now c.loop-tree.tree-index c.loop-tree.changes c.tree-item.result c.in_err-value.field-0.0 c.items-tree-items.ensures c.loop-tree-test.true c.tree-item.is c.loop-tree.invariant (refused_later c.loop-tree.walk c.resolve_steps.new.walk (λ (h : Here). complaint (with_name (takes h) at_sign 0) c.tree-item.result.value) c.in_err-value.field-0.0 c.in_ok-path.ensures.fine (subst (λ (n : List ℕ). lists.IsRefusedUnder c.resolve_steps.new.walk n c.tree-item.result.value c.in_err-value.field-0.0) c.in_ok-at_sign.ensures c.in_err-value.ensures.refused)))
+    stopped c.from_residual-in_err-value.result c.in_err-value.field-0.0 (Complains (changes_complaint (takes c.args.walk.now) c.args.trees.now)) c.from_residual-in_err-value.ensures.1
+    (lists.changes_refused c.args.walk.now c.loop-tree.walk c.items-tree-items.result.now c.args.trees.now c.loop-tree.tree-index c.loop-tree.changes c.tree-item.result c.in_err-value.field-0.0 c.items-tree-items.ensures c.loop-tree-test.true c.tree-item.is c.loop-tree.invariant (refused_later c.loop-tree.walk c.resolve_steps.new.walk (λ (g : Takes). complaint (with_name g at_sign bound_name) c.tree-item.result.value) c.in_err-value.field-0.0 c.in_ok-path.ensures.fine (subst (λ (n : List ℕ). lists.IsRefusedUnder c.resolve_steps.new.walk n c.tree-item.result.value c.in_err-value.field-0.0) c.in_ok-at_sign.ensures c.in_err-value.ensures.refused)))
 
 pub resolve_changes-loop-tree-preserved : goal.resolve_changes-loop-tree-preserved
 resolve_changes-loop-tree-preserved t c =
@@ -199,30 +199,33 @@ resolve_definitions-returns-clause-fine t c =
 
 pub resolve_definitions-returns-in_err-not_itself-clause-refused : goal.resolve_definitions-returns-in_err-not_itself-clause-refused
 resolve_definitions-returns-in_err-not_itself-clause-refused t c =
-    stopped c.from_residual.result c.in_err-not_itself.field-0.0 (Complains (definitions_complaint (takes c.args.walk.now.here) c.args.trees.now)) c.from_residual.ensures.1
-    (defining.itself_refused c.args.walk.now c.loop-tree.walk c.items-tree-items.result.now c.args.trees.now c.loop-tree.tree-index c.loop-tree.numbers c.tree-item.result c.in_err-not_itself.field-0.0 c.items-tree-items.ensures c.loop-tree-test.true c.tree-item.is c.loop-tree.invariant c.in_err-not_itself.ensures.refused)
+    stopped c.from_residual.result c.in_err-not_itself.field-0.0 (Complains (definitions_complaint (takes c.args.walk.now) c.args.trees.now)) c.from_residual.ensures.1
+    (defining.refused c.args.walk.now c.loop-tree.walk c.items-tree-items.result.now c.args.trees.now c.loop-tree.tree-index c.loop-tree.numbers c.tree-item.result c.in_err-not_itself.field-0.0 c.items-tree-items.ensures c.loop-tree-test.true c.tree-item.is c.loop-tree.invariant
+    (defining.itself_refused c.loop-tree.walk c.tree-item.result c.in_err-not_itself.field-0.0 c.in_err-not_itself.ensures.refused))
 
 pub resolve_definitions-returns-in_err-body-clause-refused : goal.resolve_definitions-returns-in_err-body-clause-refused
 resolve_definitions-returns-in_err-body-clause-refused t c =
-    stopped c.from_residual-in_err-body.result c.in_err-body.field-0.0 (Complains (definitions_complaint (takes c.args.walk.now.here) c.args.trees.now)) c.from_residual-in_err-body.ensures.1
-    (defining.body_refused c.args.walk.now c.loop-tree.walk c.bind.new.self c.items-tree-items.result.now c.args.trees.now c.loop-tree.tree-index c.loop-tree.numbers c.tree-item.result c.in_err-body.field-0.0 c.items-tree-items.ensures c.loop-tree-test.true c.tree-item.is c.loop-tree.invariant c.in_ok-not_itself.ensures.fine (defining.bound_names c.loop-tree.walk c.bind.new.self c.items.result.now c.tree-item.result.params c.items.ensures c.in_ok-bind.ensures) c.in_err-body.ensures.refused)
+    stopped c.from_residual-in_err-body.result c.in_err-body.field-0.0 (Complains (definitions_complaint (takes c.args.walk.now) c.args.trees.now)) c.from_residual-in_err-body.ensures.1
+    (defining.refused c.args.walk.now c.loop-tree.walk c.items-tree-items.result.now c.args.trees.now c.loop-tree.tree-index c.loop-tree.numbers c.tree-item.result c.in_err-body.field-0.0 c.items-tree-items.ensures c.loop-tree-test.true c.tree-item.is c.loop-tree.invariant
+    (defining.definition_refused c.loop-tree.walk c.begin.new.walk c.bind.new.self c.tree-item.result c.in_ok-place.place c.in_err-body.field-0.0 c.is_around.ensures c.in_ok-not_itself.ensures.fine c.in_ok-place.ensures (defining.bound_params c.begin.new.walk c.bind.new.self c.items.result.now c.tree-item.result c.items.ensures c.in_ok-bind.ensures) c.in_err-body.ensures.refused))
 
-pub resolve_definitions-define-requires : goal.resolve_definitions-define-requires
-resolve_definitions-define-requires t c =
-    (c.tree-item.result.params, c.tree-item.result.body, defining.defined_means c.loop-tree.walk c.bind.new.self c.resolve_to.new.walk c.depth-depth.result c.tree-item.result.params c.tree-item.result.body c.in_ok-body.body c.depth-depth.ensures (defining.bound_names c.loop-tree.walk c.bind.new.self c.items.result.now c.tree-item.result.params c.items.ensures c.in_ok-bind.ensures) c.in_ok-body.ensures.fine)
+pub resolve_definitions-end-requires : goal.resolve_definitions-end-requires
+resolve_definitions-end-requires t c =
+    defining.definition_kept c.loop-tree.walk c.begin.new.walk c.bind.new.self c.resolve_to.new.walk c.depth-depth.result c.tree-item.result c.in_ok-body.body c.in_ok-place.place c.is_around.ensures c.in_ok-not_itself.ensures.fine c.depth-depth.ensures c.in_ok-place.ensures (defining.bound_params c.begin.new.walk c.bind.new.self c.items.result.now c.tree-item.result c.items.ensures c.in_ok-bind.ensures) c.in_ok-body.ensures.fine
 
 pub resolve_definitions-loop-tree-preserved : goal.resolve_definitions-loop-tree-preserved
 resolve_definitions-loop-tree-preserved t c =
-    defining.definitions_pushed c.args.walk.now c.loop-tree.walk c.bind.new.self c.resolve_to.new.walk c.define.new.self c.items-tree-items.result.now c.loop-tree.tree-index c.depth-depth.result c.len.result c.loop-tree.numbers c.push.new.self c.tree-item.result c.in_ok-body.body c.in_ok-number.number c.in_ok-push.ensures.pushed c.loop-tree-test.true c.tree-item.is c.loop-tree.invariant c.in_ok-not_itself.ensures.fine c.depth-depth.ensures (defining.bound_names c.loop-tree.walk c.bind.new.self c.items.result.now c.tree-item.result.params c.items.ensures c.in_ok-bind.ensures) c.in_ok-body.ensures.fine c.len.ensures c.in_ok-number.ensures.number c.in_ok-number.ensures.names c.in_ok-number.ensures.scope c.in_ok-number.ensures.table c.in_ok-number.ensures.ordered
+    defining.definitions_pushed c.args.walk.now c.loop-tree.walk c.end.new.walk c.items-tree-items.result.now c.loop-tree.tree-index c.loop-tree.numbers c.push.new.self c.tree-item.result c.in_ok-number.number c.in_ok-push.ensures.pushed c.loop-tree-test.true c.tree-item.is c.loop-tree.invariant
+    (defining.definition_read c.loop-tree.walk c.begin.new.walk c.bind.new.self c.resolve_to.new.walk c.end.new.walk c.depth-depth.result c.tree-item.result c.in_ok-body.body c.in_ok-place.place c.in_ok-number.number c.is_around.ensures c.in_ok-not_itself.ensures.fine c.depth-depth.ensures c.in_ok-place.ensures (defining.bound_params c.begin.new.walk c.bind.new.self c.items.result.now c.tree-item.result c.items.ensures c.in_ok-bind.ensures) c.in_ok-body.ensures.fine c.in_ok-number.ensures)
 
 pub resolve_call-returns-in_err-meant-clause-refused : goal.resolve_call-returns-in_err-meant-clause-refused
 resolve_call-returns-in_err-meant-clause-refused t c =
-    stopped c.from_residual.result c.in_err-meant.field-0.0 (Complains (complaint (takes c.args.walk.now.here) (tree.Call c.args.at c.args.name.now c.args.arguments.now))) c.from_residual.ensures.1
+    stopped c.from_residual.result c.in_err-meant.field-0.0 (Complains (complaint (takes c.args.walk.now) (tree.Call c.args.at c.args.name.now c.args.arguments.now))) c.from_residual.ensures.1
     (rows.call_refused c.args.walk.now c.args.at c.args.name.now c.args.arguments.now _ c.in_err-meant.field-0.0 (rows.number_is c.items-found.result.now c.args.arguments.now c.items-found.ensures) c.in_err-meant.ensures.refused)
 
 pub resolve_call-returns-in_err-terms-clause-refused : goal.resolve_call-returns-in_err-terms-clause-refused
 resolve_call-returns-in_err-terms-clause-refused t c =
-    stopped c.from_residual-in_err-terms.result c.in_err-terms.field-0.0 (Complains (complaint (takes c.args.walk.now.here) (tree.Call c.args.at c.args.name.now c.args.arguments.now))) c.from_residual-in_err-terms.ensures.1
+    stopped c.from_residual-in_err-terms.result c.in_err-terms.field-0.0 (Complains (complaint (takes c.args.walk.now) (tree.Call c.args.at c.args.name.now c.args.arguments.now))) c.from_residual-in_err-terms.ensures.1
     (rows.arguments_refused c.args.walk.now c.args.at c.args.name.now c.args.arguments.now _ c.in_ok-meant.meant c.in_err-terms.field-0.0 (rows.number_is c.items-found.result.now c.args.arguments.now c.items-found.ensures) c.in_ok-meant.ensures.means c.in_err-terms.ensures.refused)
 
 pub resolve_call-returns-clause-fine : goal.resolve_call-returns-clause-fine
@@ -240,12 +243,12 @@ resolve_operands-resolve_others-requires t c = (omega (arith, c.decreases), tt)
 
 pub resolve_operands-returns-in_err-first-clause-refused : goal.resolve_operands-returns-in_err-first-clause-refused
 resolve_operands-returns-in_err-first-clause-refused t c =
-    stopped c.from_residual.result c.in_err-first.field-0.0 (Complains (operands_complaint (takes c.args.walk.now.here) c.args.trees.now)) c.from_residual.ensures.1
+    stopped c.from_residual.result c.in_err-first.field-0.0 (Complains (operands_complaint (takes c.args.walk.now) c.args.trees.now)) c.from_residual.ensures.1
     (lists.first_refused c.args.walk.now c.parts.result.0.now c.parts.result.1.now c.args.trees.now c.in_err-first.field-0.0 c.parts.ensures c.in_err-first.ensures.refused)
 
 pub resolve_operands-returns-in_err-resolve_others-clause-refused : goal.resolve_operands-returns-in_err-resolve_others-clause-refused
 resolve_operands-returns-in_err-resolve_others-clause-refused t c =
-    stopped c.from_residual-in_err-resolve_others.result c.in_err-resolve_others.field-0.0 (Complains (operands_complaint (takes c.args.walk.now.here) c.args.trees.now)) c.from_residual-in_err-resolve_others.ensures.1
+    stopped c.from_residual-in_err-resolve_others.result c.in_err-resolve_others.field-0.0 (Complains (operands_complaint (takes c.args.walk.now) c.args.trees.now)) c.from_residual-in_err-resolve_others.ensures.1
     (lists.rest_refused c.args.walk.now c.resolve.new.walk c.parts.result.0.now c.parts.result.1.now c.args.trees.now c.in_ok-first.first c.in_ok-operands.operands c.in_err-resolve_others.field-0.0 c.parts.ensures c.in_ok-operands.ensures c.in_ok-first.ensures.fine c.in_err-resolve_others.ensures.refused)
 
 pub resolve_operands-returns-clause-fine : goal.resolve_operands-returns-clause-fine
@@ -283,9 +286,76 @@ pub resolve_row-returns-in_ok-from_text-in-At-clause-fine : goal.resolve_row-ret
 resolve_row-returns-in_ok-from_text-in-At-clause-fine t c =
     rows.at_answers c.args.walk.now c.in_ok-from_text-in-At.field-0 c.tree.inside.at c.args.tree.now c.use_of-in-At-2.result (ap (node_view c.tree.inside.at) (sym c.in-At.is ∙ c.deref.ensures) ∙ c.tree.view_is) c.in_ok-from_text-in-At.ensures c.use_of-in-At-2.ensures.fine
 
+pub resolve_row-returns-in_ok-chain-in-Infix-clause-fine : goal.resolve_row-returns-in_ok-chain-in-Infix-clause-fine
+resolve_row-returns-in_ok-chain-in-Infix-clause-fine t c =
+    rows.chain_row c.args.walk.now c.resolve_operands.new.walk c.resolve-in-Infix.new.walk c.tree.inside.at c.in-Infix.operator c.in-Infix.operands c.in-Infix.last c.args.tree.now c.in_ok-operands-in-Infix.operands c.in_ok-last-in-Infix.last (terms.node_view c.in_ok-chain-in-Infix.field-0)
+    (ap (node_view c.tree.inside.at) (sym c.in-Infix.is ∙ c.deref.ensures) ∙ c.tree.view_is)
+    c.in_ok-chain-in-Infix.ensures c.in_ok-operands-in-Infix.ensures.fine c.in_ok-last-in-Infix.ensures.fine
+
+pub resolve_row-returns-in_ok-last-in-Postfix-clause-fine : goal.resolve_row-returns-in_ok-last-in-Postfix-clause-fine
+resolve_row-returns-in_ok-last-in-Postfix-clause-fine t c =
+    rows.postfix_row c.args.walk.now c.resolve-in-Postfix.new.walk c.resolve_steps.new.walk c.resolve_step.new.walk c.tree.inside.at c.in-Postfix.base c.in-Postfix.steps (step_view c.in-Postfix.last) c.args.tree.now c.in_ok-base-in-Postfix.base c.in_ok-steps-in-Postfix.steps (terms.step_view c.in_ok-last-in-Postfix.last)
+    (ap (node_view c.tree.inside.at) (sym c.in-Postfix.is ∙ c.deref.ensures) ∙ c.tree.view_is)
+    c.in_ok-base-in-Postfix.ensures.fine c.in_ok-steps-in-Postfix.ensures.fine c.in_ok-last-in-Postfix.ensures.fine
+
+pub resolve_row-returns-in_ok-test-in-Filter-clause-fine : goal.resolve_row-returns-in_ok-test-in-Filter-clause-fine
+resolve_row-returns-in_ok-test-in-Filter-clause-fine t c =
+    rows.filter_row c.args.walk.now c.resolve-in-Filter.new.walk c.resolve_under.new.walk c.tree.inside.at c.in-Filter.name c.in-Filter.set c.in-Filter.test c.args.tree.now c.in_ok-set-in-Filter.set c.in_ok-test-in-Filter.test
+    (ap (node_view c.tree.inside.at) (sym c.in-Filter.is ∙ c.deref.ensures) ∙ c.tree.view_is)
+    c.in_ok-set-in-Filter.ensures.fine c.in_ok-test-in-Filter.ensures.fine
+
+pub resolve_row-returns-in_ok-sets-in-Map-clause-fine : goal.resolve_row-returns-in_ok-sets-in-Map-clause-fine
+resolve_row-returns-in_ok-sets-in-Map-clause-fine t c =
+    rows.map_row c.args.walk.now c.resolve_within.new.walk c.resolve_bounds.new.walk c.tree.inside.at c.in-Map.value c.in-Map.bounds c.args.tree.now c.in_ok-value-in-Map.value c.in_ok-sets-in-Map.sets
+    (ap (node_view c.tree.inside.at) (sym c.in-Map.is ∙ c.deref.ensures) ∙ c.tree.view_is)
+    c.in_ok-value-in-Map.ensures.fine c.in_ok-sets-in-Map.ensures.fine
+
+pub resolve_row-returns-in_ok-value-in-Function-clause-fine : goal.resolve_row-returns-in_ok-value-in-Function-clause-fine
+resolve_row-returns-in_ok-value-in-Function-clause-fine t c =
+    rows.function_row c.args.walk.now c.resolve_bounds-in-Function.new.walk c.resolve_within-in-Function.new.walk c.tree.inside.at c.in-Function.bounds c.in-Function.value c.args.tree.now c.in_ok-sets-in-Function.sets c.in_ok-value-in-Function.value
+    (ap (node_view c.tree.inside.at) (sym c.in-Function.is ∙ c.deref.ensures) ∙ c.tree.view_is)
+    c.in_ok-sets-in-Function.ensures.fine c.in_ok-value-in-Function.ensures.fine
+
+pub resolve_row-returns-in_ok-range-in-FunctionSet-clause-fine : goal.resolve_row-returns-in_ok-range-in-FunctionSet-clause-fine
+resolve_row-returns-in_ok-range-in-FunctionSet-clause-fine t c =
+    rows.function_set_row c.args.walk.now c.resolve-in-FunctionSet.new.walk c.resolve-in-FunctionSet-2.new.walk c.tree.inside.at c.in-FunctionSet.domain c.in-FunctionSet.range c.args.tree.now c.in_ok-domain-in-FunctionSet.domain c.in_ok-range-in-FunctionSet.range
+    (ap (node_view c.tree.inside.at) (sym c.in-FunctionSet.is ∙ c.deref.ensures) ∙ c.tree.view_is)
+    c.in_ok-domain-in-FunctionSet.ensures.fine c.in_ok-range-in-FunctionSet.ensures.fine
+
+pub resolve_row-returns-in_ok-changes-in-Except-clause-fine : goal.resolve_row-returns-in_ok-changes-in-Except-clause-fine
+resolve_row-returns-in_ok-changes-in-Except-clause-fine t c =
+    rows.except_row c.args.walk.now c.resolve-in-Except.new.walk c.resolve_changes.new.walk c.tree.inside.at c.in-Except.function c.in-Except.changes c.args.tree.now c.in_ok-function-in-Except.function c.in_ok-changes-in-Except.changes
+    (ap (node_view c.tree.inside.at) (sym c.in-Except.is ∙ c.deref.ensures) ∙ c.tree.view_is)
+    c.in_ok-function-in-Except.ensures.fine c.in_ok-changes-in-Except.ensures.fine
+
+-- the nested pattern is read from the node as it stands in memory, so both facts are searched for
+pub resolve_row-returns-in_ok-other-in-Case-default-Some-clause-fine : goal.resolve_row-returns-in_ok-other-in-Case-default-Some-clause-fine
+resolve_row-returns-in_ok-other-in-Case-default-Some-clause-fine t c =
+    let tree_is : tree.CaseOther c.tree.inside.at c.in-Case-default-Some.arms c.in-Case-default-Some.other ≡ c.args.tree.now = search (rules, c.in-Case-default-Some.field-1-is, c.in-Case-default-Some.is, c.deref.ensures, c.tree.view_is) in
+    let other : Resolves c.resolve_arms-in-Case-default-Some.new.walk c.resolve-in-Case-default-Some.new.walk c.in-Case-default-Some.other c.in_ok-other-in-Case-default-Some.other = search (rules, c.in_ok-other-in-Case-default-Some.ensures.fine, c.in-Case-default-Some.other-is) in
+    rows.case_other_row c.args.walk.now c.resolve_arms-in-Case-default-Some.new.walk c.resolve-in-Case-default-Some.new.walk c.tree.inside.at c.in-Case-default-Some.arms c.in-Case-default-Some.other c.args.tree.now c.in_ok-arms-in-Case-default-Some.arms c.in_ok-other-in-Case-default-Some.other tree_is c.in_ok-arms-in-Case-default-Some.ensures.fine other
+
+pub resolve_row-returns-in_ok-subscript-in-BoxAction-clause-fine : goal.resolve_row-returns-in_ok-subscript-in-BoxAction-clause-fine
+resolve_row-returns-in_ok-subscript-in-BoxAction-clause-fine t c =
+    rows.box_row c.args.walk.now c.resolve-in-BoxAction.new.walk c.resolve-in-BoxAction-2.new.walk c.tree.inside.at c.in-BoxAction.action c.in-BoxAction.subscript c.args.tree.now c.in_ok-action-in-BoxAction.action c.in_ok-subscript-in-BoxAction.subscript
+    (ap (node_view c.tree.inside.at) (sym c.in-BoxAction.is ∙ c.deref.ensures) ∙ c.tree.view_is)
+    c.in_ok-action-in-BoxAction.ensures.fine c.in_ok-subscript-in-BoxAction.ensures.fine
+
+pub resolve_row-returns-in_ok-subscript-in-AngleAction-clause-fine : goal.resolve_row-returns-in_ok-subscript-in-AngleAction-clause-fine
+resolve_row-returns-in_ok-subscript-in-AngleAction-clause-fine t c =
+    rows.angle_row c.args.walk.now c.resolve-in-AngleAction.new.walk c.resolve-in-AngleAction-2.new.walk c.tree.inside.at c.in-AngleAction.action c.in-AngleAction.subscript c.args.tree.now c.in_ok-action-in-AngleAction.action c.in_ok-subscript-in-AngleAction.subscript
+    (ap (node_view c.tree.inside.at) (sym c.in-AngleAction.is ∙ c.deref.ensures) ∙ c.tree.view_is)
+    c.in_ok-action-in-AngleAction.ensures.fine c.in_ok-subscript-in-AngleAction.ensures.fine
+
+pub resolve_row-returns-in_ok-action-in-Fairness-clause-fine : goal.resolve_row-returns-in_ok-action-in-Fairness-clause-fine
+resolve_row-returns-in_ok-action-in-Fairness-clause-fine t c =
+    rows.fairness_row c.args.walk.now c.resolve-in-Fairness.new.walk c.resolve-in-Fairness-2.new.walk c.tree.inside.at c.in-Fairness.subscript c.in-Fairness.action c.args.tree.now c.in_ok-subscript-in-Fairness.subscript c.in_ok-action-in-Fairness.action
+    (ap (node_view c.tree.inside.at) (sym c.in-Fairness.is ∙ c.deref.ensures) ∙ c.tree.view_is)
+    c.in_ok-subscript-in-Fairness.ensures.fine c.in_ok-action-in-Fairness.ensures.fine
+
 pub resolve_to-returns-clause-fine : goal.resolve_to-returns-clause-fine
 resolve_to-returns-clause-fine t c =
-    opening.opens_to c.args.walk.now c.open.new.walk c.resolve_row.new.walk c.cut.new.self c.args.depth c.in_ok-rows.rows.items c.args.tree.now c.in_ok-rows.rest.now (terms.node_view c.in_ok-node.node) c.in_ok-term.term c.in_ok-whole.whole c.in_ok-rows.ensures.fine c.in_ok-node.ensures.fine
+    opening.opens_to c.args.walk.now c.open.new.walk c.resolve_row.new.walk c.cut.new.self c.args.depth c.in_ok-rows.rows.items c.args.tree.now c.in_ok-rows.rest.now (terms.node_view c.in_ok-node.node) c.in_ok-term.term c.in_ok-whole.whole c.is_around.ensures c.in_ok-rows.ensures.fine c.in_ok-node.ensures.fine
     (c.in_ok-term.ensures ∙ ap (λ at. term.Placed at (level_for c.resolve_row.new.walk.table (terms.node_view c.in_ok-node.node)) (terms.node_view c.in_ok-node.node)) (sym (opening.place_is c.rest.inside.at c.rest.inside.node.value) ∙ ap place_of c.rest.view_is))
     c.cut.ensures c.in_ok-whole.ensures
 
@@ -315,7 +385,7 @@ open-open_row-requires t c =
 
 pub open-returns-in_err-last-clause-refused : goal.open-returns-in_err-last-clause-refused
 open-returns-in_err-last-clause-refused t c =
-    stopped c.from_residual.result c.in_err-last.field-0.0 (Complains (complaint (takes c.args.walk.now.here) c.args.tree.now)) c.from_residual.ensures.1
+    stopped c.from_residual.result c.in_err-last.field-0.0 (Complains (complaint (takes c.args.walk.now) c.args.tree.now)) c.from_residual.ensures.1
     (opening.opens_refused c.args.walk.now c.loop-rows.walk c.loop-rows.rows.items c.args.tree.now c.loop-rows.rest.now c.in_err-last.field-0.0 c.loop-rows.invariant c.in_err-last.ensures.refused)
 
 pub open-loop-rows-preserved : goal.open-loop-rows-preserved

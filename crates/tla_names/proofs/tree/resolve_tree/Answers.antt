@@ -8,15 +8,15 @@ returns-clause-grown c =
 
 pub returns-clause-means : goal.returns-clause-means
 returns-clause-means c =
-    all_means c.new-walk.result c.resolve_in-outcome.new.walk c.args.names.now c.into_table.result c.args.params.now c.args.tree.now c.resolve_in-outcome.result c.new-walk.ensures.names c.new-walk.ensures.scope c.into_table.ensures.table c.resolve_in-outcome.ensures.fine
+    all_means c.new-walk.result c.resolve_in-outcome.new.walk c.args.names.now c.args.table.now c.into_table.result c.args.params.now c.args.tree.now c.resolve_in-outcome.result c.new-walk.ensures.names c.new-walk.ensures.scope (c.new-walk.ensures.table ∙ c.replace-before.ensures.value) c.into_table.ensures.table c.resolve_in-outcome.ensures.fine
 
 pub returns-clause-fine : goal.returns-clause-fine
 returns-clause-fine c =
-    all_fine c.new-walk.result c.resolve_in-outcome.new.walk c.args.names.now c.args.params.now c.args.tree.now c.resolve_in-outcome.result c.new-walk.ensures.names c.new-walk.ensures.scope c.resolve_in-outcome.ensures.fine
+    all_fine c.new-walk.result c.resolve_in-outcome.new.walk c.args.names.now c.args.table.now c.args.params.now c.args.tree.now c.resolve_in-outcome.result c.new-walk.ensures.names c.new-walk.ensures.scope (c.new-walk.ensures.table ∙ c.replace-before.ensures.value) c.resolve_in-outcome.ensures.fine
 
 pub returns-clause-refused : goal.returns-clause-refused
 returns-clause-refused c =
-    all_refused c.new-walk.result c.args.names.now c.args.params.now c.args.tree.now c.resolve_in-outcome.result c.new-walk.ensures.names c.new-walk.ensures.scope c.resolve_in-outcome.ensures.refused
+    all_refused c.new-walk.result c.args.names.now c.args.table.now c.args.params.now c.args.tree.now c.resolve_in-outcome.result c.new-walk.ensures.names c.new-walk.ensures.scope (c.new-walk.ensures.table ∙ c.replace-before.ensures.value) c.resolve_in-outcome.ensures.refused
 
 pub returns-clause-below : goal.returns-clause-below
 returns-clause-below c =

@@ -1,11 +1,10 @@
 use Rattle.std.proofs.Common.{◌≡◌, ◌<◌, ◌∙◌, refl, ap, sym, arith, true, false}
-use Rattle.std.specs.Str.{bytes_eq}
 use Rattle.tla_ast.specs.Trees as tree
 use Rattle.tla_ast.specs.Trees.{Tree}
 use Rattle.tla_ast.specs.TreeSizes.{tree_size, trees_size, operands_size, step_size, steps_size, bounds_size, fields_size, changes_size, arms_size, definitions_size}
 use Rattle.tla_ast.specs.TreeViews.{step_view, trees_of, operands_of, steps_of, bounds_of, fields_of, changes_of, arms_of, definitions_of}
 use Rattle.tla_scopes.specs.Mentions.{is_one_of, mentions, mentions_each, mentions_operands, mentions_step, mentions_steps, mentions_bounds, mentions_fields, mentions_changes, mentions_arms, mentions_definitions}
-use Rattle.tla_scopes.proofs.Below.{tree_below, others_below, first_below, operand_below, step_below, set_below, field_below, path_below, change_below, test_below, arm_below, body_below, step_falls}
+use Rattle.tla_scopes.proofs.Below.{tree_below, first_below, operand_below, step_below, set_below, field_below, path_below, change_below, test_below, arm_below, body_below, step_falls}
 use Rattle.tla_scopes.specs.FirstOperands.{first_of}
 use Rattle.tla_scopes.proofs.FirstLemmas.{first_is}
 use Rattle.tla_scopes.proofs.MentionLoops as loops

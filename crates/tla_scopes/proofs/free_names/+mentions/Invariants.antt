@@ -1,6 +1,3 @@
-use Rattle.std.proofs.Common.{◌≡◌, ◌≤◌}
-use Rattle.tla_ast.specs.TreeSizes.{tree_size}
-use Rattle.tla_scopes.specs.Mentions.{mentions}
 use Rattle.tla_scopes.proofs.MentionLoops.{EachSoFar, StepsSoFar, BoundsSoFar, FieldsSoFar, ChangesSoFar, ArmsSoFar, DefinitionsSoFar, OthersSoFar, Reaches}
 use Rattle.tla_scopes.proofs.free_names.+mentions.Given as goal
 

@@ -1,4 +1,4 @@
-use Rattle.std.proofs.Common.{◌≡◌, ◌∙◌, refl, ap, sym}
+use Rattle.std.proofs.Common.{◌∙◌, refl, ap, sym}
 use Rattle.tla_ast.specs.Trees as tree
 use Rattle.tla_scopes.specs.Mentions.{binds, is_one_of}
 use Rattle.tla_scopes.proofs.MentionLoops as loops

@@ -1,4 +1,4 @@
-use Rattle.std.proofs.Common.{◌≡◌, ◌∙◌, refl, ap, sym}
+use Rattle.std.proofs.Common.{◌∙◌, refl, ap, sym}
 use Rattle.tla_ast.specs.Trees as tree
 use Rattle.tla_scopes.specs.Mentions.{defines}
 use Rattle.tla_scopes.proofs.MentionLoops as loops

@@ -1,4 +1,4 @@
-use Rattle.std.proofs.Common.{◌≡◌, ◌∙◌, ap}
+use Rattle.std.proofs.Common.{◌∙◌, ap}
 use Rattle.tla_terms.specs.Terms.{First}
 use Rattle.tla_terms.specs.Levels.{of_operands}
 use Rattle.tla_scopes.proofs.levels.of_operands.Goals as goal

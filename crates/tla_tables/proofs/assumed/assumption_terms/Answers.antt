@@ -3,7 +3,8 @@ use Rattle.std.specs.Borrow.{Bor}
 use Rattle.tla_ast.specs.Trees.{Tree}
 use Rattle.tla_program.specs.InUnits.{assumptions_in}
 use Rattle.tla_program.specs.Names.{numbers_of}
-use Rattle.tla_tables.proofs.Assuming.{all_meant, assumed_fine, assumed_on, known_still, none_assumed}
+use Rattle.tla_names.proofs.StandingOn.{grown_stands}
+use Rattle.tla_tables.proofs.Assuming.{all_meant, assumed_so, assumed_on, known_still, none_assumed}
 use Rattle.tla_tables.proofs.Places.{read_at}
 use Rattle.tla_tables.proofs.assumed.assumption_terms.Goals as goal
 
@@ -16,13 +17,13 @@ term_of-requires c =
     record {
       known = known_still c.args.table.now c.loop-tree.table (assumptions_in c.args.program.now.units) c.loop-tree.tree-index c.loop-tree.terms c.loop-tree.invariant c.requires.known;
       ordered = c.loop-tree.invariant.smaller;
-      fine = assumed_fine c.args.program.now c.args.config.now c.requires.tabled.0 (numbers_of c.args.table.now.numbers.items) c.args.table.now.names c.loop-tree.table.names c.args.table.now.operators c.new-params.result c.requires.fine c.requires.tabled.1 c.requires.tabled.2 c.loop-tree.invariant.names c.new-params.ensures c.loop-tree.tree-index c.tree-item.result.now at;
+      fine = assumed_so c.args.program.now c.args.config.now c.requires.tabled.0 (numbers_of c.args.table.now.numbers.items) c.args.table.now.names c.loop-tree.table.names c.args.table.now.operators c.loop-tree.table.operators c.new-params.result c.requires.fine c.requires.tabled.1 c.requires.tabled.2 c.requires.known c.loop-tree.invariant.grown c.loop-tree.invariant.names c.new-params.ensures c.loop-tree.tree-index c.tree-item.result.now at;
     }
 
 pub loop-tree-preserved : goal.loop-tree-preserved
 loop-tree-preserved c =
     let at = read_at c.deref-tree-items.result.now (assumptions_in c.args.program.now.units) c.loop-tree.tree-index c.tree-item.result (ap (map (λ (d : Bor Tree). d.now)) c.deref-tree-items.ensures.value ∙ c.in_ok-trees.ensures) c.loop-tree-test.true c.tree-item.is in
-    assumed_on c.args.table.now c.loop-tree.table _ (assumptions_in c.args.program.now.units) c.loop-tree.tree-index c.loop-tree.terms c.push.new.self c.new-params.result c.tree-item.result.now c.in_ok-term.term refl refl c.in_ok-term.ensures.grown c.in_ok-term.ensures.smaller c.in_ok-term.ensures.unnamed c.in_ok-term.ensures.below c.in_ok-term.ensures.means c.new-params.ensures at c.in_ok-push.ensures.pushed c.loop-tree.invariant
+    assumed_on c.args.table.now c.loop-tree.table _ (assumptions_in c.args.program.now.units) c.loop-tree.tree-index c.loop-tree.terms c.push.new.self c.new-params.result c.tree-item.result.now c.in_ok-term.term refl refl c.in_ok-term.ensures.grown c.in_ok-term.ensures.smaller c.in_ok-term.ensures.unnamed c.in_ok-term.ensures.below (λ all g. c.in_ok-term.ensures.means all (grown_stands _ _ g)) c.new-params.ensures at c.in_ok-push.ensures.pushed c.loop-tree.invariant
 
 pub returns : goal.returns
 returns c = record {

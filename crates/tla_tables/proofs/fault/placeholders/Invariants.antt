@@ -1,9 +1,10 @@
-use Rattle.std.proofs.Common.{◌≡◌, length}
+use Rattle.std.proofs.Common.{◌≡◌, take}
 use Rattle.term_parts.specs.Slots.{UsesSmaller}
+use Rattle.tla_tables.proofs.Placeholders.{marks_of}
 use Rattle.tla_tables.proofs.fault.placeholders.Given as goal
 
-abbrev pub invariant-loop-made : goal.invariant-loop-made
-invariant-loop-made l = record {
-  count : length l.table ≡ l.made;
+abbrev pub invariant-loop-above : goal.invariant-loop-above
+invariant-loop-above l = record {
   smaller : UsesSmaller l.table;
+  levels : marks_of l.table ≡ take l.above-index l.levels;
 }

@@ -1,45 +1,41 @@
-use Rattle.std.proofs.Common.{◌≡◌, ◌∙◌, sym, ap, subst, ℕ, List, length, arith}
+use Rattle.std.proofs.Common.{◌≡◌, ◌∙◌, sym, ap, subst, ℕ, length, ◌<◌, ◌≤◌, arith}
 use Rattle.std.specs.Borrow.{Bor}
 use Rattle.std.proofs.lemmas.List.{length-map}
-use Rattle.tla_values.specs.Data.{Val}
 use Rattle.tla_ast.specs.declared.expr.Definition.{Definition}
-use Rattle.tla_scopes.specs.declared.meant.Entry.{Entry}
 use Rattle.tla_program.specs.InUnits.{definitions_in}
-use Rattle.tla_program.specs.Names.{AreByDefinition, AreNames, by_index}
 use Rattle.use_order.specs.Uses.{table_of}
-use Rattle.tla_tables.specs.Filling.{IsBegun}
-use Rattle.tla_tables.proofs.Filling.{begun_filled, filled_on, fine_next, next_stands, next_within}
+use Rattle.tla_tables.specs.Filling.{Filled}
+use Rattle.tla_tables.proofs.Marking.{marked_in}
+use Rattle.tla_tables.proofs.Places.{read_at}
+use Rattle.tla_tables.proofs.Settling.{filled_settled, fine_body, number_there}
 use Rattle.tla_tables.proofs.table.filled.Goals as goal
 
-pub loop-next-init : goal.loop-next-init
-loop-next-init c =
-    let made = c.in_ok-definitions.definitions in
-    let many : c.len-2.result ≡ length (definitions_in c.args.program.now.units) = c.len-2.ensures ∙ made.ok.0 ∙ sym (length-map made.items (λ (d : Bor Definition). d.now)) ∙ ap length c.in_ok-definitions.ensures in
-    begun_filled c.args.program.now c.args.config.now c.args.names.now c.args.order.now c.in_ok-table.table (subst (λ (n : ℕ). IsBegun c.args.names.now n c.in_ok-table.table) many c.in_ok-table.ensures)
-
 pub index-definition-requires : goal.index-definition-requires
-index-definition-requires c =
-    let made = c.in_ok-definitions.definitions in
-    let many : length made.items ≡ length (definitions_in c.args.program.now.units) = sym (length-map made.items (λ (d : Bor Definition). d.now)) ∙ ap length c.in_ok-definitions.ensures in
-    let within = next_within (table_of c.args.uses.now) c.args.order.now c.loop-next.next-index c.requires.ordered c.loop-next-test.true in
-    omega (arith, within, many, made.ok.0, c.requires.used.as_many)
+index-definition-requires c = (let lt : c.loop-index.index < c.len-index-end.result = c.loop-index-test.true in omega (arith, lt, c.len-index-end.ensures))
 
-pub add-requires-clause-within : goal.add-requires-clause-within
-add-requires-clause-within c =
-    let within = next_within (table_of c.args.uses.now) c.args.order.now c.loop-next.next-index c.requires.ordered c.loop-next-test.true in
-    omega (arith, within, c.requires.used.as_many, c.loop-next.invariant.as_many)
+pub settle_if-requires-clause-numbered : goal.settle_if-requires-clause-numbered
+settle_if-requires-clause-numbered c =
+    let lt : c.loop-index.index < length c.in_ok-definitions.definitions.items = omega (arith, c.loop-index-test.true, c.len-index-end.ensures, c.in_ok-definitions.definitions.ok.0) in
+    let stands = read_at c.in_ok-definitions.definitions.items (definitions_in c.args.program.now.units) c.loop-index.index c.index-definition.result.now c.in_ok-definitions.ensures lt c.index-definition.ensures in
+    let le : length c.args.order.now ≤ length c.args.order.now = omega arith in
+    number_there c.args.program.now c.args.config.now c.requires.are.0 c.args.names.now c.requires.are.1 c.args.marks.now (table_of c.args.uses.now) c.args.order.now c.requires.ordered (length c.args.order.now) le c.requires.fine c.requires.used (marked_in c.args.program.now c.args.config.now (table_of c.args.uses.now) c.args.marks.now c.requires.used c.requires.recursive) c.loop-index.index c.index-definition.result.now.now stands c.loop-index.table c.loop-index.invariant
 
-pub add-requires-clause-fine : goal.add-requires-clause-fine
-add-requires-clause-fine c =
-    let uses = table_of c.args.uses.now in
-    let j = c.loop-next.next-index in
-    let stands = next_stands uses c.args.order.now j c.requires.ordered c.loop-next-test.true c.in_ok-definitions.definitions.items (definitions_in c.args.program.now.units) c.index-definition.result.now c.requires.used.as_many c.in_ok-definitions.ensures c.index-definition.ensures in
-    fine_next c.args.program.now c.args.config.now c.requires.are.0 c.args.names.now c.requires.are.1 uses c.args.order.now c.requires.ordered j c.loop-next-test.true c.index-definition.result.now.now stands c.loop-next.table c.loop-next.invariant c.requires.fine c.requires.used
+pub settle_if-requires-clause-fine : goal.settle_if-requires-clause-fine
+settle_if-requires-clause-fine c =
+    let lt : c.loop-index.index < length c.in_ok-definitions.definitions.items = omega (arith, c.loop-index-test.true, c.len-index-end.ensures, c.in_ok-definitions.definitions.ok.0) in
+    let stands = read_at c.in_ok-definitions.definitions.items (definitions_in c.args.program.now.units) c.loop-index.index c.index-definition.result.now c.in_ok-definitions.ensures lt c.index-definition.ensures in
+    let le : length c.args.order.now ≤ length c.args.order.now = omega arith in
+    fine_body c.args.program.now c.args.config.now c.requires.are.0 c.args.names.now c.requires.are.1 c.args.marks.now (table_of c.args.uses.now) c.args.order.now c.requires.ordered (length c.args.order.now) le c.requires.fine c.requires.used (marked_in c.args.program.now c.args.config.now (table_of c.args.uses.now) c.args.marks.now c.requires.used c.requires.recursive) c.loop-index.index c.index-definition.result.now.now stands c.loop-index.table c.loop-index.invariant
 
-pub loop-next-preserved : goal.loop-next-preserved
-loop-next-preserved c =
-    let uses = table_of c.args.uses.now in
-    let j = c.loop-next.next-index in
-    let stands = next_stands uses c.args.order.now j c.requires.ordered c.loop-next-test.true c.in_ok-definitions.definitions.items (definitions_in c.args.program.now.units) c.index-definition.result.now c.requires.used.as_many c.in_ok-definitions.ensures c.index-definition.ensures in
-    let lists : (ws : List Val) → AreNames c.args.program.now c.args.config.now ws by_index c.args.names.now → AreByDefinition c.args.program.now c.args.config.now ws c.deref.result.now = λ ws a. subst (λ (l : List (List Entry)). AreByDefinition c.args.program.now c.args.config.now ws l) (sym c.deref.ensures.value) (c.in_ok-by_definition.ensures.are c.args.program.now c.args.config.now ws a) in
-    filled_on c.args.program.now c.args.config.now c.requires.are.0 c.args.names.now c.requires.are.1 uses c.args.order.now c.requires.ordered j c.loop-next-test.true c.index-definition.result.now.now stands c.loop-next.table c.loop-next.invariant c.deref.result.now lists c.add.new.table c.in_ok-add.ensures
+pub loop-index-preserved : goal.loop-index-preserved
+loop-index-preserved c =
+    let lt : c.loop-index.index < length c.in_ok-definitions.definitions.items = omega (arith, c.loop-index-test.true, c.len-index-end.ensures, c.in_ok-definitions.definitions.ok.0) in
+    let stands = read_at c.in_ok-definitions.definitions.items (definitions_in c.args.program.now.units) c.loop-index.index c.index-definition.result.now c.in_ok-definitions.ensures lt c.index-definition.ensures in
+    let le : length c.args.order.now ≤ length c.args.order.now = omega arith in
+    filled_settled c.args.program.now c.args.config.now c.requires.are.0 c.args.names.now c.requires.are.1 c.args.marks.now (table_of c.args.uses.now) c.args.order.now c.requires.ordered (length c.args.order.now) le c.requires.fine c.requires.used (marked_in c.args.program.now c.args.config.now (table_of c.args.uses.now) c.args.marks.now c.requires.used c.requires.recursive) c.loop-index.index c.index-definition.result.now.now stands c.loop-index.table c.loop-index.invariant c.is_marked-itself.result c.settle_if.new.table c.is_marked-itself.ensures c.in_ok-settle_if.ensures
+
+pub returns : goal.returns
+returns c =
+    let many : c.len-index-end.result ≡ length (definitions_in c.args.program.now.units) = c.len-index-end.ensures ∙ c.in_ok-definitions.definitions.ok.0 ∙ sym (length-map c.in_ok-definitions.definitions.items (λ (d : Bor Definition). d.now)) ∙ ap length c.in_ok-definitions.ensures in
+    let end : c.loop-index.index ≡ length (definitions_in c.args.program.now.units) = omega (arith, many, c.loop-index-test.false, c.loop-index.auto.index-end) in
+    subst (λ (n : ℕ). Filled c.args.program.now c.args.config.now c.args.names.now c.args.marks.now c.args.order.now (length c.args.order.now) n c.loop-index.table) end c.loop-index.invariant

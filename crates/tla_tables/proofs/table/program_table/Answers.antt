@@ -1,19 +1,28 @@
-use Rattle.std.proofs.Common.{sym, subst, ℕ, List}
-use Rattle.use_order.specs.Uses.{IsOrder, table_of}
-use Rattle.tla_tables.proofs.Filling.{lasting, tabled}
-use Rattle.tla_tables.proofs.Marking.{never_itself, ordered_by}
+use Rattle.std.proofs.Common.{◌∙◌, sym, subst, List}
+use Rattle.std.specs.Prelude.{Bool, IsTrue, false}
+use Rattle.std.specs.List.{slice_index_or}
+use Rattle.use_order.specs.Uses.{table_of}
+use Rattle.tla_tables.proofs.Marking.{order_with, recursive_with}
+use Rattle.tla_tables.proofs.Settling.{lasting, tabled}
 use Rattle.tla_tables.proofs.table.program_table.Goals as goal
 
-pub unreachable-requires : goal.unreachable-requires
-unreachable-requires c =
-    never_itself c.args.program.now c.args.config.now (table_of c.args.uses.now) c.in_ok-found.found _ c.requires.fine c.requires.used c.in_ok-found.ensures.ordered c.in-None.is
+pub order_apart-requires-clause-marked : goal.order_apart-requires-clause-marked
+order_apart-requires-clause-marked c a u =
+    subst (λ (l : List Bool). IsTrue (slice_index_or l a false)) (sym c.deref.ensures.value) ((c.in_ok-marks.ensures.exact a).1 u)
+
+pub filled-requires-clause-recursive : goal.filled-requires-clause-recursive
+filled-requires-clause-recursive c = recursive_with (table_of c.args.uses.now) c.in_ok-marks.marks.items c.deref-2.result.now c.deref-2.ensures.value c.in_ok-marks.ensures.exact
+
+pub filled-requires-clause-ordered : goal.filled-requires-clause-ordered
+filled-requires-clause-ordered c =
+    order_with (table_of c.args.uses.now) c.deref.result.now c.deref-2.result.now c.in_ok-order.order.items c.deref-3.result.now (c.deref-2.ensures.value ∙ sym c.deref.ensures.value) c.deref-3.ensures.value c.in_ok-order.ensures
 
 pub returns-clause-tabled : goal.returns-clause-tabled
 returns-clause-tabled c =
-    let is = subst (λ (l : List ℕ). IsOrder (table_of c.args.uses.now) l) (sym c.deref.ensures.value) (ordered_by (table_of c.args.uses.now) c.in_ok-found.found _ _ c.in-Some.order c.in_ok-found.ensures.ordered c.in-Some.is) in
-    tabled c.args.program.now c.args.config.now c.args.names.now (table_of c.args.uses.now) c.deref.result.now c.filled.result c.requires.used is c.filled.ensures
+    let is = order_with (table_of c.args.uses.now) c.deref.result.now c.deref-2.result.now c.in_ok-order.order.items c.deref-3.result.now (c.deref-2.ensures.value ∙ sym c.deref.ensures.value) c.deref-3.ensures.value c.in_ok-order.ensures in
+    tabled c.args.program.now c.args.config.now c.args.names.now c.deref-2.result.now (table_of c.args.uses.now) c.deref-3.result.now c.filled.result c.requires.used is c.filled.ensures
 
 pub returns-clause-lasting : goal.returns-clause-lasting
 returns-clause-lasting c =
-    let is = subst (λ (l : List ℕ). IsOrder (table_of c.args.uses.now) l) (sym c.deref.ensures.value) (ordered_by (table_of c.args.uses.now) c.in_ok-found.found _ _ c.in-Some.order c.in_ok-found.ensures.ordered c.in-Some.is) in
-    lasting c.args.program.now c.args.config.now c.args.names.now (table_of c.args.uses.now) c.deref.result.now c.filled.result c.requires.used is c.filled.ensures
+    let is = order_with (table_of c.args.uses.now) c.deref.result.now c.deref-2.result.now c.in_ok-order.order.items c.deref-3.result.now (c.deref-2.ensures.value ∙ sym c.deref.ensures.value) c.deref-3.ensures.value c.in_ok-order.ensures in
+    lasting c.args.program.now c.args.config.now c.args.names.now c.deref-2.result.now (table_of c.args.uses.now) c.deref-3.result.now c.filled.result c.requires.used is c.filled.ensures

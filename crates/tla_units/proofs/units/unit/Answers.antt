@@ -35,11 +35,6 @@ returns-in-Some-Underscore-clause-refused c =
     let q : Some marks.Underscore ≡ first_mark (drop c.args.from c.args.laid.now) = search rules in
     other_refused (DeepUnit (drop c.args.from c.args.laid.now)) (drop c.args.from c.args.laid.now) _ (Some marks.Underscore) q (λ b. b) c.fault_at-in-Some-Underscore.ensures
 
-pub returns-in-Some-Recursive-clause-refused : goal.returns-in-Some-Recursive-clause-refused
-returns-in-Some-Recursive-clause-refused c =
-    let q : Some marks.Recursive ≡ first_mark (drop c.args.from c.args.laid.now) = search rules in
-    other_refused (DeepUnit (drop c.args.from c.args.laid.now)) (drop c.args.from c.args.laid.now) _ (Some marks.Recursive) q (λ b. b) c.fault_at.ensures
-
 pub returns-in-Some-Defined-clause-refused : goal.returns-in-Some-Defined-clause-refused
 returns-in-Some-Defined-clause-refused c =
     let q : Some marks.Defined ≡ first_mark (drop c.args.from c.args.laid.now) = search rules in

@@ -1,5 +1,5 @@
 use Rattle.std.proofs.Common.{◌≡◌, ◌∙◌, sym, ap, subst, List, ℕ, ◌-◌, length, arith}
-use Rattle.std.specs.Prelude.{Option, Some, None, vec_len}
+use Rattle.std.specs.Prelude.{Some, None, vec_len}
 use Rattle.std.specs.Str.{bytes_eq}
 use Rattle.std.specs.HashMap.{get, Updates}
 use Rattle.tla_scopes.specs.declared.meant.Entry.{Entry}

@@ -1,4 +1,4 @@
-use Rattle.std.proofs.Common.{◌≡◌, ◌∙◌, sym, ap, subst, List, [], ◌∷◌, ◌++◌}
+use Rattle.std.proofs.Common.{◌∙◌, sym, ap, subst, List, [], ◌∷◌, ◌++◌}
 use Rattle.tla_scopes.specs.declared.scope.Local.{Local}
 use Rattle.tla_scopes.specs.declared.scope.Local.TheVariants.{Bound}
 use Rattle.tla_scopes.specs.Standing.{AddsSlots}

@@ -1,7 +1,6 @@
 use Rattle.std.proofs.Common.{◌≡◌, drop}
 use Rattle.tla_scopes.specs.Standing.{AddsSlots}
 use Rattle.tla_scopes.specs.Scopes.{bind}
-use Rattle.tla_scopes.proofs.ScopeLemmas.{adds_none, adds_one}
 use Rattle.tla_scopes.proofs.scope.Scope.bind.Given as goal
 
 abbrev pub invariant-loop-name : goal.invariant-loop-name

@@ -1,4 +1,4 @@
-use Rattle.std.proofs.Common.{◌≡◌, ◌∙◌, sym, ap}
+use Rattle.std.proofs.Common.{◌∙◌, ap}
 use Rattle.tla_scopes.specs.Scopes.{bind}
 use Rattle.tla_scopes.proofs.ScopeLemmas.{adds_on, bound_on}
 use Rattle.tla_scopes.proofs.scope.Scope.bind_bounds.Goals as goal

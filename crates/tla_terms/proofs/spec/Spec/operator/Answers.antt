@@ -1,4 +1,4 @@
-use Rattle.std.proofs.Common.{rules, ◌≡◌, ◌<◌, ℕ, Some, slice_get, refl}
+use Rattle.std.proofs.Common.{rules, ◌≡◌, refl}
 use Rattle.std.proofs.lemmas.Option.{slice_get_read}
 use Rattle.tla_terms.specs.Named.{IsNamed}
 use Rattle.tla_terms.proofs.Naming.{none_before, none_at_all, within_named, other_name}

@@ -1,0 +1,9 @@
+pub mod Defining
+pub mod Finding
+pub mod Items
+pub mod Mapped
+pub mod Mentioned
+pub mod Raising
+pub mod Stepping
+pub mod Telling
+pub mod Walks

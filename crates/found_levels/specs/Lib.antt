@@ -1,0 +1,3 @@
+pub mod Found
+pub mod OnTheWay
+pub mod Raised

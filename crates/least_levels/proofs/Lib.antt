@@ -1,0 +1,2 @@
+pub mod Monotone
+pub mod Walking

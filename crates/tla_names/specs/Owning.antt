@@ -1,0 +1,13 @@
+-- How a definition of a LET uses itself.
+use Rattle.std.specs.Prelude.{ℕ, if◌then◌else◌, List}
+use Rattle.tla_ast.specs.declared.form.DefinitionForm.{DefinitionForm}
+use Rattle.tla_ast.specs.declared.form.DefinitionForm.TheVariants as forms
+use Rattle.tla_ast.specs.Trees.{Tree}
+use Rattle.tla_terms.specs.declared.operator.Own.{Own}
+use Rattle.tla_terms.specs.declared.operator.Own.TheVariants as owns
+use Rattle.tla_scopes.specs.Mentions.{is_one_of, mentions}
+
+-- a function `N[B] == E` may, by its name; a parameter of its name hides it
+abbrev pub own_of : DefinitionForm → List ℕ → List (List ℕ) → Tree → Own
+own_of forms.Operator n ps e = owns.Apart
+own_of forms.Function n ps e = if is_one_of n ps then owns.Apart else (if mentions n e then owns.Function else owns.Apart)
