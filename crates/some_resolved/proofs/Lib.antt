@@ -1,0 +1,14 @@
+pub mod Leading
+pub mod Ordering
+pub mod Using
+pub mod Searching
+pub mod NameFaults
+pub mod Valuing
+pub mod Vectors
+pub mod Placing
+pub mod Filled
+pub mod Assumed
+pub mod LevelFaults
+pub mod NoMemory
+pub mod Operators
+pub mod Outcomes

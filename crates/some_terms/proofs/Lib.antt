@@ -1,0 +1,5 @@
+pub mod Reading
+pub mod Named
+pub mod Defining
+pub mod Trees
+pub mod Terms
