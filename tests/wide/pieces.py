@@ -79,7 +79,7 @@ PASSED_OVER = [
     passed("what a theorem assumes", "THEOREM ASSUME NEW CONSTANT c, NEW y PROVE c = c\n  OMITTED\n"),
     passed("USE and HIDE", "USE DEF Init\nHIDE DEF Next\n"),
     passed("several", f"ASSUME {BAD}\nD == {BAD}\nCONSTANT F(_)\n", f"ASSUME {at(6)}", f"DEFINITION D {at(7)}", f"DECLARATION F {at(8)}"),
-    row("one behind and one before what is needed", "D == I!N\n" + BASE.partition("VARIABLE x\n")[2] + f"E == {BAD}\n",
+    row("one behind and one before what is needed", "D == LAMBDA n : n\n" + BASE.partition("VARIABLE x\n")[2] + f"E == {BAD}\n",
         told(f"DEFINITION D {at(4)}", f"DEFINITION E {at(7)}"), base=BASE.partition("Init")[0]),
 ]
 

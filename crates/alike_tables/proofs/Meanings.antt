@@ -225,6 +225,7 @@ module _ (Same : Val → Val → Type 0) (ops all : List Operator) (R : ℕ → 
     alike i sc tc (tree.Builtin at x) e f s b g h = at_row (tree.Builtin at x) (term.Named (builtin_set x)) (term.Named (builtin_set x)) e f g h (named_alike (builtin_set x))
     alike i sc tc (tree.Name at x) e f s b g h = of_use i sc tc (tree.Name at x) x term.NoTerms term.NoTerms g.0 h.0 e f s b g.1 h.1 g.2 h.2 (λ r. no_terms_alike)
     alike i sc tc (tree.Call at x es) e f s b g h = of_use i sc tc (tree.Call at x es) x g.0 h.0 g.1 h.1 e f s b g.3 h.3 g.4 h.4 (λ r. each i sc tc es g.0 h.0 s r g.2 h.2)
+    alike i sc tc (tree.Qualified at x es) e f s b g h = of_use i sc tc (tree.Qualified at x es) x g.0 h.0 g.1 h.1 e f s b g.3 h.3 g.4 h.4 (λ r. each i sc tc es g.0 h.0 s r g.2 h.2)
     alike i sc tc (tree.At at) e f s b g h = of_use i sc tc (tree.At at) at_sign term.NoTerms term.NoTerms g.0 h.0 e f s b g.1 h.1 g.2 h.2 (λ r. no_terms_alike)
     alike i sc tc (tree.Parenthesized at a) e f s b g h =
         let r : Within i (term.Parenthesized g.0) = inside i (tree.Parenthesized at a) (term.Parenthesized g.0) e g.2 b in

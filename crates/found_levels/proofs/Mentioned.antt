@@ -3,7 +3,7 @@ use Rattle.std.proofs.Common.{◌≡◌, refl, List, [], ◌∷◌}
 use Rattle.std.specs.Prelude.{ℕ, Bool, true, false, not, ◌&&◌, ◌||◌, if◌then◌else◌}
 use Rattle.std.specs.Str.{bytes_eq}
 use Rattle.std.specs.Cmp.Lexicographic.{bytes_decides}
-use Rattle.tla_ast.specs.Trees.{Tree, Number, Str, Truth, Builtin, Name, Call, At, Parenthesized, Junction, Prefix, Infix, Postfix, SetOf, Filter, Map, Tuple, Function, FunctionSet, Record, RecordSet, Except, Quantified, Choose, If, Case, CaseOther, Let, BoxAction, AngleAction, Fairness, Trees, NoTrees, MoreTrees, Operands, First, Next, Step, Prime, Index, Field, Steps, NoSteps, MoreSteps, Bounds, NoBounds, MoreBounds, Fields, NoFields, MoreFields, Changes, NoChanges, MoreChanges, Arms, NoArms, MoreArms, Definitions, NoDefinitions, MoreDefinitions}
+use Rattle.tla_ast.specs.Trees.{Tree, Number, Str, Truth, Builtin, Name, Call, Qualified, At, Parenthesized, Junction, Prefix, Infix, Postfix, SetOf, Filter, Map, Tuple, Function, FunctionSet, Record, RecordSet, Except, Quantified, Choose, If, Case, CaseOther, Let, BoxAction, AngleAction, Fairness, Trees, NoTrees, MoreTrees, Operands, First, Next, Step, Prime, Index, Field, Steps, NoSteps, MoreSteps, Bounds, NoBounds, MoreBounds, Fields, NoFields, MoreFields, Changes, NoChanges, MoreChanges, Arms, NoArms, MoreArms, Definitions, NoDefinitions, MoreDefinitions}
 use Rattle.tla_scopes.specs.Mentions.{is_one_of, binds, defines, mentions, mentions_each, mentions_operands, mentions_step, mentions_steps, mentions_bounds, mentions_fields, mentions_changes, mentions_arms, mentions_definitions}
 use Rattle.tla_scopes.specs.Scopes.{at_sign}
 use Rattle.least_levels.specs.Rising.{Rising, with_name, without, without_bounds, with_own, prefix_rises, infix_rises, rises, rises_each, rises_operands, rises_step, rises_steps, rises_bounds, rises_fields, rises_changes, rises_arms, with_definitions}
@@ -87,6 +87,7 @@ mutual
   same (Builtin at b) g h o = refl
   same (Name at n) g h o = o n (itself_is n)
   same (Call at m es) g h o = both (g m) (rises_each g es) (h m) (rises_each h es) (o m (or_left (bytes_eq m m) (mentions_each m es) (itself_is m))) (each_same es g h (right (λ n. bytes_eq m n) (λ n. mentions_each n es) g h o))
+  same (Qualified at m es) g h o = both (g m) (rises_each g es) (h m) (rises_each h es) (o m (or_left (bytes_eq m m) (mentions_each m es) (itself_is m))) (each_same es g h (right (λ n. bytes_eq m n) (λ n. mentions_each n es) g h o))
   same (At at) g h o = o at_sign (itself_is at_sign)
   same (Parenthesized at e) g h o = same e g h o
   same (Junction at b es) g h o = each_same es g h o

@@ -2,7 +2,7 @@
 use Rattle.std.proofs.Common.{◌≡◌, ◌∙◌, sym, ap, refl, List, [], ◌∷◌, ◌++◌}
 use Rattle.std.specs.Prelude.{◌||◌, ℕ, Bool, true, false}
 use Rattle.tla_scopes.specs.Scopes.{at_sign}
-use Rattle.tla_ast.specs.Trees.{Tree, Number, Str, Truth, Builtin, Name, Call, At, Parenthesized, Junction, Prefix, Infix, Postfix, SetOf, Filter, Map, Tuple, Function, FunctionSet, Record, RecordSet, Except, Quantified, Choose, If, Case, CaseOther, Let, BoxAction, AngleAction, Fairness, Trees, NoTrees, MoreTrees, Operands, First, Next, Step, Prime, Index, Field, Steps, NoSteps, MoreSteps, Bounds, NoBounds, MoreBounds, Fields, NoFields, MoreFields, Changes, NoChanges, MoreChanges, Arms, NoArms, MoreArms, Definitions, NoDefinitions, MoreDefinitions}
+use Rattle.tla_ast.specs.Trees.{Tree, Number, Str, Truth, Builtin, Name, Call, Qualified, At, Parenthesized, Junction, Prefix, Infix, Postfix, SetOf, Filter, Map, Tuple, Function, FunctionSet, Record, RecordSet, Except, Quantified, Choose, If, Case, CaseOther, Let, BoxAction, AngleAction, Fairness, Trees, NoTrees, MoreTrees, Operands, First, Next, Step, Prime, Index, Field, Steps, NoSteps, MoreSteps, Bounds, NoBounds, MoreBounds, Fields, NoFields, MoreFields, Changes, NoChanges, MoreChanges, Arms, NoArms, MoreArms, Definitions, NoDefinitions, MoreDefinitions}
 use Rattle.found_levels.specs.Raised.{Marks, marked, unmarked, names_marked, told, bound_by, own, raise, raise_each, raise_operands, raise_step, raise_steps, raise_bounds, raise_fields, raise_changes, raise_arms, defined_by}
 use Rattle.found_levels.proofs.Telling.{told_append, told_bound, told_bounds, told_own}
 use Rattle.least_levels.specs.Rising.{Rising, with_name, without, without_bounds, with_own, prefix_rises, infix_rises, rises, rises_each, rises_operands, rises_step, rises_steps, rises_bounds, rises_fields, rises_changes, rises_arms, with_definitions}
@@ -51,6 +51,7 @@ mutual
   raised (Builtin at s) g hs b = sym (or_false b)
   raised (Name at n) g hs b = refl
   raised (Call at n es) g hs b = two b (b || told g hs n) (told g hs n) (rises_each (told g hs) es) (raise_each g hs (b || told g hs n) es) (each_raised es g hs (b || told g hs n)) refl
+  raised (Qualified at n es) g hs b = two b (b || told g hs n) (told g hs n) (rises_each (told g hs) es) (raise_each g hs (b || told g hs n) es) (each_raised es g hs (b || told g hs n)) refl
   raised (At at) g hs b = refl
   raised (Parenthesized at e) g hs b = raised e g hs b
   raised (Junction at o es) g hs b = each_raised es g hs b

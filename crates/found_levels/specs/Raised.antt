@@ -1,7 +1,7 @@
 -- For the prover: whether a tree is above level 0, or something before it was, as a walk finds it in its order. `hs` are the names that are bound or
 -- defined around, with what they are, from the outermost.
 use Rattle.std.specs.Prelude.{ℕ, Bool, true, false, ◌||◌, List, [], ◌∷◌, ◌++◌}
-use Rattle.tla_ast.specs.Trees.{Tree, Name, Call, At, Parenthesized, Junction, Prefix, Infix, Postfix, SetOf, Filter, Map, Tuple, Function, FunctionSet, Record, RecordSet, Except, Quantified, Choose, If, Case, CaseOther, Let, BoxAction, AngleAction, Fairness, Trees, NoTrees, MoreTrees, Operands, First, Next, Step, Prime, Index, Field, Steps, NoSteps, MoreSteps, Bounds, NoBounds, MoreBounds, Fields, NoFields, MoreFields, Changes, NoChanges, MoreChanges, Arms, NoArms, MoreArms, Definitions, NoDefinitions, MoreDefinitions}
+use Rattle.tla_ast.specs.Trees.{Tree, Name, Call, Qualified, At, Parenthesized, Junction, Prefix, Infix, Postfix, SetOf, Filter, Map, Tuple, Function, FunctionSet, Record, RecordSet, Except, Quantified, Choose, If, Case, CaseOther, Let, BoxAction, AngleAction, Fairness, Trees, NoTrees, MoreTrees, Operands, First, Next, Step, Prime, Index, Field, Steps, NoSteps, MoreSteps, Bounds, NoBounds, MoreBounds, Fields, NoFields, MoreFields, Changes, NoChanges, MoreChanges, Arms, NoArms, MoreArms, Definitions, NoDefinitions, MoreDefinitions}
 use Rattle.tla_scopes.specs.Scopes.{at_sign}
 use Rattle.found_levels.specs.declared.around.NameMark.{NameMark}
 use Rattle.least_levels.specs.Rising.{Rising, with_name, prefix_rises, infix_rises}
@@ -37,6 +37,7 @@ abbrev mutual
   pub raise : Rising → Marks → Bool → Tree → Bool
   raise g hs b (Name at n) = b || told g hs n
   raise g hs b (Call at n es) = raise_each g hs (b || told g hs n) es
+  raise g hs b (Qualified at n es) = raise_each g hs (b || told g hs n) es
   raise g hs b (At at) = b || told g hs at_sign
   raise g hs b (Parenthesized at e) = raise g hs b e
   raise g hs b (Junction at o es) = raise_each g hs b es

@@ -107,7 +107,7 @@ fn raise_row(
             *found = *found || told(names, marks, around, name);
             Ok(())
         }
-        Node::Call(name, arguments) => {
+        Node::Call(name, arguments) | Node::Qualified(name, arguments) => {
             *found = *found || told(names, marks, around, name);
             raise_each(alloc, names, marks, around, found, arguments)
         }

@@ -117,6 +117,7 @@ mutual
   found n hs ns (tree.Builtin at z) = nothing n hs ns
   found n hs ns (tree.Name at m) = added n m hs ns
   found n hs ns (tree.Call at m es) = both n hs ns (add hs ns m) (gather_each hs (add hs ns m) es) (bytes_eq m n) (mentions_each n es) (added n m hs ns) (found_each n hs (add hs ns m) es)
+  found n hs ns (tree.Qualified at m es) = both n hs ns (add hs ns m) (gather_each hs (add hs ns m) es) (bytes_eq m n) (mentions_each n es) (added n m hs ns) (found_each n hs (add hs ns m) es)
   found n hs ns (tree.At at) = added n at_sign hs ns
   found n hs ns (tree.Parenthesized at e) = found n hs ns e
   found n hs ns (tree.Junction at b es) = found_each n hs ns es

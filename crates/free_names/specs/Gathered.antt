@@ -3,7 +3,7 @@
 use Rattle.std.specs.Prelude.{ℕ, if◌then◌else◌, List, [], ◌∷◌, ◌++◌}
 use Rattle.tla_scopes.specs.Mentions.{is_one_of}
 use Rattle.tla_scopes.specs.Scopes.{at_sign}
-use Rattle.tla_ast.specs.Trees.{Tree, Name, Call, At, Parenthesized, Junction, Prefix, Infix, Postfix, SetOf, Filter, Map, Tuple, Function, FunctionSet, Record, RecordSet, Except, Quantified, Choose, If, Case, CaseOther, Let, BoxAction, AngleAction, Fairness, Trees, NoTrees, MoreTrees, Operands, First, Next, Step, Index, Steps, NoSteps, MoreSteps, Bounds, NoBounds, MoreBounds, Fields, NoFields, MoreFields, Changes, NoChanges, MoreChanges, Arms, NoArms, MoreArms, Definitions, NoDefinitions, MoreDefinitions}
+use Rattle.tla_ast.specs.Trees.{Tree, Name, Call, Qualified, At, Parenthesized, Junction, Prefix, Infix, Postfix, SetOf, Filter, Map, Tuple, Function, FunctionSet, Record, RecordSet, Except, Quantified, Choose, If, Case, CaseOther, Let, BoxAction, AngleAction, Fairness, Trees, NoTrees, MoreTrees, Operands, First, Next, Step, Index, Steps, NoSteps, MoreSteps, Bounds, NoBounds, MoreBounds, Fields, NoFields, MoreFields, Changes, NoChanges, MoreChanges, Arms, NoArms, MoreArms, Definitions, NoDefinitions, MoreDefinitions}
 
 abbrev pub NameList : Type 0
 NameList = List (List ℕ)
@@ -25,6 +25,7 @@ abbrev mutual
   pub gather : NameList → NameList → Tree → NameList
   gather hs ns (Name at m) = add hs ns m
   gather hs ns (Call at m es) = gather_each hs (add hs ns m) es
+  gather hs ns (Qualified at m es) = gather_each hs (add hs ns m) es
   gather hs ns (At at) = add hs ns at_sign
   gather hs ns (Parenthesized at e) = gather hs ns e
   gather hs ns (Junction at b es) = gather_each hs ns es

@@ -99,7 +99,7 @@ fn gather_row(
         Node::Truth(_) => Ok(()),
         Node::Builtin(_) => Ok(()),
         Node::Name(name) => add(found, hidden, name),
-        Node::Call(name, arguments) => {
+        Node::Call(name, arguments) | Node::Qualified(name, arguments) => {
             add(found, hidden, name)?;
             gather_each(alloc, found, hidden, arguments)
         }

@@ -3,7 +3,7 @@ use Rattle.std.proofs.Common.{refl, List, [], ◌∷◌}
 use Rattle.std.specs.Prelude.{◌||◌, ℕ, zero, suc, Bool, true, false, IsTrue, if◌then◌else◌}
 use Rattle.std.specs.Str.{bytes_eq}
 use Rattle.tla_ast.specs.declared.expr.Definition.{Definition}
-use Rattle.tla_ast.specs.Trees.{Tree, Number, Str, Truth, Builtin, Name, Call, At, Parenthesized, Junction, Prefix, Infix, Postfix, SetOf, Filter, Map, Tuple, Function, FunctionSet, Record, RecordSet, Except, Quantified, Choose, If, Case, CaseOther, Let, BoxAction, AngleAction, Fairness, Trees, NoTrees, MoreTrees, Operands, First, Next, Step, Prime, Index, Field, Steps, NoSteps, MoreSteps, Bounds, NoBounds, MoreBounds, Fields, NoFields, MoreFields, Changes, NoChanges, MoreChanges, Arms, NoArms, MoreArms, Definitions, NoDefinitions, MoreDefinitions}
+use Rattle.tla_ast.specs.Trees.{Tree, Number, Str, Truth, Builtin, Name, Call, Qualified, At, Parenthesized, Junction, Prefix, Infix, Postfix, SetOf, Filter, Map, Tuple, Function, FunctionSet, Record, RecordSet, Except, Quantified, Choose, If, Case, CaseOther, Let, BoxAction, AngleAction, Fairness, Trees, NoTrees, MoreTrees, Operands, First, Next, Step, Prime, Index, Field, Steps, NoSteps, MoreSteps, Bounds, NoBounds, MoreBounds, Fields, NoFields, MoreFields, Changes, NoChanges, MoreChanges, Arms, NoArms, MoreArms, Definitions, NoDefinitions, MoreDefinitions}
 use Rattle.tla_scopes.specs.Scopes.{at_sign}
 use Rattle.least_levels.specs.declared.told.NameLevel.{NameLevel}
 use Rattle.least_levels.specs.declared.told.Told.{Told}
@@ -50,6 +50,7 @@ mutual
   rises_below (Builtin at b) g h le = λ t. t
   rises_below (Name at n) g h le = le n
   rises_below (Call at n es) g h le = or_below (g n) (rises_each g es) (h n) (rises_each h es) (le n) (each_below es g h le)
+  rises_below (Qualified at n es) g h le = or_below (g n) (rises_each g es) (h n) (rises_each h es) (le n) (each_below es g h le)
   rises_below (At at) g h le = le at_sign
   rises_below (Parenthesized at e) g h le = rises_below e g h le
   rises_below (Junction at b es) g h le = each_below es g h le

@@ -9,7 +9,7 @@ use Rattle.tla_ast.specs.declared.module.Declared.{Declared}
 use Rattle.tla_ast.specs.declared.module.DeclaredOperator.{DeclaredOperator}
 use Rattle.tla_ast.specs.declared.module.Module.{Module}
 use Rattle.tla_ast.specs.declared.module.Unit.{Unit as ModuleUnit}
-use Rattle.tla_ast.specs.declared.module.Unit.TheVariants.{Variables, Constants, Recursive, Define, Assume, Passed}
+use Rattle.tla_ast.specs.declared.module.Unit.TheVariants.{Variables, Constants, Recursive, Define, Instance, Assume, Passed}
 use Rattle.tla_tokens.specs.declared.token.Kind.{Kind}
 use Rattle.tla_tokens.specs.declared.token.Kind.TheVariants as kinds
 use Rattle.tla_tokens.specs.declared.token.Foreign.TheVariants as foreign
@@ -130,6 +130,7 @@ keeps_unit local definition (Constants ds) xs ys h k = keeps_declared ds h.0 ys 
 keeps_unit local definition (Recursive ds) xs ys h k = keeps_operators ds h.0 ys h.2 (keeps_some (kinds.Foreign foreign.Recursive) xs h.0 h.1 k)
 keeps_unit local definition (Define d) xs ys h k = let p = definition d.name d.at d.params d.form d.body xs ys h in behind p.0 ys (subst LaidHold p.1 k)
 keeps_unit local definition (Assume e) xs ys h k = keeps_text local e h.2.0 ys h.2.2 (keeps_title h.0 h.2.0 h.2.1 (keeps_assume xs h.0 h.1 k))
+keeps_unit local definition (Instance m) xs ys h k = absurd h
 keeps_unit local definition Passed xs ys (inl h) k = keeps_some kinds.Dashes xs ys h k
 keeps_unit local definition Passed xs ys (inr h) k = keeps_expression local h.2.0 ys h.2.2 (keeps_title h.0 h.2.0 h.2.1 (keeps_theorem xs h.0 h.1 k))
 
@@ -146,6 +147,7 @@ named_before (Define d) us xs ys h k n =
     let t : LaidHold (Plain (record { kind = kinds.Name d.name; place = d.at }) ∷ h.0) = subst LaidHold h.1 k in
     All-cons (λ n. n ≢ []) d.name (names_defined (definitions_in us)) t.0.0 n
 named_before (Assume e) us xs ys h k n = n
+named_before (Instance m) us xs ys h k n = n
 named_before Passed us xs ys h k n = n
 
 units_named : LocalText → LocalDefinition → (us : List ModuleUnit) (xs ys : List Laid) → UnitsText us xs ys → LaidHold xs → AreNamed us
@@ -165,6 +167,7 @@ names_append (Constants ds ∷ us) vs = names_append us vs
 names_append (Recursive ds ∷ us) vs = names_append us vs
 names_append (Define d ∷ us) vs = ap (λ (ns : List (List ℕ)). d.name ∷ ns) (names_append us vs)
 names_append (Assume e ∷ us) vs = names_append us vs
+names_append (Instance m ∷ us) vs = names_append us vs
 names_append (Passed ∷ us) vs = names_append us vs
 
 pub named_append : (us vs : List ModuleUnit) → AreNamed us → AreNamed vs → AreNamed (us ++ vs)

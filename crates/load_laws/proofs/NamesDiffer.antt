@@ -8,7 +8,7 @@ use Rattle.std.specs.Str.{bytes_eq}
 use Rattle.trace_base.specs.declared.place.Place.{Place}
 use Rattle.tla_ast.specs.declared.module.Declared.{Declared}
 use Rattle.tla_ast.specs.declared.module.Unit.{Unit as ModuleUnit}
-use Rattle.tla_ast.specs.declared.module.Unit.TheVariants.{Variables, Constants, Recursive, Define, Assume, Passed}
+use Rattle.tla_ast.specs.declared.module.Unit.TheVariants.{Variables, Constants, Recursive, Define, Instance, Assume, Passed}
 use Rattle.tla_modules.specs.Standard.{is_brought}
 use Rattle.tla_modules.specs.Twice.{declared_in, place_among, AreNew}
 use Rattle.tla_program.specs.InUnits.{variables_in, definitions_in}
@@ -66,6 +66,7 @@ variables_part (Constants ds ∷ us) = but_all ds _ (declared_in us) (variables_
 variables_part (Define d ∷ us) = but d.name _ _ (variables_part us)
 variables_part (Assume e ∷ us) = variables_part us
 variables_part (Recursive rs ∷ us) = variables_part us
+variables_part (Instance m ∷ us) = but m.name _ _ (variables_part us)
 variables_part (Passed ∷ us) = variables_part us
 
 definitions_part : (us : List ModuleUnit) → IsPart (names_defined (definitions_in us)) (names_declared (declared_in us))
@@ -75,6 +76,7 @@ definitions_part (Constants ds ∷ us) = but_all ds _ (declared_in us) (definiti
 definitions_part (Define d ∷ us) = also d.name _ _ (definitions_part us)
 definitions_part (Assume e ∷ us) = definitions_part us
 definitions_part (Recursive rs ∷ us) = definitions_part us
+definitions_part (Instance m ∷ us) = but m.name _ _ (definitions_part us)
 definitions_part (Passed ∷ us) = definitions_part us
 
 -- ---- names that are new where they stand

@@ -182,6 +182,8 @@ module _ (names names' : List Entry) (ops : List Operator) where
     go_tree (tree.Name at n) sc sc' x g c h r = (r.0, use_same sc sc' n term.NoTerms r.0 (h.1 n (itself_is n)) r.1, r.2)
     go_tree (tree.Call at n es) sc sc' x g c h r =
         (r.0, r.1, go_trees es sc sc' r.0 g (right_none (counted n at (number_of es) (g n)) (complaints g es) c) (right sc sc' (λ k. bytes_eq n k) (λ k. mentions_each k es) h) r.2, use_same sc sc' n r.0 r.1 (h.1 n (or_left (bytes_eq n n) (mentions_each n es) (itself_is n))) r.3, r.4)
+    go_tree (tree.Qualified at n es) sc sc' x g c h r =
+        (r.0, r.1, go_trees es sc sc' r.0 g (right_none (counted n at (number_of es) (g n)) (complaints g es) c) (right sc sc' (λ k. bytes_eq n k) (λ k. mentions_each k es) h) r.2, use_same sc sc' n r.0 r.1 (h.1 n (or_left (bytes_eq n n) (mentions_each n es) (itself_is n))) r.3, r.4)
     go_tree (tree.At at) sc sc' x g c h r = (r.0, use_same sc sc' at_sign term.NoTerms r.0 (h.1 at_sign (itself_is at_sign)) r.1, r.2)
     go_tree (tree.Parenthesized at e) sc sc' x g c h r =
         (r.0, go_tree e sc sc' r.0 g c h r.1, r.2)

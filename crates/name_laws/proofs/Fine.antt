@@ -2,7 +2,7 @@
 use Rattle.std.proofs.Common.{◌≡◌, ◌∙◌, sym, ap, refl, subst, List, length}
 use Rattle.std.specs.Prelude.{ℕ, Bool, Option, Some, None}
 use Rattle.trace_base.specs.declared.place.Place.{Place}
-use Rattle.tla_ast.specs.Trees.{Tree, Number, Str, Truth, Builtin, Name, Call, At, Parenthesized, Junction, Prefix, Infix, Postfix, SetOf, Filter, Map, Tuple, Function, FunctionSet, Record, RecordSet, Except, Quantified, Choose, If, Case, CaseOther, Let, BoxAction, AngleAction, Fairness, Trees, NoTrees, MoreTrees, Operands, First, Next, Step, Prime, Index, Field, Steps, NoSteps, MoreSteps, Bounds, NoBounds, MoreBounds, Fields, NoFields, MoreFields, Changes, NoChanges, MoreChanges, Arms, NoArms, MoreArms, Definitions, NoDefinitions, MoreDefinitions}
+use Rattle.tla_ast.specs.Trees.{Tree, Number, Str, Truth, Builtin, Name, Call, Qualified, At, Parenthesized, Junction, Prefix, Infix, Postfix, SetOf, Filter, Map, Tuple, Function, FunctionSet, Record, RecordSet, Except, Quantified, Choose, If, Case, CaseOther, Let, BoxAction, AngleAction, Fairness, Trees, NoTrees, MoreTrees, Operands, First, Next, Step, Prime, Index, Field, Steps, NoSteps, MoreSteps, Bounds, NoBounds, MoreBounds, Fields, NoFields, MoreFields, Changes, NoChanges, MoreChanges, Arms, NoArms, MoreArms, Definitions, NoDefinitions, MoreDefinitions}
 use Rattle.tla_scopes.specs.Scopes.{at_sign}
 use Rattle.tla_names.specs.Complaints.{Taken, Takes, bound_name, told, defined, with_name, with_names, with_bounds, with_definitions, with_itself, or_else, counted, number_of, itself, complaint, complaints, operands_complaint, step_complaint, steps_complaint, bounds_complaint, fields_complaint, changes_complaint, arms_complaint, definitions_complaint}
 use Rattle.tla_terms.specs.declared.operator.Own.{Own}
@@ -44,6 +44,7 @@ mutual
   complaint_fine g g' p (Builtin at b) h = refl
   complaint_fine g g' p (Name at k) h = counted_fine k at 0 (g k) (g' k) (p k) h
   complaint_fine g g' p (Call at k es) h = or_none (counted k at (number_of es) (g' k)) (complaints g' es) (counted_fine k at (number_of es) (g k) (g' k) (p k) (left_none (counted k at (number_of es) (g k)) (complaints g es) h)) (complaints_fine g g' p es (right_none (counted k at (number_of es) (g k)) (complaints g es) h))
+  complaint_fine g g' p (Qualified at k es) h = or_none (counted k at (number_of es) (g' k)) (complaints g' es) (counted_fine k at (number_of es) (g k) (g' k) (p k) (left_none (counted k at (number_of es) (g k)) (complaints g es) h)) (complaints_fine g g' p es (right_none (counted k at (number_of es) (g k)) (complaints g es) h))
   complaint_fine g g' p (At at) h = counted_fine at_sign at 0 (g at_sign) (g' at_sign) (p at_sign) h
   complaint_fine g g' p (Parenthesized at e) h = complaint_fine g g' p e h
   complaint_fine g g' p (Junction at b es) h = complaints_fine g g' p es h

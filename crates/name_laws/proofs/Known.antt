@@ -3,7 +3,7 @@ use Rattle.std.proofs.Common.{◌≡◌, ◌∙◌, refl, subst, List, length}
 use Rattle.std.specs.Prelude.{ℕ, true, false, not, ◌&&◌, ◌||◌, Option, Some, None}
 use Rattle.std.specs.Str.{bytes_eq}
 use Rattle.trace_base.specs.declared.place.Place.{Place}
-use Rattle.tla_ast.specs.Trees.{Tree, Number, Str, Truth, Builtin, Name, Call, At, Parenthesized, Junction, Prefix, Infix, Postfix, SetOf, Filter, Map, Tuple, Function, FunctionSet, Record, RecordSet, Except, Quantified, Choose, If, Case, CaseOther, Let, BoxAction, AngleAction, Fairness, Trees, NoTrees, MoreTrees, Operands, First, Next, Step, Prime, Index, Field, Steps, NoSteps, MoreSteps, Bounds, NoBounds, MoreBounds, Fields, NoFields, MoreFields, Changes, NoChanges, MoreChanges, Arms, NoArms, MoreArms, Definitions, NoDefinitions, MoreDefinitions}
+use Rattle.tla_ast.specs.Trees.{Tree, Number, Str, Truth, Builtin, Name, Call, Qualified, At, Parenthesized, Junction, Prefix, Infix, Postfix, SetOf, Filter, Map, Tuple, Function, FunctionSet, Record, RecordSet, Except, Quantified, Choose, If, Case, CaseOther, Let, BoxAction, AngleAction, Fairness, Trees, NoTrees, MoreTrees, Operands, First, Next, Step, Prime, Index, Field, Steps, NoSteps, MoreSteps, Bounds, NoBounds, MoreBounds, Fields, NoFields, MoreFields, Changes, NoChanges, MoreChanges, Arms, NoArms, MoreArms, Definitions, NoDefinitions, MoreDefinitions}
 use Rattle.tla_scopes.specs.Scopes.{at_sign}
 use Rattle.tla_scopes.specs.Mentions.{mentions, mentions_each, mentions_operands, mentions_step, mentions_steps, mentions_bounds, mentions_fields, mentions_changes, mentions_arms, mentions_definitions, is_one_of, binds, defines}
 use Rattle.tla_names.specs.Complaints.{Taken, Takes, bound_name, with_name, with_names, with_bounds, with_definitions, with_itself, or_else, counted, number_of, itself, complaint, complaints, operands_complaint, step_complaint, steps_complaint, bounds_complaint, fields_complaint, changes_complaint, arms_complaint, definitions_complaint}
@@ -28,6 +28,7 @@ mutual
   complaint_known g (Builtin at b) h n m = absurd (cc)
   complaint_known g (Name at k) h n m = name_known g k n (counted_known k at 0 (g k) h) m
   complaint_known g (Call at k es) h n m = (or_elim (bytes_eq k n) (mentions_each n es) (λ m. name_known g k n (counted_known k at (number_of es) (g k) (left_none (counted k at (number_of es) (g k)) (complaints g es) h)) m) (λ m. complaints_known g es (right_none (counted k at (number_of es) (g k)) (complaints g es) h) n m)) m
+  complaint_known g (Qualified at k es) h n m = (or_elim (bytes_eq k n) (mentions_each n es) (λ m. name_known g k n (counted_known k at (number_of es) (g k) (left_none (counted k at (number_of es) (g k)) (complaints g es) h)) m) (λ m. complaints_known g es (right_none (counted k at (number_of es) (g k)) (complaints g es) h) n m)) m
   complaint_known g (At at) h n m = name_known g at_sign n (counted_known at_sign at 0 (g at_sign) h) m
   complaint_known g (Parenthesized at e) h n m = complaint_known g e h n m
   complaint_known g (Junction at b es) h n m = complaints_known g es h n m

@@ -1,7 +1,7 @@
 -- What a tree means among some names it means among more.
 use Rattle.std.proofs.Common.{◌≡◌, List, [], ◌∷◌, ◌++◌, length}
 use Rattle.std.specs.Prelude.{ℕ, Option, Some, None}
-use Rattle.tla_ast.specs.Trees.{Tree, Number, Str, Truth, Builtin, Name, Call, At, Parenthesized, Junction, Prefix, Infix, Postfix, SetOf, Filter, Map, Tuple, Function, FunctionSet, Record, RecordSet, Except, Quantified, Choose, If, Case, CaseOther, Let, BoxAction, AngleAction, Fairness, Trees, NoTrees, MoreTrees, Operands, First, Next, Step, Prime, Index, Field, Steps, NoSteps, MoreSteps, Bounds, NoBounds, MoreBounds, Fields, NoFields, MoreFields, Changes, NoChanges, MoreChanges, Arms, NoArms, MoreArms, Definitions, NoDefinitions, MoreDefinitions}
+use Rattle.tla_ast.specs.Trees.{Tree, Number, Str, Truth, Builtin, Name, Call, Qualified, At, Parenthesized, Junction, Prefix, Infix, Postfix, SetOf, Filter, Map, Tuple, Function, FunctionSet, Record, RecordSet, Except, Quantified, Choose, If, Case, CaseOther, Let, BoxAction, AngleAction, Fairness, Trees, NoTrees, MoreTrees, Operands, First, Next, Step, Prime, Index, Field, Steps, NoSteps, MoreSteps, Bounds, NoBounds, MoreBounds, Fields, NoFields, MoreFields, Changes, NoChanges, MoreChanges, Arms, NoArms, MoreArms, Definitions, NoDefinitions, MoreDefinitions}
 use Rattle.tla_terms.specs.declared.operator.Operator.{Operator}
 use Rattle.tla_terms.specs.Terms as term
 use Rattle.tla_terms.specs.Terms.{Term, Terms, Meaning}
@@ -30,6 +30,7 @@ module _ (names names' : List Entry) (more : HasMore names names') (ops : List O
     means_more sc (Builtin at b) y h = h
     means_more sc (Name at n) y h = (h.0, uses_more sc n term.NoTerms h.0 h.1, h.2)
     means_more sc (Call at n es) y h = (h.0, h.1, each_more sc es h.0 h.2, uses_more sc n h.0 h.1 h.3, h.4)
+    means_more sc (Qualified at n es) y h = (h.0, h.1, each_more sc es h.0 h.2, uses_more sc n h.0 h.1 h.3, h.4)
     means_more sc (At at) y h = (h.0, uses_more sc at_sign term.NoTerms h.0 h.1, h.2)
     means_more sc (Parenthesized at a) y h = (h.0, means_more sc a h.0 h.1, h.2)
     means_more sc (Junction at b es) y h = (h.0, each_more sc es h.0 h.1, h.2)

@@ -2,7 +2,7 @@
 use Rattle.std.proofs.Common.{◌≡◌, ◌∙◌, ap, refl, List, length}
 use Rattle.std.specs.Prelude.{ℕ, true, false, not, ◌&&◌, ◌||◌, Option}
 use Rattle.std.specs.Str.{bytes_eq}
-use Rattle.tla_ast.specs.Trees.{Tree, Number, Str, Truth, Builtin, Name, Call, At, Parenthesized, Junction, Prefix, Infix, Postfix, SetOf, Filter, Map, Tuple, Function, FunctionSet, Record, RecordSet, Except, Quantified, Choose, If, Case, CaseOther, Let, BoxAction, AngleAction, Fairness, Trees, NoTrees, MoreTrees, Operands, First, Next, Step, Prime, Index, Field, Steps, NoSteps, MoreSteps, Bounds, NoBounds, MoreBounds, Fields, NoFields, MoreFields, Changes, NoChanges, MoreChanges, Arms, NoArms, MoreArms, Definitions, NoDefinitions, MoreDefinitions}
+use Rattle.tla_ast.specs.Trees.{Tree, Number, Str, Truth, Builtin, Name, Call, Qualified, At, Parenthesized, Junction, Prefix, Infix, Postfix, SetOf, Filter, Map, Tuple, Function, FunctionSet, Record, RecordSet, Except, Quantified, Choose, If, Case, CaseOther, Let, BoxAction, AngleAction, Fairness, Trees, NoTrees, MoreTrees, Operands, First, Next, Step, Prime, Index, Field, Steps, NoSteps, MoreSteps, Bounds, NoBounds, MoreBounds, Fields, NoFields, MoreFields, Changes, NoChanges, MoreChanges, Arms, NoArms, MoreArms, Definitions, NoDefinitions, MoreDefinitions}
 use Rattle.tla_names.specs.declared.fault.NameFault.{NameFault}
 use Rattle.tla_scopes.specs.Scopes.{at_sign}
 use Rattle.tla_scopes.specs.Mentions.{mentions, mentions_each, mentions_operands, mentions_step, mentions_steps, mentions_bounds, mentions_fields, mentions_changes, mentions_arms, mentions_definitions, is_one_of, binds, defines}
@@ -29,6 +29,7 @@ mutual
   complaint_same g g' (Builtin at b) a = refl
   complaint_same g g' (Name at k) a = ap (λ (x : Option Taken). counted k at 0 x) (a k (itself_is k))
   complaint_same g g' (Call at k es) a = or_same (counted k at (number_of es) (g k)) (counted k at (number_of es) (g' k)) (complaints g es) (complaints g' es) (ap (λ (x : Option Taken). counted k at (number_of es) x) (a k (or_left (bytes_eq k k) (mentions_each k es) (itself_is k)))) (complaints_same g g' es (λ n m. a n (or_right (bytes_eq k n) (mentions_each n es) m)))
+  complaint_same g g' (Qualified at k es) a = or_same (counted k at (number_of es) (g k)) (counted k at (number_of es) (g' k)) (complaints g es) (complaints g' es) (ap (λ (x : Option Taken). counted k at (number_of es) x) (a k (or_left (bytes_eq k k) (mentions_each k es) (itself_is k)))) (complaints_same g g' es (λ n m. a n (or_right (bytes_eq k n) (mentions_each n es) m)))
   complaint_same g g' (At at) a = ap (λ (x : Option Taken). counted at_sign at 0 x) (a at_sign (itself_is at_sign))
   complaint_same g g' (Parenthesized at e) a = complaint_same g g' e (λ n m. a n m)
   complaint_same g g' (Junction at b es) a = complaints_same g g' es (λ n m. a n m)

@@ -6,7 +6,7 @@ use Rattle.tla_ast.specs.declared.config.Config.{Config}
 use Rattle.tla_ast.specs.declared.module.Declared.{Declared}
 use Rattle.tla_ast.specs.declared.module.Program.{Program}
 use Rattle.tla_ast.specs.declared.module.Unit.{Unit as ModuleUnit}
-use Rattle.tla_ast.specs.declared.module.Unit.TheVariants.{Variables, Constants, Recursive, Define, Assume, Passed}
+use Rattle.tla_ast.specs.declared.module.Unit.TheVariants.{Variables, Constants, Recursive, Define, Instance, Assume, Passed}
 use Rattle.tla_names.specs.declared.fault.NameFault.{NameFault}
 use Rattle.tla_names.specs.Complaints.{Takes, complaint, with_names}
 use Rattle.tla_program.specs.InUnits.{constants_in, definitions_in}
@@ -40,6 +40,7 @@ unit_fault_one p c k i (Assume e) f g x y = some_one (complaint k e) f g x y
 unit_fault_one p c k i (Variables ds) f g x y = absurd x
 unit_fault_one p c k i (Constants ds) f g x y = absurd x
 unit_fault_one p c k i (Recursive rs) f g x y = some_one (declared_complaints (definitions_in p.units) rs) f g x y
+unit_fault_one p c k i (Instance m) f g x y = absurd x
 unit_fault_one p c k i Passed f g x y = absurd x
 
 name_fault_at_one : (p : Program) (c : Config) (k : ℕ) (f g : NameFault) → IsNameFaultAt p c k f → IsNameFaultAt p c k g → f ≡ g

@@ -7,7 +7,7 @@ use Rattle.tla_ast.specs.declared.config.Config.{Config}
 use Rattle.tla_ast.specs.declared.expr.Definition.{Definition}
 use Rattle.tla_ast.specs.declared.module.Program.{Program}
 use Rattle.tla_ast.specs.declared.module.Unit.{Unit as ModuleUnit}
-use Rattle.tla_ast.specs.declared.module.Unit.TheVariants.{Variables, Constants, Recursive, Define, Assume, Passed}
+use Rattle.tla_ast.specs.declared.module.Unit.TheVariants.{Variables, Constants, Recursive, Define, Instance, Assume, Passed}
 use Rattle.tla_terms.specs.declared.operator.Operator.{Operator}
 use Rattle.tla_terms.specs.Terms.{Term}
 use Rattle.term_parts.specs.declared.fault.LevelFault.{LevelFault}
@@ -35,6 +35,7 @@ defined_there (Variables x ∷ us) (suc k) d e = defined_there us k d e
 defined_there (Constants x ∷ us) (suc k) d e = defined_there us k d e
 defined_there (Assume x ∷ us) (suc k) d e = defined_there us k d e
 defined_there (Recursive rs ∷ us) (suc k) d e = defined_there us k d e
+defined_there (Instance m ∷ us) (suc k) d e = defined_there us k d e
 defined_there (Passed ∷ us) (suc k) d e = defined_there us k d e
 
 assumed_there : (us : List ModuleUnit) (k : ℕ) (t : Tree) → slice_get us k ≡ Some (Assume t) → slice_get (assumptions_in us) (assumptions_before us k) ≡ Some t
@@ -46,6 +47,7 @@ assumed_there (Variables x ∷ us) (suc k) t e = assumed_there us k t e
 assumed_there (Constants x ∷ us) (suc k) t e = assumed_there us k t e
 assumed_there (Assume x ∷ us) (suc k) t e = assumed_there us k t e
 assumed_there (Recursive rs ∷ us) (suc k) t e = assumed_there us k t e
+assumed_there (Instance m ∷ us) (suc k) t e = assumed_there us k t e
 assumed_there (Passed ∷ us) (suc k) t e = assumed_there us k t e
 
 module _ (laws : AlikeTellSame AreAny) (p : Program) (c : Config) where
@@ -71,6 +73,7 @@ module _ (laws : AlikeTellSame AreAny) (p : Program) (c : Config) where
   unit_fault a b k (Variables x) f e h = absurd h
   unit_fault a b k (Constants x) f e h = absurd h
   unit_fault a b k (Recursive rs) f e h = absurd h
+  unit_fault a b k (Instance m) f e h = absurd h
   unit_fault a b k Passed f e h = absurd h
 
   fault_at : (a b : Side p c) (k : ℕ) (f : LevelFault) → IsLevelFaultAt p a.number a.ops a.assumes k f → IsLevelFaultAt p b.number b.ops b.assumes k f

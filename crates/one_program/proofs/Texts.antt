@@ -3,7 +3,7 @@ use Rattle.std.proofs.Common.{◌≡◌, ◌≢◌, ◌∙◌, List, [], ◌∷�
 use Rattle.tla_ast.specs.declared.laid.Laid.{Laid}
 use Rattle.tla_ast.specs.declared.module.Module.{Module}
 use Rattle.tla_ast.specs.declared.module.Unit.{Unit as ModuleUnit}
-use Rattle.tla_ast.specs.declared.module.Unit.TheVariants.{Variables, Constants, Recursive, Define, Assume, Passed}
+use Rattle.tla_ast.specs.declared.module.Unit.TheVariants.{Variables, Constants, Recursive, Define, Instance, Assume, Passed}
 use Rattle.tla_ast.specs.Begun.{BegunModule, FittingBegunModule}
 use Rattle.tla_ast.specs.Modules.{ModuleText, ModuleTextBy, SomeExpression, SomeText, SpellsModule, UnitTextBy, UnitsTextBy}
 use Rattle.tla_exprs.specs.declared.fault.ParseFault.{ParseFault}
@@ -22,6 +22,7 @@ unit_text (Constants ds) xs ys h = h
 unit_text (Recursive ds) xs ys h = h
 unit_text (Define d) xs ys h = h
 unit_text (Assume e) xs ys h = h
+unit_text (Instance m) xs ys h = h
 unit_text Passed xs ys (inl h) = inl h
 unit_text Passed xs ys (inr h) = inr (h.0, h.1, (h.2.0, h.2.1, some_text h.2.0 ys h.2.2))
 

@@ -42,6 +42,7 @@ abbrev pub of_mode : Mode → ℕ
 of_mode mode.Want = 0
 of_mode (mode.Have e) = 0
 of_mode (mode.FieldName e at) = 0
+of_mode (mode.InstanceName at i) = 0
 of_mode (mode.SubscriptStart k at e) = 0
 of_mode (mode.FairStart at) = 0
 of_mode (mode.FairOpen at e) = 0

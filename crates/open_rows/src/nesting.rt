@@ -51,6 +51,7 @@ pub fn unfinished_at(mode: &Mode) -> u64
         Mode::Want
         | Mode::Have(_)
         | Mode::FieldName(_, _)
+        | Mode::InstanceName(_, _)
         | Mode::SubscriptStart(_, _, _)
         | Mode::FairStart(_)
         | Mode::FairOpen(_, _) => 0,

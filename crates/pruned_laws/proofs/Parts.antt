@@ -7,7 +7,7 @@ use Rattle.tla_ast.specs.declared.config.Config.{Config}
 use Rattle.tla_ast.specs.declared.module.Program.{Program}
 use Rattle.tla_ast.specs.declared.module.Declared.{Declared}
 use Rattle.tla_ast.specs.declared.module.Unit.{Unit as ModuleUnit}
-use Rattle.tla_ast.specs.declared.module.Unit.TheVariants.{Variables, Constants, Recursive, Define, Assume, Passed}
+use Rattle.tla_ast.specs.declared.module.Unit.TheVariants.{Variables, Constants, Recursive, Define, Instance, Assume, Passed}
 use Rattle.tla_program.specs.InUnits.{definitions_in, variables_in}
 use Rattle.tla_program.specs.Names.{names_declared, names_defined}
 use Rattle.spec_laws.specs.Formed.{UnitsAreFormed}
@@ -66,12 +66,14 @@ module _ (Goes : ℕ → ModuleUnit → Type 0) where
   names_left _ _ _ _ (is_left k (Define d) units left gone g l) = also d.name _ _ (names_left (k + 1) units left gone l)
   names_left _ _ _ _ (is_left k (Assume e) units left gone g l) = names_left k units left gone l
   names_left _ _ _ _ (is_left k (Recursive rs) units left gone g l) = names_left k units left gone l
+  names_left _ _ _ _ (is_left k (Instance m) units left gone g l) = names_left k units left gone l
   names_left _ _ _ _ (is_left k Passed units left gone g l) = names_left k units left gone l
   names_left _ _ _ _ (is_gone k (Variables ds) units left gone g l) = names_left k units left gone l
   names_left _ _ _ _ (is_gone k (Constants ds) units left gone g l) = names_left k units left gone l
   names_left _ _ _ _ (is_gone k (Define d) units left gone g l) = but d.name _ _ (names_left (k + 1) units left gone l)
   names_left _ _ _ _ (is_gone k (Assume e) units left gone g l) = names_left k units left gone l
   names_left _ _ _ _ (is_gone k (Recursive rs) units left gone g l) = names_left k units left gone l
+  names_left _ _ _ _ (is_gone k (Instance m) units left gone g l) = names_left k units left gone l
   names_left _ _ _ _ (is_gone k Passed units left gone g l) = names_left k units left gone l
 
 without_formed : (p : Program) (c : Config) (unread : List (List ℕ)) (Goes : ℕ → Type 0) (q : Program) (over : List ModuleUnit) → Without p c unread Goes q over

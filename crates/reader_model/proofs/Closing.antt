@@ -9,12 +9,12 @@ use Rattle.tla_tokens.specs.declared.token.Word.{Word}
 use Rattle.tla_tokens.specs.declared.token.Symbol.{Symbol}
 use Rattle.tla_ast.specs.declared.operators.InfixOperator.{InfixOperator}
 use Rattle.tla_ast.specs.Precedence.{infix_symbol, infix_range}
-use Rattle.tla_ast.specs.Grammar.{◌⨟◌, token, sign, Text, DefinitionRest}
+use Rattle.tla_ast.specs.Grammar.{◌⨟◌, token, sign, QualifiedName, Text, DefinitionRest}
 use Rattle.tla_ast.specs.Fits.{LeftAbove, EndsNoCase, Fits}
 use Rattle.tla_ast.specs.Trees.{Tree, NoTrees, MoreTrees, MoreDefinitions}
 use Rattle.reader_model.specs.declared.frame.Form.{Form}
 use Rattle.reader_model.specs.declared.frame.Frame.{Frame}
-use Rattle.reader_model.specs.Machine.{Stepped, Stops, infix_of_symbol, infix_step, with_step, parameters_of, form_of, body_of, same_bullet, Settled, settle, word_closes, name_closes, item_closes, list_closes, kind_closes, laid_closes, closes, is_always, is_case_mark, settled_closes, behind, call_step, infix_or, symbol_follows, kind_follows, follows}
+use Rattle.reader_model.specs.Machine.{Stepped, Stops, infix_of_symbol, infix_step, with_step, parameters_of, form_of, body_of, same_bullet, Settled, settle, word_closes, name_closes, item_closes, list_closes, kind_closes, laid_closes, closes, is_always, is_case_mark, settled_closes, behind, instance_step, call_step, infix_or, symbol_follows, kind_follows, follows}
 use Rattle.reader_model.proofs.Opened.{Defines, Good, laid_symbol}
 use Rattle.reader_model.proofs.Edges.{operand_left, operand_right, operand_ends, top_all, one_of_two, infix_good}
 use Rattle.reader_model.proofs.Settling.{IsSettled, settles}
@@ -158,7 +158,13 @@ module _ (xs r : List Laid) where
 
   call_good : (here : List Laid) (q : Place) (e : Tree) (fs : List Frame) (ys zs : List Laid) → FramesText fs xs ys → Text e ys zs → sign symbols.OpenParenthesis zs r → FramesFit fs → Good xs here r (call_step e fs)
   call_good here q (tree.Name at n) fs ys zs F t a h = want_good xs here r (frame.Call n at NoTrees) fs ys F (zs, t, (r, a, refl)) tt h
+  call_good here q (tree.Qualified at n NoTrees) fs ys zs F t a h =
+      want_good xs here r (frame.QualifiedCall n at NoTrees) fs ys F (zs, subst (λ w. QualifiedName at n ys w) t.2 t.1, (r, a, refl)) tt h
   call_good here q e fs ys zs F t a h = tt
+
+  instance_good : (here : List Laid) (e : Tree) (fs : List Frame) (ys zs : List Laid) → FramesText fs xs ys → Text e ys zs → sign symbols.Exclamation zs r → FramesFit fs → Good xs here r (instance_step e fs)
+  instance_good here (tree.Name at i) fs ys zs F t a h = ((ys, F, (zs, t, a)), h, tt)
+  instance_good here e fs ys zs F t a h = tt
 
   operator_good : (s : Symbol) (o : Option InfixOperator) (q : Place) (fs : List Frame) (e : Tree) (ys : List Laid) (other : Stepped) → SymbolOf s o → FramesText fs xs ys → Text e ys (laid_symbol s q ∷ r) → FramesFit fs → IsOperand e → Fits e → Good xs (laid_symbol s q ∷ r) r other → Good xs (laid_symbol s q ∷ r) r (infix_or o q fs e other)
   operator_good s (Some c) q fs e ys other i F t h o k d =
@@ -174,6 +180,8 @@ module _ (xs r : List Laid) where
   symbol_follows_good symbols.Dot q fs e ys other F t h o k d = ((ys, F, (laid_symbol symbols.Dot q ∷ r, t, refl)), h, (o, k))
   symbol_follows_good symbols.OpenParenthesis q fs e ys other F t h o k d =
       call_good (laid_symbol symbols.OpenParenthesis q ∷ r) q e fs ys (laid_symbol symbols.OpenParenthesis q ∷ r) F t (q, refl) h
+  symbol_follows_good symbols.Exclamation q fs e ys other F t h o k d =
+      instance_good (laid_symbol symbols.Exclamation q ∷ r) e fs ys (laid_symbol symbols.Exclamation q ∷ r) F t (q, refl) h
   symbol_follows_good s q fs e ys other F t h o k d = operator_good s (infix_of_symbol s) q fs e ys other (symbol_of s) F t h o k d
 
   kind_follows_good : (c : Kind) (q : Place) (fs : List Frame) (e : Tree) (ys : List Laid) (other : Stepped) → FramesText fs xs ys → Text e ys (laid c q ∷ r) → FramesFit fs → IsOperand e → Fits e → Good xs (laid c q ∷ r) r other → Good xs (laid c q ∷ r) r (kind_follows c q fs e other)

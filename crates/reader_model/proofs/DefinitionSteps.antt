@@ -29,7 +29,7 @@ use Rattle.reader_model.specs.declared.frame.Frame.{Frame}
 use Rattle.reader_model.specs.declared.frame.Frame.TheVariants as frame
 use Rattle.reader_model.specs.declared.frame.Mode.{Mode}
 use Rattle.reader_model.specs.declared.frame.Mode.TheVariants as mode
-use Rattle.reader_model.specs.Machine.{Stepped, Reads, Stops, Clashes, Ends, EndsDefinition, Joined, Joins, Meets, Settled, want, above, goes_on, infix_step, join, deliver, same_bullet, has_field, word_begins, symbol_begins, token_begins, begins, settle, braces_close, bracket_close, on_joined, filter_close, function_close, is_subscript, tuple_close, binder_close, bound_close, comma_or, only_at, symbol_closes, word_closes, name_closes, item_closes, list_closes, kind_closes, laid_closes, closes, is_case_mark, settled_closes, behind, call_step, infix_or, infix_of_symbol, symbol_follows, kind_follows, follows, name_or, on_name, symbol_or, on_symbol, bound_named, bracket_named, brace_started, brace_named, tuple_started, list_started, choose_named, definition_named, parameter_named, defined_as, except_mark, path_ends, except_path, record_named, subscript_symbol, subscript_started, fair_opened, is_other, case_next, other_arrow, step}
+use Rattle.reader_model.specs.Machine.{Stepped, Reads, Stops, Clashes, Ends, EndsDefinition, Joined, Joins, Meets, Settled, want, above, goes_on, infix_step, join, deliver, same_bullet, has_field, word_begins, symbol_begins, token_begins, begins, settle, braces_close, bracket_close, on_joined, filter_close, function_close, is_subscript, tuple_close, binder_close, bound_close, comma_or, only_at, symbol_closes, word_closes, name_closes, item_closes, list_closes, kind_closes, laid_closes, closes, is_case_mark, settled_closes, behind, instance_step, call_step, infix_or, infix_of_symbol, symbol_follows, kind_follows, follows, name_or, on_name, symbol_or, on_symbol, bound_named, bracket_named, brace_started, brace_named, tuple_started, list_started, choose_named, definition_named, parameter_named, defined_as, except_mark, path_ends, except_path, record_named, subscript_symbol, subscript_started, fair_opened, is_other, case_next, other_arrow, step}
 
 -- a row that waits for a token of its own: no operator, no subscript is expected in it, and it does not end with its expression
 pub record Waits (b : Frame) : Type 0 where
@@ -247,6 +247,7 @@ module _ (b : Frame) (w : Waits b) where
     symbol_over : (s : Symbol) (f : Frame) (fs : List Frame) (e : Tree) → symbol_closes s f (on fs) e ≡ to (symbol_closes s f fs e)
     symbol_over s (frame.Parenthesis at) fs e = parenthesis_over s _ _ (deliver_over (tree.Parenthesized at e) fs)
     symbol_over s (frame.Call n at es) fs e = comma_parenthesis_over s _ _ _ _ refl refl
+    symbol_over s (frame.QualifiedCall n at es) fs e = comma_parenthesis_over s _ _ _ _ refl refl
     symbol_over s (frame.Index a at es) fs e = comma_bracket_over s _ _ _ _ refl refl
     symbol_over s (frame.Braces at es) fs e = braces_over s at es fs e
     symbol_over s (frame.MaybeFilter at n p q) fs e = filter_over s at n p q fs e
@@ -302,7 +303,12 @@ module _ (b : Frame) (w : Waits b) where
 
     call_over : (e : Tree) (fs : List Frame) → call_step e (on fs) ≡ to (call_step e fs)
     call_over (tree.Name at n) fs = refl
+    call_over (tree.Qualified at n NoTrees) fs = refl
     call_over e fs = refl
+
+    instance_over : (e : Tree) (fs : List Frame) → instance_step e (on fs) ≡ to (instance_step e fs)
+    instance_over (tree.Name at i) fs = refl
+    instance_over e fs = refl
 
     operator_over : (o : Option InfixOperator) (at : Place) (fs : List Frame) (e : Tree) (s y : Stepped) → y ≡ to s → infix_or o at (on fs) e y ≡ to (infix_or o at fs e s)
     operator_over (Some q) at fs e s y p = infix_over q at fs e
@@ -313,6 +319,7 @@ module _ (b : Frame) (w : Waits b) where
     symbol_follows_over symbols.OpenBracket at fs e s y p = refl
     symbol_follows_over symbols.Dot at fs e s y p = refl
     symbol_follows_over symbols.OpenParenthesis at fs e s y p = call_over e fs
+    symbol_follows_over symbols.Exclamation at fs e s y p = instance_over e fs
     symbol_follows_over c at fs e s y p = operator_over (infix_of_symbol c) at fs e s y p
 
     kind_follows_over : (k : Kind) (at : Place) (fs : List Frame) (e : Tree) (s y : Stepped) → y ≡ to s → kind_follows k at (on fs) e y ≡ to (kind_follows k at fs e s)
@@ -454,6 +461,7 @@ module _ (b : Frame) (w : Waits b) where
   step_over x fs (mode.ExceptPath at d cs ss) = on_symbol_over (ending x) x _ _ _ _ (λ s q. except_path_over (ending x) at d cs ss fs s q) refl
   step_over x fs (mode.ExceptField at d cs ss o) = on_name_over (ending x) x _ _ _ _ (λ n p. refl) refl
   step_over x fs (mode.FieldName d o) = on_name_over (ending x) x _ _ _ _ (λ n p. refl) refl
+  step_over x fs (mode.InstanceName at i) = on_name_over (ending x) x _ _ _ _ (λ n p. refl) refl
   step_over x fs (mode.RecordName k at hs) = on_name_over (ending x) x _ _ _ _ (λ n p. if_over (ending x) (has_field n hs) _ _ _ _ refl refl) refl
   step_over x fs (mode.RecordNamed k at hs n) = on_symbol_over (ending x) x _ _ _ _ (λ s q. record_named_over (ending x) k at hs n fs s) refl
   step_over x fs (mode.SubscriptStart k at d) = subscript_over (ending x) x (frame.Subscript k at d ∷ fs)

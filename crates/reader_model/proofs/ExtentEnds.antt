@@ -42,6 +42,7 @@ kind_closes : (k : Kind) (at : Place) → EndsKind k → Closes (plain k at)
 kind_closes (kinds.Name m) at q = record { closing = λ n fs. refl; no_case = refl }
 kind_closes (kinds.Word w) at q = record { closing = λ n fs. refl; no_case = refl }
 kind_closes (kinds.Foreign f) at q = record { closing = λ n fs. refl; no_case = refl }
+kind_closes (kinds.Symbol symbols.Comma) at q = record { closing = λ n fs. refl; no_case = refl }
 kind_closes kinds.Dashes at q = record { closing = λ n fs. refl; no_case = refl }
 kind_closes kinds.Equals at q = record { closing = λ n fs. refl; no_case = refl }
 kind_closes kinds.End at q = record { closing = λ n fs. refl; no_case = refl }

@@ -1,5 +1,5 @@
 -- Dashes, equals signs and the End stand in no text.
-use Rattle.std.proofs.Common.{◌≡◌, ℕ, Bool, true, false, List, [], ◌∷◌, ◌++◌, append_assoc, refl, sym, ap, subst, ◌∙◌}
+use Rattle.std.proofs.Common.{◌≡◌, ℕ, false, List, [], ◌∷◌, ◌++◌, append_assoc, refl, sym, ap, subst, ◌∙◌}
 use Rattle.std.proofs.lemmas.List.{append-nil}
 use Rattle.std.specs.Prelude.{if◌then◌else◌}
 use Rattle.trace_base.specs.declared.place.Place.{Place}
@@ -32,7 +32,7 @@ Unread flat.Ends = Unit {0}
 record Mark (k : Kind) : Type 0 where
   begins : (fs : List flat.Row) → flat.kind_begins k fs ≡ flat.Stops
   closes : (f : flat.Row) (fs : List flat.Row) → flat.kind_closes k f fs ≡ flat.Stops
-  follows : (named : Bool) (fs : List flat.Row) (other : flat.Done) → flat.kind_follows k named fs other ≡ other
+  follows : (named : flat.Primary) (fs : List flat.Row) (other : flat.Done) → flat.kind_follows k named fs other ≡ other
   no_name : (next : List ℕ → flat.Done) (other : flat.Done) → flat.name_or k next other ≡ other
   no_symbol : (next : Symbol → flat.Done) (other : flat.Done) → flat.symbol_or k next other ≡ other
   no_other : is_other k ≡ false
@@ -60,7 +60,7 @@ module _ (k : Kind) (at : Place) (i : Mark k) where
   closes_unread [] = tt
   closes_unread (f ∷ fs) = subst Unread (sym (i.closes f fs)) tt
 
-  follows_unread : (named : Bool) (fs : List flat.Row) → Unread (flat.follows here named fs)
+  follows_unread : (named : flat.Primary) (fs : List flat.Row) → Unread (flat.follows here named fs)
   follows_unread named fs = subst Unread (sym (i.follows named fs (flat.behind here fs))) (closes_unread (flat.settle (is_case_mark here) fs))
 
   step_unread : (fs : List flat.Row) (m : flat.Expected) → Unread (flat.step here fs m)
@@ -69,9 +69,9 @@ module _ (k : Kind) (at : Place) (i : Mark k) where
   step_unread fs (flat.BoundName b) = unnamed _ _ tt
   step_unread fs (flat.BoundNamed b) = unsigned _ _ tt
   step_unread fs flat.BracketStart = unnamed _ _ (begins_unread (flat.Bracket ∷ fs))
-  step_unread fs (flat.BracketName n) = unsigned _ _ (follows_unread true (flat.Bracket ∷ fs))
+  step_unread fs (flat.BracketName n) = unsigned _ _ (follows_unread flat.Bare (flat.Bracket ∷ fs))
   step_unread fs flat.BraceStart = unnamed _ _ (unsigned _ _ (begins_unread (flat.Braces false ∷ fs)))
-  step_unread fs flat.BraceName = unsigned _ _ (follows_unread true (flat.Braces false ∷ fs))
+  step_unread fs flat.BraceName = unsigned _ _ (follows_unread flat.Bare (flat.Braces false ∷ fs))
   step_unread fs flat.TupleStart = unsigned _ _ (begins_unread (flat.Tuple false ∷ fs))
   step_unread fs (flat.ListStart b) = tt
   step_unread fs flat.ChooseName = unnamed _ _ tt
@@ -85,6 +85,7 @@ module _ (k : Kind) (at : Place) (i : Mark k) where
   step_unread fs (flat.ExceptPath more) = unsigned _ _ tt
   step_unread fs flat.ExceptField = unnamed _ _ tt
   step_unread fs flat.FieldName = unnamed _ _ tt
+  step_unread fs flat.InstanceName = unnamed _ _ tt
   step_unread fs (flat.RecordName c ns) = unnamed _ _ tt
   step_unread fs (flat.RecordNamed c ns n) = unsigned _ _ tt
   step_unread fs flat.SubscriptStart = unnamed _ _ (unsigned _ _ tt)

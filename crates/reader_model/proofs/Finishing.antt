@@ -11,6 +11,7 @@ use Rattle.tla_ast.specs.declared.laid.Laid.TheVariants.{ListItem}
 use Rattle.tla_tokens.specs.declared.token.Kind.TheVariants as kinds
 use Rattle.tla_tokens.specs.declared.token.Symbol.TheVariants as symbols
 use Rattle.tla_ast.specs.Trees as tree
+use Rattle.tla_ast.specs.Grammar.{qualified}
 use Rattle.tla_ast.specs.Trees.{Tree, NoTrees, MoreTrees, Fields, NoFields, MoreFields, Changes, Steps, NoSteps, MoreSteps}
 use Rattle.reader_model.specs.declared.frame.RecordKind.{RecordKind}
 use Rattle.reader_model.specs.declared.frame.RecordKind.TheVariants as records
@@ -149,6 +150,8 @@ finish fs (mode.ExceptMark at e cs) = by_token (a_sign symbols.Exclamation) fs (
 finish fs (mode.ExceptPath at e cs ss) = field_finish at e cs ss fs
 finish fs (mode.ExceptField at e cs ss q) = path_finish at e cs ss q fs
 finish fs (mode.FieldName e q) = by_token a_name fs (mode.FieldName e q) fs (mode.Have (with_step e q (tree.Field []))) refl (have_finish fs (with_step e q (tree.Field [])))
+finish fs (mode.InstanceName at i) =
+    let e = tree.Qualified at (qualified i []) NoTrees in by_token a_name fs (mode.InstanceName at i) fs (mode.Have e) refl (have_finish fs e)
 finish fs (mode.RecordName k at hs) =
     by_token (a_kind (kinds.Name (fresh hs))) fs (mode.RecordName k at hs) fs (mode.RecordNamed k at hs (fresh hs))
     (ap (λ b. if b then Stops else Reads fs (mode.RecordNamed k at hs (fresh hs))) (fresh_new hs)) (record_finish k at hs (fresh hs) fs)

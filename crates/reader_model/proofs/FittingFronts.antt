@@ -22,7 +22,7 @@ use Rattle.reader_model.specs.declared.frame.Frame.{Frame}
 use Rattle.reader_model.specs.declared.frame.Frame.TheVariants as frame
 use Rattle.reader_model.specs.OpenRows.{field_mark}
 use Rattle.reader_model.specs.OpenRows.{ScopeText, FormText, BinderText, BindingText, ActionText, ExceptText, PathText, FrameText, FramesText}
-use Rattle.reader_model.proofs.UniqueSpans.{Local, nothing_local, token_local, some_local, open_local, item_local, then_local, only_local, symbol, symbol_at, names_local, parameters_local, tree_local, commas_before_local, items_before_local, chain_local, steps_local, bounds_before_local, bounds_local, fields_before_local, changes_before_local, arms_before_local, some_arms_local, function_local, definitions_local, some_definitions_local, either_form_local}
+use Rattle.reader_model.proofs.UniqueSpans.{Local, nothing_local, token_local, some_local, open_local, item_local, then_local, only_local, symbol, symbol_at, names_local, parameters_local, qualified_local, tree_local, commas_before_local, items_before_local, chain_local, steps_local, bounds_before_local, bounds_local, fields_before_local, changes_before_local, arms_before_local, some_arms_local, function_local, definitions_local, some_definitions_local, either_form_local}
 
 scope_local : (c : Scope) → Local (ScopeText c)
 scope_local (scopes.Let at ds) = then_local _ _ (token_local at (kinds.Word words.Let)) (definitions_local ds)
@@ -54,6 +54,7 @@ path_local at e cs ss = then_local _ _ (except_local at e cs) (then_local _ _ (s
 frame_local : (f : Frame) → Local (FrameText f)
 frame_local (frame.Parenthesis at) = symbol_at at symbols.OpenParenthesis
 frame_local (frame.Call n at es) = then_local _ _ (token_local at (kinds.Name n)) (then_local _ _ (symbol symbols.OpenParenthesis) (commas_before_local es))
+frame_local (frame.QualifiedCall n at es) = then_local _ _ (qualified_local at n) (then_local _ _ (symbol symbols.OpenParenthesis) (commas_before_local es))
 frame_local (frame.Junction b at es) = then_local _ _ (open_local at b) (then_local _ _ (items_before_local b es) (item_local b))
 frame_local (frame.Prefix o p) = token_local p (prefix_kind o)
 frame_local (frame.Infix o es p) = then_local _ _ (chain_local o es) (symbol_at p (infix_symbol o))

@@ -44,6 +44,7 @@ binder_closer (binders.Defined scopes.Unit n p q) r = a_sign symbols.CloseBracke
 abbrev pub closer : Frame → List Laid → List Laid
 closer (frame.Parenthesis at) r = a_sign symbols.CloseParenthesis ∷ r
 closer (frame.Call n at es) r = a_sign symbols.CloseParenthesis ∷ r
+closer (frame.QualifiedCall n at es) r = a_sign symbols.CloseParenthesis ∷ r
 closer (frame.Junction b at es) r = ListClose start ∷ r
 closer (frame.Prefix o p) r = r
 closer (frame.Infix o es p) r = r
@@ -87,6 +88,7 @@ binder_closed (binders.Defined scopes.Unit n p q) bs = one_tree
 abbrev pub closed : Frame → Tree → Tree
 closed (frame.Parenthesis at) e = tree.Parenthesized at e
 closed (frame.Call n at es) e = tree.Call at n (MoreTrees es e)
+closed (frame.QualifiedCall n at es) e = tree.Qualified at n (MoreTrees es e)
 closed (frame.Junction b at es) e = tree.Junction at b (MoreTrees es e)
 closed (frame.Prefix o p) e = tree.Prefix p o e
 closed (frame.Infix o es p) e = tree.Infix p o es e
@@ -157,6 +159,7 @@ module _ (fs : List Frame) (xs ys r : List Laid) where
   pub closed_spells : (f : Frame) (e : Tree) → in_frame f ≡ false → FrameFits f fs → Fits e → Suits e (f ∷ fs) → Top (f ∷ fs) (λ s. LeftAbove s e) → FrameText f xs ys → Text e ys (closer f r) → IsClosed (closed f e) fs xs r
   closed_spells (frame.Parenthesis at) e i h k u l a t = ((ys, a, (a_sign symbols.CloseParenthesis ∷ r, t, (start, refl))), k, any fs)
   closed_spells (frame.Call n at es) e i h k u l a t = ((a.0, a.1, (a.2.0, a.2.1, (a_sign symbols.CloseParenthesis ∷ r, (ys, a.2.2, t), (start, refl)))), (h, k), any fs)
+  closed_spells (frame.QualifiedCall n at es) e i h k u l a t = ((a.0, a.1, (a.2.0, a.2.1, (a_sign symbols.CloseParenthesis ∷ r, (ys, a.2.2, t), (start, refl)))), (h, k), any fs)
   closed_spells (frame.Junction b at es) e i h k u l a t = ((a.0, a.1, (ListClose start ∷ r, (a.2.0, a.2.1, (ys, a.2.2, t)), (start, refl))), (h, k), any fs)
   closed_spells (frame.Prefix o p) e i h k u l a t = ((ys, a, t), (k, l), any fs)
   closed_spells (frame.Infix o es p) e i h k u l a t = ((a.0, a.1, (ys, a.2, t)), (h.0, k, l), h.1)

@@ -28,7 +28,7 @@ use Rattle.reader_model.specs.declared.frame.Frame.{Frame}
 use Rattle.reader_model.specs.declared.frame.Frame.TheVariants as frame
 use Rattle.reader_model.specs.declared.frame.Mode.{Mode}
 use Rattle.reader_model.specs.declared.frame.Mode.TheVariants as mode
-use Rattle.reader_model.specs.Machine.{Stepped, Reads, Stops, Clashes, Ends, EndsDefinition, Joined, Joins, Meets, Settled, above, goes_on, infix_step, join, deliver, same_bullet, has_field, word_begins, symbol_begins, token_begins, begins, settle, braces_close, bracket_close, on_joined, filter_close, function_close, is_subscript, tuple_close, binder_close, bound_close, symbol_closes, word_closes, name_closes, item_closes, list_closes, kind_closes, laid_closes, closes, is_case_mark, settled_closes, behind, call_step, infix_or, infix_of_symbol, symbol_follows, kind_follows, follows, bound_named, bracket_named, brace_started, brace_named, tuple_started, list_started, choose_named, definition_named, parameter_named, defined_as, except_mark, path_ends, except_path, record_named, subscript_symbol, subscript_started, fair_opened, is_other, case_next, other_arrow, step}
+use Rattle.reader_model.specs.Machine.{Stepped, Reads, Stops, Clashes, Ends, EndsDefinition, Joined, Joins, Meets, Settled, above, goes_on, infix_step, join, deliver, same_bullet, has_field, word_begins, symbol_begins, token_begins, begins, settle, braces_close, bracket_close, on_joined, filter_close, function_close, is_subscript, tuple_close, binder_close, bound_close, symbol_closes, word_closes, name_closes, item_closes, list_closes, kind_closes, laid_closes, closes, is_case_mark, settled_closes, behind, instance_step, call_step, infix_or, infix_of_symbol, symbol_follows, kind_follows, follows, bound_named, bracket_named, brace_started, brace_named, tuple_started, list_started, choose_named, definition_named, parameter_named, defined_as, except_mark, path_ends, except_path, record_named, subscript_symbol, subscript_started, fair_opened, is_other, case_next, other_arrow, step}
 use Rattle.reader_model.specs.OpenFits.{Open, FramesStand, ModeStands}
 use Rattle.reader_model.proofs.Edges.{one_of_two}
 use Rattle.reader_model.proofs.Rows.{only_parenthesis, only_bracket, only_brace, only_colon, only_arrow, only_always, comma_parenthesis, comma_bracket}
@@ -239,6 +239,7 @@ module _ (C : Fact) where
   symbol_kept : (s : Symbol) (f : Frame) (fs : List Frame) (e : Tree) → FramesStand (f ∷ fs) → FrameMeets C (kinds.Symbol s) f e → Keeps (symbol_closes s f fs e)
   symbol_kept s (frame.Parenthesis at) fs e h j = only_parenthesis Keeps tt s _ (λ i. deliver_kept (tree.Parenthesized at e) fs h.1)
   symbol_kept s (frame.Call n at es) fs e h j = comma_parenthesis Keeps tt s _ _ (λ i. (tt, h)) (λ i. h)
+  symbol_kept s (frame.QualifiedCall n at es) fs e h j = comma_parenthesis Keeps tt s _ _ (λ i. (tt, h)) (λ i. h)
   symbol_kept s (frame.Index a at es) fs e h j = comma_bracket Keeps tt s _ _ (λ i. (tt, h)) (λ i. h)
   symbol_kept s (frame.Braces at es) fs e h j = braces_kept s at es fs e h
   symbol_kept s (frame.MaybeFilter at n p q) fs e h j = filter_kept s at n p q fs e h j
@@ -305,7 +306,12 @@ module _ (C : Fact) where
 
   call_kept : (e : Tree) (fs : List Frame) → Held fs → Keeps (call_step e fs)
   call_kept (tree.Name at n) fs h = (tt, h)
+  call_kept (tree.Qualified at n NoTrees) fs h = (tt, h)
   call_kept e fs h = tt
+
+  instance_kept : (e : Tree) (fs : List Frame) → Held fs → Keeps (instance_step e fs)
+  instance_kept (tree.Name at i) fs h = h
+  instance_kept e fs h = tt
 
   -- an operator that has this symbol tells the fact where it clashes
   abbrev SymbolMeets : Symbol → Place → List Frame → Tree → Type 0
@@ -320,6 +326,7 @@ module _ (C : Fact) where
   symbol_follows_kept symbols.OpenBracket at fs e other h k j = (tt, h)
   symbol_follows_kept symbols.Dot at fs e other h k j = h
   symbol_follows_kept symbols.OpenParenthesis at fs e other h k j = call_kept e fs h
+  symbol_follows_kept symbols.Exclamation at fs e other h k j = instance_kept e fs h
   symbol_follows_kept s at fs e other h k j = operator_kept s (infix_of_symbol s) at fs e other (symbol_of s) h k j
 
   kind_follows_kept : (c : Kind) (at : Place) (fs : List Frame) (e : Tree) (other : Stepped) → Held fs → Keeps other → ((s : Symbol) → c ≡ kinds.Symbol s → SymbolMeets s at fs e) → Keeps (kind_follows c at fs e other)
@@ -448,6 +455,7 @@ module _ (C : Fact) where
   step_kept x fs (mode.ExceptPath at d cs ss) h j = on_symbol_good Keeps x _ _ (λ s q e. except_path_kept at d cs ss fs s q h) tt
   step_kept x fs (mode.ExceptField at d cs ss o) h j = on_name_good Keeps x _ _ (λ n p e. h) tt
   step_kept x fs (mode.FieldName d o) h j = on_name_good Keeps x _ _ (λ n p e. h) tt
+  step_kept x fs (mode.InstanceName at i) h j = on_name_good Keeps x _ _ (λ n p e. h) tt
   step_kept x fs (mode.RecordName k at hs) h j = on_name_good Keeps x _ _ (λ n p e. one_of_two Keeps (has_field n hs) _ _ (λ a. tt) (λ a. h)) tt
   step_kept x fs (mode.RecordNamed k at hs n) h j = on_symbol_good Keeps x _ _ (λ s q e. record_named_kept k at hs n fs s h) tt
   step_kept x fs (mode.SubscriptStart k at d) h j = subscript_kept x (frame.Subscript k at d ∷ fs) h

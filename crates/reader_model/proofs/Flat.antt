@@ -52,10 +52,16 @@ pub data Row : Type 0 where
   FairSubscript : Row
   FairBody : Row
 
--- What is expected. Have knows whether the primary is a name, ExceptPath whether it has a step.
+-- A primary: a name, a qualified name without arguments, or another.
+pub data Primary : Type 0 where
+  Bare : Primary
+  Marked : Primary
+  Other : Primary
+
+-- What is expected. Have knows which primary it is, ExceptPath whether it has a step.
 pub data Expected : Type 0 where
   Want : Expected
-  Have : Bool → Expected
+  Have : Primary → Expected
   BoundName : Binds → Expected
   BoundNamed : Binds → Expected
   BracketStart : Expected
@@ -75,6 +81,7 @@ pub data Expected : Type 0 where
   ExceptPath : Bool → Expected
   ExceptField : Expected
   FieldName : Expected
+  InstanceName : Expected
   RecordName : RecordKind → List (List ℕ) → Expected
   RecordNamed : RecordKind → List (List ℕ) → List ℕ → Expected
   SubscriptStart : Expected
@@ -97,17 +104,17 @@ has_name n (m ∷ ms) = has_name n ms || pointwise nat_eq n m
 
 -- a name, a tuple or an expression in parentheses has ended
 abbrev pub deliver : List Row → Done
-deliver (Subscript ∷ fs) = Reads fs (Have false)
+deliver (Subscript ∷ fs) = Reads fs (Have Other)
 deliver (FairSubscript ∷ fs) = Reads fs FairOpen
-deliver fs = Reads fs (Have false)
+deliver fs = Reads fs (Have Other)
 
 -- ---- where an expression is expected
 
 abbrev pub word_begins : Word → List Row → Done
-word_begins words.True fs = Reads fs (Have false)
-word_begins words.False fs = Reads fs (Have false)
-word_begins words.Boolean fs = Reads fs (Have false)
-word_begins words.String fs = Reads fs (Have false)
+word_begins words.True fs = Reads fs (Have Other)
+word_begins words.False fs = Reads fs (Have Other)
+word_begins words.Boolean fs = Reads fs (Have Other)
+word_begins words.String fs = Reads fs (Have Other)
 word_begins words.Unchanged fs = want fs
 word_begins words.Enabled fs = want fs
 word_begins words.Subset fs = want fs
@@ -120,7 +127,7 @@ word_begins words.Let fs = Reads fs DefinitionName
 word_begins _ fs = Stops
 
 abbrev pub symbol_begins : Symbol → List Row → Done
-symbol_begins symbols.At fs = Reads fs (Have false)
+symbol_begins symbols.At fs = Reads fs (Have Other)
 symbol_begins symbols.OpenParenthesis fs = want (Parenthesis ∷ fs)
 symbol_begins symbols.OpenBracket fs = Reads fs BracketStart
 symbol_begins symbols.OpenBrace fs = Reads fs BraceStart
@@ -134,9 +141,9 @@ symbol_begins symbols.Exists fs = Reads fs (BoundName ByQuantifier)
 symbol_begins _ fs = Stops
 
 abbrev pub kind_begins : Kind → List Row → Done
-kind_begins (kinds.Name n) fs = Reads fs (Have true)
-kind_begins (kinds.Number z) fs = Reads fs (Have false)
-kind_begins (kinds.Str s) fs = Reads fs (Have false)
+kind_begins (kinds.Name n) fs = Reads fs (Have Bare)
+kind_begins (kinds.Number z) fs = Reads fs (Have Other)
+kind_begins (kinds.Str s) fs = Reads fs (Have Other)
 kind_begins kinds.Fair fs = Reads fs FairStart
 kind_begins (kinds.Word w) fs = word_begins w fs
 kind_begins (kinds.Symbol s) fs = symbol_begins s fs
@@ -158,7 +165,7 @@ settle case (f ∷ fs) = f ∷ fs
 
 abbrev pub braces_close : Symbol → Bool → List Row → Done
 braces_close symbols.Comma more fs = want (Braces true ∷ fs)
-braces_close symbols.CloseBrace more fs = Reads fs (Have false)
+braces_close symbols.CloseBrace more fs = Reads fs (Have Other)
 braces_close symbols.Colon false fs = Reads fs (BoundName ByMap)
 braces_close _ more fs = Stops
 
@@ -170,7 +177,7 @@ bracket_close _ fs = Stops
 abbrev pub filter_close : Symbol → List Row → Done
 filter_close symbols.Colon fs = want (FilterTest ∷ fs)
 filter_close symbols.Comma fs = want (Braces true ∷ fs)
-filter_close symbols.CloseBrace fs = Reads fs (Have false)
+filter_close symbols.CloseBrace fs = Reads fs (Have Other)
 filter_close _ fs = Stops
 
 abbrev pub function_close : Symbol → List Row → Done
@@ -194,7 +201,7 @@ tuple_close _ more fs = Stops
 abbrev pub binder_close : Symbol → Binds → List Row → Done
 binder_close symbols.Colon ByQuantifier fs = want (Rest ∷ fs)
 binder_close symbols.MapsTo ByFunction fs = want (FunctionBody ∷ fs)
-binder_close symbols.CloseBrace ByMap fs = Reads fs (Have false)
+binder_close symbols.CloseBrace ByMap fs = Reads fs (Have Other)
 binder_close symbols.CloseBracket ByDefinition fs = Reads fs DefinedAs
 binder_close _ b fs = Stops
 
@@ -238,24 +245,24 @@ at_always _ done = Stops
 
 abbrev pub symbol_closes : Symbol → Row → List Row → Done
 symbol_closes s Parenthesis fs = at_parenthesis s (deliver fs)
-symbol_closes s Call fs = comma_parenthesis s (want (Call ∷ fs)) (Reads fs (Have false))
-symbol_closes s Index fs = comma_bracket s (want (Index ∷ fs)) (Reads fs (Have false))
+symbol_closes s Call fs = comma_parenthesis s (want (Call ∷ fs)) (Reads fs (Have Other))
+symbol_closes s Index fs = comma_bracket s (want (Index ∷ fs)) (Reads fs (Have Other))
 symbol_closes s (Braces more) fs = braces_close s more fs
 symbol_closes s MaybeFilter fs = filter_close s fs
-symbol_closes s FilterTest fs = at_brace s (Reads fs (Have false))
+symbol_closes s FilterTest fs = at_brace s (Reads fs (Have Other))
 symbol_closes s (Tuple more) fs = tuple_close s more fs
 symbol_closes s Bracket fs = bracket_close s fs
 symbol_closes s MaybeFunction fs = function_close s fs
-symbol_closes s FunctionBody fs = at_bracket s (Reads fs (Have false))
-symbol_closes s FunctionRange fs = at_bracket s (Reads fs (Have false))
-symbol_closes s (Record k ns) fs = comma_bracket s (Reads fs (RecordName k ns)) (Reads fs (Have false))
+symbol_closes s FunctionBody fs = at_bracket s (Reads fs (Have Other))
+symbol_closes s FunctionRange fs = at_bracket s (Reads fs (Have Other))
+symbol_closes s (Record k ns) fs = comma_bracket s (Reads fs (RecordName k ns)) (Reads fs (Have Other))
 symbol_closes s (BoundSet b) fs = bound_close s b fs
 symbol_closes s ExceptIndex fs = comma_bracket s (want (ExceptIndex ∷ fs)) (Reads fs (ExceptPath true))
-symbol_closes s ExceptValue fs = comma_bracket s (Reads fs ExceptMark) (Reads fs (Have false))
+symbol_closes s ExceptValue fs = comma_bracket s (Reads fs ExceptMark) (Reads fs (Have Other))
 symbol_closes s ChooseSet fs = at_colon s (want (Rest ∷ fs))
 symbol_closes s CaseTest fs = at_arrow s (want (CaseValue ∷ fs))
 symbol_closes s CaseValue fs = at_always s (Reads fs CaseNext)
-symbol_closes s FairBody fs = at_parenthesis s (Reads fs (Have false))
+symbol_closes s FairBody fs = at_parenthesis s (Reads fs (Have Other))
 symbol_closes s f fs = Stops
 
 abbrev pub word_closes : Word → Row → List Row → Done
@@ -275,7 +282,7 @@ item_closes c (Junction b) fs = if same_bullet b c then want (Junction b ∷ fs)
 item_closes c f fs = Stops
 
 abbrev pub list_closes : Row → List Row → Done
-list_closes (Junction b) fs = Reads fs (Have false)
+list_closes (Junction b) fs = Reads fs (Have Other)
 list_closes f fs = Stops
 
 abbrev pub kind_closes : Kind → Row → List Row → Done
@@ -297,29 +304,34 @@ closes x (f ∷ fs) = laid_closes x f fs
 abbrev pub behind : Laid → List Row → Done
 behind x fs = closes x (settle (is_case_mark x) fs)
 
-abbrev pub call_step : Bool → List Row → Done
-call_step true fs = want (Call ∷ fs)
-call_step false fs = Stops
+abbrev pub instance_step : Primary → List Row → Done
+instance_step Bare fs = Reads fs InstanceName
+instance_step _ fs = Stops
+
+abbrev pub call_step : Primary → List Row → Done
+call_step Other fs = Stops
+call_step _ fs = want (Call ∷ fs)
 
 -- every infix operator can follow
 abbrev pub infix_or : Option InfixOperator → List Row → Done → Done
 infix_or (Some q) fs other = want fs
 infix_or None fs other = other
 
-abbrev pub symbol_follows : Symbol → Bool → List Row → Done → Done
-symbol_follows symbols.Prime named fs other = Reads fs (Have false)
-symbol_follows symbols.OpenBracket named fs other = want (Index ∷ fs)
-symbol_follows symbols.Dot named fs other = Reads fs FieldName
-symbol_follows symbols.OpenParenthesis named fs other = call_step named fs
-symbol_follows s named fs other = infix_or (infix_of_symbol s) fs other
+abbrev pub symbol_follows : Symbol → Primary → List Row → Done → Done
+symbol_follows symbols.Prime primary fs other = Reads fs (Have Other)
+symbol_follows symbols.OpenBracket primary fs other = want (Index ∷ fs)
+symbol_follows symbols.Dot primary fs other = Reads fs FieldName
+symbol_follows symbols.OpenParenthesis primary fs other = call_step primary fs
+symbol_follows symbols.Exclamation primary fs other = instance_step primary fs
+symbol_follows s primary fs other = infix_or (infix_of_symbol s) fs other
 
-abbrev pub kind_follows : Kind → Bool → List Row → Done → Done
-kind_follows (kinds.Symbol s) named fs other = symbol_follows s named fs other
-kind_follows k named fs other = other
+abbrev pub kind_follows : Kind → Primary → List Row → Done → Done
+kind_follows (kinds.Symbol s) primary fs other = symbol_follows s primary fs other
+kind_follows k primary fs other = other
 
-abbrev pub follows : Laid → Bool → List Row → Done
-follows (Plain t) named fs = kind_follows t.kind named fs (behind (Plain t) fs)
-follows x named fs = behind x fs
+abbrev pub follows : Laid → Primary → List Row → Done
+follows (Plain t) primary fs = kind_follows t.kind primary fs (behind (Plain t) fs)
+follows x primary fs = behind x fs
 
 -- ---- all
 
@@ -349,15 +361,15 @@ bracket_named x n fs symbols.MapsTo = want (Record records.Record (n ∷ []) ∷
 bracket_named x n fs symbols.Colon = want (Record records.Set (n ∷ []) ∷ fs)
 bracket_named x n fs symbols.Comma = Reads fs (BoundName ByFunction)
 bracket_named x n fs symbols.Member = want (MaybeFunction ∷ fs)
-bracket_named x n fs s = follows x true (Bracket ∷ fs)
+bracket_named x n fs s = follows x Bare (Bracket ∷ fs)
 
 abbrev pub brace_started : Laid → List Row → Symbol → Done
-brace_started x fs symbols.CloseBrace = Reads fs (Have false)
+brace_started x fs symbols.CloseBrace = Reads fs (Have Other)
 brace_started x fs s = begins x (Braces false ∷ fs)
 
 abbrev pub brace_named : Laid → List Row → Symbol → Done
 brace_named x fs symbols.Member = want (MaybeFilter ∷ fs)
-brace_named x fs s = follows x true (Braces false ∷ fs)
+brace_named x fs s = follows x Bare (Braces false ∷ fs)
 
 abbrev pub tuple_started : Laid → List Row → Symbol → Done
 tuple_started x fs symbols.CloseTuple = deliver fs
@@ -430,13 +442,13 @@ other_arrow fs _ = Stops
 
 abbrev pub step : Laid → List Row → Expected → Done
 step x fs Want = begins x fs
-step x fs (Have named) = follows x named fs
+step x fs (Have primary) = follows x primary fs
 step x fs (BoundName b) = on_name x (λ n. Reads fs (BoundNamed b)) Stops
 step x fs (BoundNamed b) = on_symbol x (λ s. bound_named b fs s) Stops
 step x fs BracketStart = on_name x (λ n. Reads fs (BracketName n)) (begins x (Bracket ∷ fs))
-step x fs (BracketName n) = on_symbol x (λ s. bracket_named x n fs s) (follows x true (Bracket ∷ fs))
+step x fs (BracketName n) = on_symbol x (λ s. bracket_named x n fs s) (follows x Bare (Bracket ∷ fs))
 step x fs BraceStart = on_name x (λ n. Reads fs BraceName) (on_symbol x (λ s. brace_started x fs s) (begins x (Braces false ∷ fs)))
-step x fs BraceName = on_symbol x (λ s. brace_named x fs s) (follows x true (Braces false ∷ fs))
+step x fs BraceName = on_symbol x (λ s. brace_named x fs s) (follows x Bare (Braces false ∷ fs))
 step x fs TupleStart = on_symbol x (λ s. tuple_started x fs s) (begins x (Tuple false ∷ fs))
 step x fs (ListStart b) = list_started x b fs
 step x fs ChooseName = on_name x (λ n. Reads fs ChooseNamed) Stops
@@ -449,7 +461,8 @@ step x fs DefinedAs = on_symbol x (λ s. defined_as fs s) Stops
 step x fs ExceptMark = on_symbol x (λ s. except_mark fs s) Stops
 step x fs (ExceptPath more) = on_symbol x (λ s. except_path more fs s) Stops
 step x fs ExceptField = on_name x (λ n. Reads fs (ExceptPath true)) Stops
-step x fs FieldName = on_name x (λ n. Reads fs (Have false)) Stops
+step x fs FieldName = on_name x (λ n. Reads fs (Have Other)) Stops
+step x fs InstanceName = on_name x (λ n. Reads fs (Have Marked)) Stops
 step x fs (RecordName k ns) = on_name x (λ n. record_name k ns fs n) Stops
 step x fs (RecordNamed k ns n) = on_symbol x (λ s. record_named k ns n fs s) Stops
 step x fs SubscriptStart = subscript_started x (Subscript ∷ fs)

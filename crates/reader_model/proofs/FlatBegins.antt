@@ -18,10 +18,10 @@ use Rattle.reader_model.specs.declared.frame.Action.TheVariants as actions
 use Rattle.reader_model.specs.declared.frame.Frame.{Frame}
 use Rattle.reader_model.specs.declared.frame.Frame.TheVariants as frame
 use Rattle.reader_model.specs.declared.frame.Mode.TheVariants as mode
-use Rattle.reader_model.specs.Machine.{Stepped, Reads, is_bare_name, deliver, word_begins, symbol_begins, token_begins, begins, name_or, on_name, symbol_or, on_symbol, subscript_symbol, subscript_started}
+use Rattle.reader_model.specs.Machine.{Stepped, Reads, deliver, word_begins, symbol_begins, token_begins, begins, name_or, on_name, symbol_or, on_symbol, subscript_symbol, subscript_started}
 use Rattle.reader_model.specs.OpenFits.{Open}
 use Rattle.reader_model.proofs.Flat as flat
-use Rattle.reader_model.proofs.FlatStates.{rows, Unfresh, Sits, FramesKept, Same, sits, unfresh_sits}
+use Rattle.reader_model.proofs.FlatStates.{rows, primary, Unfresh, Sits, FramesKept, Same, sits, unfresh_sits}
 
 -- ---- no subscript is expected
 
@@ -38,7 +38,7 @@ open_rows (frame.Subscript c at a ∷ fs) k o = absurd o
 open_rows (frame.FairSubscript at ∷ fs) k o = absurd o
 open_rows (f ∷ fs) k o = tt
 
-pub flat_delivers : (fs : List flat.Row) → FlatOpen fs → flat.deliver fs ≡ flat.Reads fs (flat.Have false)
+pub flat_delivers : (fs : List flat.Row) → FlatOpen fs → flat.deliver fs ≡ flat.Reads fs (flat.Have flat.Other)
 flat_delivers [] o = refl
 flat_delivers (flat.Subscript ∷ fs) o = absurd o
 flat_delivers (flat.FairSubscript ∷ fs) o = absurd o
@@ -56,14 +56,14 @@ BeginsSits (kinds.Name n) fs = (p : Place) → Sits (tree.Name p n) fs
 BeginsSits _ fs = Unit {0}
 
 module _ (A : Type 0) where
-  have_same : (e : Tree) (fs : List Frame) (y : flat.Done) → y ≡ flat.Reads (rows fs) (flat.Have false) → is_bare_name e ≡ false → is_name e ≡ false → begins_member e ≡ false → Open fs → FramesKept fs → Same A (Reads fs (mode.Have e)) y
+  have_same : (e : Tree) (fs : List Frame) (y : flat.Done) → y ≡ flat.Reads (rows fs) (flat.Have flat.Other) → primary e ≡ flat.Other → is_name e ≡ false → begins_member e ≡ false → Open fs → FramesKept fs → Same A (Reads fs (mode.Have e)) y
   have_same e fs y q b a m o k = (q ∙ ap (λ v. flat.Reads (rows fs) (flat.Have v)) (sym b), k, (o, sits e fs a m))
 
   subscripts_same : (c : Action) (at : Place) (d e : Tree) (fs : List Frame) → FramesKept (frame.Subscript c at d ∷ fs) → Same A (deliver e (frame.Subscript c at d ∷ fs)) (flat.deliver (rows (frame.Subscript c at d ∷ fs)))
   subscripts_same actions.Box at d e fs k = (refl, k.1, (k.0, sits (tree.BoxAction at d e) fs refl refl))
   subscripts_same actions.Angle at d e fs k = (refl, k.1, (k.0, sits (tree.AngleAction at d e) fs refl refl))
 
-  pub deliver_same : (e : Tree) (fs : List Frame) → is_bare_name e ≡ false → is_name e ≡ false → begins_member e ≡ false → FramesKept fs → Same A (deliver e fs) (flat.deliver (rows fs))
+  pub deliver_same : (e : Tree) (fs : List Frame) → primary e ≡ flat.Other → is_name e ≡ false → begins_member e ≡ false → FramesKept fs → Same A (deliver e fs) (flat.deliver (rows fs))
   deliver_same e [] b a m k = have_same e [] _ refl b a m tt k
   deliver_same e (frame.Subscript c at d ∷ fs) b a m k = subscripts_same c at d e fs k
   deliver_same e (frame.FairSubscript at ∷ fs) b a m k = (refl, k.1, k.0)

@@ -102,7 +102,7 @@ changes_before (MoreChanges cs ss e) g fs xs ys h =
     ∙ change_begins ss g.1 c.0 fs h.0 c.1.0 c.1.2.0 c.1.2.2.0 c.1.1 c.1.2.1 c.1.2.2.1
     ∙ part _ _ e (flat.ExceptValue ∷ fs) g.2.goes tt c.1.2.2.2 h.2.2.1 refl (λ n gs. refl)
 
-pub changes_go : (cs : Changes) → ChangesGood cs → (fs : List flat.Row) (xs ys zs : List Laid) → ChangesText cs xs ys → sign symbols.CloseBracket ys zs → flat.run xs fs flat.ExceptMark ≡ flat.run zs fs (flat.Have false)
+pub changes_go : (cs : Changes) → ChangesGood cs → (fs : List flat.Row) (xs ys zs : List Laid) → ChangesText cs xs ys → sign symbols.CloseBracket ys zs → flat.run xs fs flat.ExceptMark ≡ flat.run zs fs (flat.Have flat.Other)
 changes_go NoChanges g fs xs ys zs h s = absurd h
 changes_go (MoreChanges cs ss e) g fs xs ys zs h s =
     let c = h.2 in

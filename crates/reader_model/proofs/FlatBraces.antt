@@ -32,19 +32,19 @@ in_infixes infixes.Member h = cc
 in_infixes _ h = refl
 
 special : Special is_in
-special = record { infixes = in_infixes; prime = refl; bracket = refl; dot = refl; parenthesis = refl }
+special = record { infixes = in_infixes; prime = refl; bracket = refl; dot = refl; parenthesis = refl; exclamation = refl }
 
 -- ---- where a tree begins in braces
 
-named_symbol : (fs : List flat.Row) (q : Place) (s : Symbol) → is_in s ≡ false → flat.brace_named (plain (kinds.Symbol s) q) fs s ≡ flat.follows (plain (kinds.Symbol s) q) true (flat.Braces false ∷ fs)
+named_symbol : (fs : List flat.Row) (q : Place) (s : Symbol) → is_in s ≡ false → flat.brace_named (plain (kinds.Symbol s) q) fs s ≡ flat.follows (plain (kinds.Symbol s) q) flat.Bare (flat.Braces false ∷ fs)
 named_symbol fs q symbols.Member h = absurd (let e : true ≡ false = h in cc)
 named_symbol fs q _ h = refl
 
-named_kind : (fs : List flat.Row) (q : Place) (k : Kind) → SecondKind is_in k → flat.step (plain k q) fs flat.BraceName ≡ flat.follows (plain k q) true (flat.Braces false ∷ fs)
+named_kind : (fs : List flat.Row) (q : Place) (k : Kind) → SecondKind is_in k → flat.step (plain k q) fs flat.BraceName ≡ flat.follows (plain k q) flat.Bare (flat.Braces false ∷ fs)
 named_kind fs q (kinds.Symbol s) h = named_symbol fs q s h
 named_kind fs q _ h = refl
 
-named_runs : (fs : List flat.Row) (xs : List Laid) → Clear is_in xs → flat.run xs fs flat.BraceName ≡ flat.run xs (flat.Braces false ∷ fs) (flat.Have true)
+named_runs : (fs : List flat.Row) (xs : List Laid) → Clear is_in xs → flat.run xs fs flat.BraceName ≡ flat.run xs (flat.Braces false ∷ fs) (flat.Have flat.Bare)
 named_runs fs [] h = refl
 named_runs fs (Plain t ∷ xs) h = ap (λ s. flat.after s (Plain t ∷ xs) (flat.run xs)) (named_kind fs t.place t.kind h)
 named_runs fs (ListOpen b q ∷ xs) h = refl
@@ -109,23 +109,23 @@ elements (MoreTrees es d) e gs g fs xs ys h =
     ∙ part _ _ e (flat.Braces true ∷ fs) g.goes tt h.2.1 h.2.2.1 refl (λ n gs. refl)
 
 pub set_goes : (at : Place) (es : Trees) → AllGood es → Goes (tree.SetOf at es)
-set_goes at NoTrees g fs o xs ys h = here ys fs false _ (ap (λ v. flat.run v fs flat.Want) h.1 ∙ ap (λ v. flat.run v fs flat.BraceStart) (h.2.1 ∙ h.2.2.1))
+set_goes at NoTrees g fs o xs ys h = here ys fs flat.Other _ (ap (λ v. flat.run v fs flat.Want) h.1 ∙ ap (λ v. flat.run v fs flat.BraceStart) (h.2.1 ∙ h.2.2.1))
 set_goes at (MoreTrees NoTrees e) g fs o xs ys h =
-    here ys fs false _
+    here ys fs flat.Other _
     (ap (λ v. flat.run v fs flat.Want) h.1
     ∙ ap (λ v. flat.run v fs flat.BraceStart) h.2.1.1
-    ∙ first_in_braces e g.1 (plain (kinds.Symbol symbols.CloseBrace) h.2.2.0) fs (flat.Reads fs (flat.Have false))
+    ∙ first_in_braces e g.1 (plain (kinds.Symbol symbols.CloseBrace) h.2.2.0) fs (flat.Reads fs (flat.Have flat.Other))
     (record { clear = refl; closing = λ n gs. refl; no_case = refl; plainly = refl; joined = refl })
     h.2.1.0 h.2.0 ys h.2.1.2 h.2.2.1)
 set_goes at (MoreTrees (MoreTrees es d) e) g fs o xs ys h =
-    here ys fs false _
+    here ys fs flat.Other _
     (ap (λ v. flat.run v fs flat.Want) h.1
     ∙ elements es d g.0.0 g.0.1 fs h.0 h.2.1.0 h.2.1.1
     ∙ part _ _ e (flat.Braces true ∷ fs) g.1.goes tt h.2.1.2 h.2.2.1 refl (λ n gs. refl))
 
 pub filter_goes : (at : Place) (n : List ℕ) (s e : Tree) → Goes s → Goes e → Goes (tree.Filter at n s e)
 filter_goes at n s e gs ge fs o xs ys h =
-    here ys fs false _
+    here ys fs flat.Other _
     (ap (λ v. flat.run v fs flat.Want) h.1
     ∙ ap (λ v. flat.run v fs flat.BraceStart) h.2.1.1
     ∙ ap (λ v. flat.run v fs flat.BraceName) h.2.2.1.1
@@ -135,7 +135,7 @@ filter_goes at n s e gs ge fs o xs ys h =
 pub map_goes : (at : Place) (e : Tree) (bs : Bounds) → Goes e → BoundsGood bs → Goes (tree.Map at e bs)
 map_goes at e bs g gs fs o xs ys h =
     let k = h.1 in
-    here ys fs false _
+    here ys fs flat.Other _
     (ap (λ v. flat.run v fs flat.Want) k.1
     ∙ braces_start e h.0 fs k.0 k.2.0 k.2.1 (subst (Clear is_in) (sym k.2.2.1.1) refl)
     ∙ part _ _ e (flat.Braces false ∷ fs) g tt k.2.1 k.2.2.1.1 refl (λ n gs. refl)
@@ -187,7 +187,7 @@ tuple_reads (MoreTrees es e) g gs fs m d xs ys zs h s =
 
 pub tuple_goes : (at : Place) (es : Trees) → AllGood es → Goes (tree.Tuple at es)
 tuple_goes at es g fs o xs ys h =
-    here ys fs false _ (ap (λ v. flat.run v fs flat.Want) h.1 ∙ tuple_reads es g fs fs (flat.Have false) (flat_delivers fs o) h.0 h.2.0 ys h.2.1 h.2.2)
+    here ys fs flat.Other _ (ap (λ v. flat.run v fs flat.Want) h.1 ∙ tuple_reads es g fs fs (flat.Have flat.Other) (flat_delivers fs o) h.0 h.2.0 ys h.2.1 h.2.2)
 
 -- ---- subscripts
 
@@ -214,18 +214,18 @@ fair_subscript fs (x ∷ xs) = refl
 pub angle_goes : (at : Place) (e v : Tree) → Goes e → Delivers v → Goes (tree.AngleAction at e v)
 angle_goes at e v g d fs o xs ys h =
     let k = h.1 in
-    here ys fs false _
+    here ys fs flat.Other _
     (ap (λ v. flat.run v fs flat.Want) k.1
     ∙ tuple_starts fs k.0 (opened e k.0 k.2.0 k.2.1)
     ∙ part _ _ e (flat.Tuple false ∷ fs) g tt k.2.1 k.2.2.1.1 refl (λ n hs. refl)
     ∙ ap (λ b. flat.after (if b then flat.Stops else flat.Reads fs flat.SubscriptStart) (plain (kinds.Symbol symbols.CloseTupleSubscript) k.2.2.1.0 ∷ k.2.2.0) (flat.run k.2.2.0)) (flat_no_subscript fs o)
     ∙ action_subscript fs k.2.2.0
-    ∙ d h.0 (flat.Subscript ∷ fs) fs (flat.Have false) refl k.2.2.0 ys k.2.2.2)
+    ∙ d h.0 (flat.Subscript ∷ fs) fs (flat.Have flat.Other) refl k.2.2.0 ys k.2.2.2)
 
 pub fairness_goes : (at : Place) (v e : Tree) → Delivers v → Goes e → Goes (tree.Fairness at v e)
 fairness_goes at v e d g fs o xs ys h =
     let k = h.1 in
-    here ys fs false _
+    here ys fs flat.Other _
     (ap (λ v. flat.run v fs flat.Want) k.1
     ∙ fair_subscript fs k.0
     ∙ d h.0 (flat.FairSubscript ∷ fs) fs flat.FairOpen refl k.0 k.2.0 k.2.1

@@ -41,22 +41,22 @@ special_infixes infixes.Member h = cc
 special_infixes _ h = refl
 
 special : Special is_special
-special = record { infixes = special_infixes; prime = refl; bracket = refl; dot = refl; parenthesis = refl }
+special = record { infixes = special_infixes; prime = refl; bracket = refl; dot = refl; parenthesis = refl; exclamation = refl }
 
 -- ---- where a tree begins in brackets
 
-named_symbol : (x : Laid) (n : List ℕ) (fs : List flat.Row) (s : Symbol) → is_special s ≡ false → flat.bracket_named x n fs s ≡ flat.follows x true (flat.Bracket ∷ fs)
+named_symbol : (x : Laid) (n : List ℕ) (fs : List flat.Row) (s : Symbol) → is_special s ≡ false → flat.bracket_named x n fs s ≡ flat.follows x flat.Bare (flat.Bracket ∷ fs)
 named_symbol x n fs symbols.MapsTo h = absurd (let e : true ≡ false = h in cc)
 named_symbol x n fs symbols.Colon h = absurd (let e : true ≡ false = h in cc)
 named_symbol x n fs symbols.Comma h = absurd (let e : true ≡ false = h in cc)
 named_symbol x n fs symbols.Member h = absurd (let e : true ≡ false = h in cc)
 named_symbol x n fs _ h = refl
 
-named_kind : (n : List ℕ) (fs : List flat.Row) (q : Place) (k : Kind) → SecondKind is_special k → flat.step (plain k q) fs (flat.BracketName n) ≡ flat.follows (plain k q) true (flat.Bracket ∷ fs)
+named_kind : (n : List ℕ) (fs : List flat.Row) (q : Place) (k : Kind) → SecondKind is_special k → flat.step (plain k q) fs (flat.BracketName n) ≡ flat.follows (plain k q) flat.Bare (flat.Bracket ∷ fs)
 named_kind n fs q (kinds.Symbol s) h = named_symbol (plain (kinds.Symbol s) q) n fs s h
 named_kind n fs q _ h = refl
 
-named_runs : (n : List ℕ) (fs : List flat.Row) (xs : List Laid) → Clear is_special xs → flat.run xs fs (flat.BracketName n) ≡ flat.run xs (flat.Bracket ∷ fs) (flat.Have true)
+named_runs : (n : List ℕ) (fs : List flat.Row) (xs : List Laid) → Clear is_special xs → flat.run xs fs (flat.BracketName n) ≡ flat.run xs (flat.Bracket ∷ fs) (flat.Have flat.Bare)
 named_runs n fs [] h = refl
 named_runs n fs (Plain t ∷ xs) h = ap (λ s. flat.after s (Plain t ∷ xs) (flat.run xs)) (named_kind n fs t.place t.kind h)
 named_runs n fs (ListOpen b q ∷ xs) h = refl
@@ -101,7 +101,7 @@ first_in_brackets e g x fs next d xs ys zs h q = first_by e g x fs next d xs ys 
 
 pub function_set_goes : (at : Place) (s e : Tree) → Good s → Goes e → Goes (tree.FunctionSet at s e)
 function_set_goes at s e g ge fs o xs ys h =
-    here ys fs false _
+    here ys fs flat.Other _
     (ap (λ v. flat.run v fs flat.Want) h.1
     ∙ first_in_brackets s g (plain (kinds.Symbol symbols.Arrow) h.2.2.1.0) fs (flat.want (flat.FunctionRange ∷ fs))
     (record { clear = refl; closing = λ n gs. refl; no_case = refl; plainly = refl; joined = refl })
@@ -110,7 +110,7 @@ function_set_goes at s e g ge fs o xs ys h =
 
 pub except_goes : (at : Place) (e : Tree) (cs : Changes) → Good e → ChangesGood cs → Goes (tree.Except at e cs)
 except_goes at e cs g c fs o xs ys h =
-    here ys fs false _
+    here ys fs flat.Other _
     (ap (λ v. flat.run v fs flat.Want) h.1
     ∙ first_in_brackets e g (plain (kinds.Word words.Except) h.2.2.1.0) fs (flat.Reads fs flat.ExceptMark)
     (record { clear = tt; closing = λ n gs. refl; no_case = refl; plainly = refl; joined = refl })
@@ -120,13 +120,13 @@ except_goes at e cs g c fs o xs ys h =
 pub box_goes : (at : Place) (e v : Tree) → Good e → Delivers v → Goes (tree.BoxAction at e v)
 box_goes at e v g d fs o xs ys h =
     let k = h.1 in
-    here ys fs false _
+    here ys fs flat.Other _
     (ap (λ v. flat.run v fs flat.Want) k.1
     ∙ first_in_brackets e g (plain (kinds.Symbol symbols.CloseBracketSubscript) k.2.2.1.0) fs (flat.Reads fs flat.SubscriptStart)
     (record { clear = refl; closing = λ n gs. refl; no_case = refl; plainly = refl; joined = refl })
     k.0 k.2.0 k.2.2.0 k.2.1 k.2.2.1.1
     ∙ action_subscript fs k.2.2.0
-    ∙ d h.0 (flat.Subscript ∷ fs) fs (flat.Have false) refl k.2.2.0 ys k.2.2.2)
+    ∙ d h.0 (flat.Subscript ∷ fs) fs (flat.Have flat.Other) refl k.2.2.0 ys k.2.2.2)
 
 -- ---- functions
 
@@ -177,7 +177,7 @@ function_bounds (MoreBounds (MoreBounds bs ms t) ns s) g fs xs ys zs h m =
 
 pub function_goes : (at : Place) (bs : Bounds) (e : Tree) → BoundsGood bs → Goes e → Goes (tree.Function at bs e)
 function_goes at bs e g ge fs o xs ys h =
-    here ys fs false _
+    here ys fs flat.Other _
     (ap (λ v. flat.run v fs flat.Want) h.1
     ∙ function_bounds bs g fs h.0 h.2.0 h.2.2.0 h.2.1 h.2.2.1
     ∙ part _ _ e (flat.FunctionBody ∷ fs) ge tt h.2.2.2.1 h.2.2.2.2.1 refl (λ n gs. refl))
@@ -221,7 +221,7 @@ fields_before k (MoreFields hs n e) g o fs xs ys h =
     ∙ part _ _ e (flat.Record k (n ∷ names_of hs) ∷ fs) g.1.goes tt h.2.2.2.1 h.2.2.2.2.1 refl (λ n gs. refl)
 
 fields_go : (k : RecordKind) (hs : Fields) → FieldsGood hs → AreOnce hs → (fs : List flat.Row) (xs ys zs : List Laid) → FieldsText (field_mark k) hs xs ys → sign symbols.CloseBracket ys zs
-    → flat.run xs fs flat.BracketStart ≡ flat.run zs fs (flat.Have false)
+    → flat.run xs fs flat.BracketStart ≡ flat.run zs fs (flat.Have flat.Other)
 fields_go k NoFields g o fs xs ys zs h s = absurd h
 fields_go k (MoreFields hs n e) g o fs xs ys zs h s =
     fields_before k hs g.0 o.0 fs xs h.0 h.1
@@ -229,7 +229,7 @@ fields_go k (MoreFields hs n e) g o fs xs ys zs h s =
     ∙ part _ _ e (flat.Record k (n ∷ names_of hs) ∷ fs) g.1.goes tt h.2.2.2 s.1 refl (λ n gs. refl)
 
 pub record_goes : (at : Place) (hs : Fields) → FieldsGood hs → Goes (tree.Record at hs)
-record_goes at hs g fs o xs ys h = here ys fs false _ (ap (λ v. flat.run v fs flat.Want) h.1.1 ∙ fields_go records.Record hs g h.0 fs h.1.0 h.1.2.0 ys h.1.2.1 h.1.2.2)
+record_goes at hs g fs o xs ys h = here ys fs flat.Other _ (ap (λ v. flat.run v fs flat.Want) h.1.1 ∙ fields_go records.Record hs g h.0 fs h.1.0 h.1.2.0 ys h.1.2.1 h.1.2.2)
 
 pub record_set_goes : (at : Place) (hs : Fields) → FieldsGood hs → Goes (tree.RecordSet at hs)
-record_set_goes at hs g fs o xs ys h = here ys fs false _ (ap (λ v. flat.run v fs flat.Want) h.1.1 ∙ fields_go records.Set hs g h.0 fs h.1.0 h.1.2.0 ys h.1.2.1 h.1.2.2)
+record_set_goes at hs g fs o xs ys h = here ys fs flat.Other _ (ap (λ v. flat.run v fs flat.Want) h.1.1 ∙ fields_go records.Set hs g h.0 fs h.1.0 h.1.2.0 ys h.1.2.1 h.1.2.2)

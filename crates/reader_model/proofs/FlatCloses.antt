@@ -24,13 +24,13 @@ use Rattle.reader_model.specs.declared.frame.Binding.{Binding}
 use Rattle.reader_model.specs.declared.frame.Frame.{Frame}
 use Rattle.reader_model.specs.declared.frame.Frame.TheVariants as frame
 use Rattle.reader_model.specs.declared.frame.Mode.TheVariants as mode
-use Rattle.reader_model.specs.Machine.{Stepped, Reads, Stops, Joined, Joins, Meets, is_bare_name, with_step, of_records, same_bullet, on_joined, is_subscript, braces_close, bracket_close, tuple_close, binder_close, bound_close, comma_or, only_at, symbol_closes, word_closes, name_closes, item_closes, list_closes, kind_closes, laid_closes, closes}
+use Rattle.reader_model.specs.Machine.{Stepped, Reads, Stops, Joined, Joins, Meets, with_step, of_records, same_bullet, on_joined, is_subscript, braces_close, bracket_close, tuple_close, binder_close, bound_close, comma_or, only_at, symbol_closes, word_closes, name_closes, item_closes, list_closes, kind_closes, laid_closes, closes}
 use Rattle.reader_model.specs.OpenFits.{FramesFit, Open}
 use Rattle.reader_model.specs.OpenRows.{FramesText}
 use Rattle.reader_model.proofs.Opened.{laid_symbol}
 use Rattle.reader_model.proofs.Closing.{laid, laid_word}
 use Rattle.reader_model.proofs.Flat as flat
-use Rattle.reader_model.proofs.FlatStates.{binds, row, rows, Settles, BinderInLet, FrameKept, FramesKept, Same, sits}
+use Rattle.reader_model.proofs.FlatStates.{binds, row, rows, primary, Settles, BinderInLet, FrameKept, FramesKept, Same, sits}
 use Rattle.reader_model.proofs.FlatBegins.{open_rows, flat_no_subscript, deliver_same}
 use Rattle.reader_model.proofs.FlatFolds.{Waits}
 use Rattle.reader_model.proofs.OpenEnds.{start, one, one_tree, a_sign, a_kind, ends, suits, sound, close, Ending}
@@ -81,10 +81,10 @@ module _ (A : Type 0) where
   joined_same (Joins t) q next y a h = h t
   joined_same (Meets p) q next y a h = a
 
-  have_same : (e : Tree) (fs : List Frame) → is_bare_name e ≡ false → is_name e ≡ false → begins_member e ≡ false → FramesKept fs → Open fs → Same A (Reads fs (mode.Have e)) (flat.Reads (rows fs) (flat.Have false))
+  have_same : (e : Tree) (fs : List Frame) → primary e ≡ flat.Other → is_name e ≡ false → begins_member e ≡ false → FramesKept fs → Open fs → Same A (Reads fs (mode.Have e)) (flat.Reads (rows fs) (flat.Have flat.Other))
   have_same e fs b a m k o = (ap (λ v. flat.Reads (rows fs) (flat.Have v)) (sym b), k, (o, sits e fs a m))
 
-  pub step_same : (a : Tree) (at : Place) (t : tree.Step) (fs : List Frame) → FramesKept fs → Open fs → Same A (Reads fs (mode.Have (with_step a at t))) (flat.Reads (rows fs) (flat.Have false))
+  pub step_same : (a : Tree) (at : Place) (t : tree.Step) (fs : List Frame) → FramesKept fs → Open fs → Same A (Reads fs (mode.Have (with_step a at t))) (flat.Reads (rows fs) (flat.Have flat.Other))
   step_same (tree.Postfix p e ss s) at t fs k o = have_same (with_step (tree.Postfix p e ss s) at t) fs refl refl refl k o
   step_same a at t fs k o = have_same (with_step a at t) fs refl refl refl k o
 
@@ -139,7 +139,7 @@ module _ (A : Type 0) where
   bound_same symbols.Comma b ns fs e i k o = (refl, k, (o, i))
   bound_same s b ns fs e i k o = binder_same s b.binder (tree.MoreBounds b.bounds ns e) fs i k o
 
-  record_same : (c : RecordKind) (at : Place) (hs : tree.Fields) (fs : List Frame) → FramesKept fs → Open fs → Same A (Reads fs (mode.Have (of_records c at hs))) (flat.Reads (rows fs) (flat.Have false))
+  record_same : (c : RecordKind) (at : Place) (hs : tree.Fields) (fs : List Frame) → FramesKept fs → Open fs → Same A (Reads fs (mode.Have (of_records c at hs))) (flat.Reads (rows fs) (flat.Have flat.Other))
   record_same records.Record at hs fs k o = have_same (tree.Record at hs) fs refl refl refl k o
   record_same records.Set at hs fs k o = have_same (tree.RecordSet at hs) fs refl refl refl k o
 
@@ -211,6 +211,7 @@ pub symbol_same : (s : Symbol) (q : Place) (f : Frame) (fs : List Frame) (e : Tr
     → Same (Meet (laid_symbol s q) (f ∷ fs) e) (symbol_closes s f fs e) (flat.symbol_closes s (row f) (rows fs))
 symbol_same s q (frame.Parenthesis at) fs e h k i = same_parenthesis _ s _ _ (deliver_same _ (tree.Parenthesized at e) fs refl refl refl k)
 symbol_same s q (frame.Call n at es) fs e h k i = comma_parenthesis _ s _ _ _ _ (refl, (h, k), (tt, tt)) (have_same ⊥ (tree.Call at n (MoreTrees es e)) fs refl refl refl k h)
+symbol_same s q (frame.QualifiedCall n at es) fs e h k i = comma_parenthesis _ s _ _ _ _ (refl, (h, k), (tt, tt)) (have_same ⊥ (tree.Qualified at n (MoreTrees es e)) fs refl refl refl k h)
 symbol_same s q (frame.Index a at es) fs e h k i = comma_bracket _ s _ _ _ _ (refl, (h, k), (tt, tt)) (step_same ⊥ a at (tree.Index (MoreTrees es e)) fs k h)
 symbol_same s q (frame.Braces at es) fs e h k i = braces_same _ s at es fs e k h i
 symbol_same s q (frame.FilterTest at n a) fs e h k i = same_brace _ s _ _ (have_same ⊥ (tree.Filter at n a e) fs refl refl refl k h)

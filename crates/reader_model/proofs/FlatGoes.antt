@@ -39,7 +39,7 @@ settle_pile (false ∷ bs) fs = settle_pile bs fs
 -- behind a primary before ys, with some such rows over those from the beginning
 pub record Reached (o : flat.Result) (ys : List Laid) (fs : List flat.Row) : Type 0 where
   pub over : List Bool
-  pub named : Bool
+  pub named : flat.Primary
   pub runs : o ≡ flat.run ys (pile over fs) (flat.Have named)
 
 pub from : {o p : flat.Result} {ys : List Laid} {fs : List flat.Row} → o ≡ p → Reached p ys fs → Reached o ys fs
@@ -119,7 +119,7 @@ DefinitionsGood (MoreDefinitions ds n at ns form e) = DefinitionsGood ds × Good
 
 -- a token that is neither a step nor an infix operator
 abbrev pub Closing : Laid → Type 0
-Closing x = (n : Bool) (fs : List flat.Row) → flat.follows x n fs ≡ flat.behind x fs
+Closing x = (n : flat.Primary) (fs : List flat.Row) → flat.follows x n fs ≡ flat.behind x fs
 
 closed : (x : Laid) (bs : List Bool) (fs : List flat.Row) → is_case_mark x ≡ false → flat.behind x (pile bs fs) ≡ flat.behind x fs
 closed x bs fs h =

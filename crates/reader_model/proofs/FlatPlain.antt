@@ -14,7 +14,7 @@ use Rattle.tla_ast.specs.declared.operators.InfixOperator.TheVariants as infixes
 use Rattle.tla_ast.specs.declared.operators.BuiltinSet.{BuiltinSet}
 use Rattle.tla_ast.specs.declared.operators.BuiltinSet.TheVariants as builtins
 use Rattle.tla_ast.specs.Precedence.{prefix_kind, infix_symbol}
-use Rattle.tla_ast.specs.Grammar.{Text, Chain, Commas, ItemsBefore, StepText, StepsText, sign, sign_at, list_item, begins_member, first_begins, is_member, is_name}
+use Rattle.tla_ast.specs.Grammar.{Text, ArgumentsText, Chain, Commas, ItemsBefore, StepText, StepsText, sign, sign_at, list_item, begins_member, first_begins, is_member, is_name}
 use Rattle.tla_ast.specs.Trees as tree
 use Rattle.tla_ast.specs.Trees.{Tree, Trees, NoTrees, MoreTrees, Operands, First, Next, Step, Prime, Index, Field, Steps, NoSteps, MoreSteps}
 use Rattle.reader_model.proofs.RunsParts.{plain}
@@ -24,28 +24,28 @@ use Rattle.reader_model.proofs.FlatGoes.{pile, pile_open, Reached, from, widen, 
 
 -- ---- one token
 
-pub here : (ys : List Laid) (fs : List flat.Row) (n : Bool) (o : flat.Result) → o ≡ flat.run ys fs (flat.Have n) → Reached o ys fs
+pub here : (ys : List Laid) (fs : List flat.Row) (n : flat.Primary) (o : flat.Result) → o ≡ flat.run ys fs (flat.Have n) → Reached o ys fs
 here ys fs n o q = record { over = []; named = n; runs = q }
 
 pub number_goes : (at : Place) (n : ℤ) → Goes (tree.Number at n)
-number_goes at n fs o xs ys h = here ys fs false _ (ap (λ v. flat.run v fs flat.Want) h)
+number_goes at n fs o xs ys h = here ys fs flat.Other _ (ap (λ v. flat.run v fs flat.Want) h)
 
 pub str_goes : (at : Place) (s : List ℕ) → Goes (tree.Str at s)
-str_goes at s fs o xs ys h = here ys fs false _ (ap (λ v. flat.run v fs flat.Want) h)
+str_goes at s fs o xs ys h = here ys fs flat.Other _ (ap (λ v. flat.run v fs flat.Want) h)
 
 pub truth_goes : (at : Place) (b : Bool) → Goes (tree.Truth at b)
-truth_goes at true fs o xs ys h = here ys fs false _ (ap (λ v. flat.run v fs flat.Want) h)
-truth_goes at false fs o xs ys h = here ys fs false _ (ap (λ v. flat.run v fs flat.Want) h)
+truth_goes at true fs o xs ys h = here ys fs flat.Other _ (ap (λ v. flat.run v fs flat.Want) h)
+truth_goes at false fs o xs ys h = here ys fs flat.Other _ (ap (λ v. flat.run v fs flat.Want) h)
 
 pub builtin_goes : (at : Place) (b : BuiltinSet) → Goes (tree.Builtin at b)
-builtin_goes at builtins.Booleans fs o xs ys h = here ys fs false _ (ap (λ v. flat.run v fs flat.Want) h)
-builtin_goes at builtins.Strings fs o xs ys h = here ys fs false _ (ap (λ v. flat.run v fs flat.Want) h)
+builtin_goes at builtins.Booleans fs o xs ys h = here ys fs flat.Other _ (ap (λ v. flat.run v fs flat.Want) h)
+builtin_goes at builtins.Strings fs o xs ys h = here ys fs flat.Other _ (ap (λ v. flat.run v fs flat.Want) h)
 
 pub name_goes : (at : Place) (n : List ℕ) → Goes (tree.Name at n)
-name_goes at n fs o xs ys h = here ys fs true _ (ap (λ v. flat.run v fs flat.Want) h)
+name_goes at n fs o xs ys h = here ys fs flat.Bare _ (ap (λ v. flat.run v fs flat.Want) h)
 
 pub at_goes : (at : Place) → Goes (tree.At at)
-at_goes at fs o xs ys h = here ys fs false _ (ap (λ v. flat.run v fs flat.Want) h)
+at_goes at fs o xs ys h = here ys fs flat.Other _ (ap (λ v. flat.run v fs flat.Want) h)
 
 -- ---- operators
 
@@ -57,7 +57,7 @@ pub prefix_goes : (at : Place) (c : PrefixOperator) (e : Tree) → Goes e → Go
 prefix_goes at c e g fs o xs ys h =
     from (ap (λ v. flat.run v fs flat.Want) h.1 ∙ ap (λ s. flat.after s (plain (prefix_kind c) at ∷ h.0) (flat.run h.0)) (prefix_begins c at fs)) (g fs o h.0 ys h.2)
 
-infix_follows : (q : InfixOperator) (at : Place) (n : Bool) (fs : List flat.Row) → flat.follows (plain (kinds.Symbol (infix_symbol q)) at) n fs ≡ flat.want fs
+infix_follows : (q : InfixOperator) (at : Place) (n : flat.Primary) (fs : List flat.Row) → flat.follows (plain (kinds.Symbol (infix_symbol q)) at) n fs ≡ flat.want fs
 infix_follows infixes.Implies at n fs = refl
 infix_follows _ at n fs = refl
 
@@ -109,12 +109,12 @@ infix_member at q es e gs g m xs ys h = chain_member q es gs m at e xs h.0 h.2.0
 
 pub parenthesized_goes : (at : Place) (e : Tree) → Goes e → Goes (tree.Parenthesized at e)
 parenthesized_goes at e g fs o xs ys h =
-    here ys fs false _
+    here ys fs flat.Other _
     (ap (λ v. flat.run v fs flat.Want) h.1
     ∙ part _ _ e (flat.Parenthesis ∷ fs) g tt h.2.1 h.2.2.1 refl (λ n gs. refl)
     ∙ ap (λ s. flat.after s (plain (kinds.Symbol symbols.CloseParenthesis) h.2.2.0 ∷ ys) (flat.run ys)) (flat_delivers fs o))
 
-call_arguments : (es : Trees) → AllGood es → (fs : List flat.Row) (xs ys zs : List Laid) → Commas es xs ys → sign symbols.CloseParenthesis ys zs → flat.run xs (flat.Call ∷ fs) flat.Want ≡ flat.run zs fs (flat.Have false)
+call_arguments : (es : Trees) → AllGood es → (fs : List flat.Row) (xs ys zs : List Laid) → Commas es xs ys → sign symbols.CloseParenthesis ys zs → flat.run xs (flat.Call ∷ fs) flat.Want ≡ flat.run zs fs (flat.Have flat.Other)
 call_arguments NoTrees g fs xs ys zs h s = absurd h
 call_arguments (MoreTrees es e) g fs xs ys zs h s =
     commas_in flat.Call fs tt (λ at. refl) es g.0 xs h.0 h.1
@@ -122,10 +122,24 @@ call_arguments (MoreTrees es e) g fs xs ys zs h s =
 
 pub call_goes : (at : Place) (n : List ℕ) (es : Trees) → AllGood es → Goes (tree.Call at n es)
 call_goes at n es g fs o xs ys h =
-    here ys fs false _
+    here ys fs flat.Other _
     (ap (λ v. flat.run v fs flat.Want) h.1
-    ∙ ap (λ v. flat.run v fs (flat.Have true)) h.2.1.1
+    ∙ ap (λ v. flat.run v fs (flat.Have flat.Bare)) h.2.1.1
     ∙ call_arguments es g fs h.2.0 h.2.2.0 ys h.2.2.1 h.2.2.2)
+
+qualified_arguments : (es : Trees) → AllGood es → (fs : List flat.Row) (xs ys : List Laid) → ArgumentsText es xs ys → Reached (flat.run xs fs (flat.Have flat.Marked)) ys fs
+qualified_arguments NoTrees g fs xs ys h = here ys fs flat.Marked _ (ap (λ v. flat.run v fs (flat.Have flat.Marked)) h)
+qualified_arguments (MoreTrees es e) g fs xs ys h =
+    here ys fs flat.Other _ (ap (λ v. flat.run v fs (flat.Have flat.Marked)) h.1.1 ∙ call_arguments (MoreTrees es e) g fs h.0 h.2.0 ys h.2.1 h.2.2)
+
+pub qualified_goes : (at : Place) (q : List ℕ) (es : Trees) → AllGood es → Goes (tree.Qualified at q es)
+qualified_goes at q es g fs o xs ys h =
+    let n = h.1.3 in
+    from
+    (ap (λ v. flat.run v fs flat.Want) n.1
+    ∙ ap (λ v. flat.run v fs (flat.Have flat.Bare)) n.2.1.1
+    ∙ ap (λ v. flat.run v fs flat.InstanceName) n.2.2.1)
+    (qualified_arguments es g fs h.0 ys h.2)
 
 pub if_goes : (at : Place) (p e f : Tree) → Goes p → Goes e → Goes f → Goes (tree.If at p e f)
 if_goes at p e f gp ge gf fs o xs ys h =
@@ -159,29 +173,29 @@ items at b (MoreTrees es e) g fs xs ys zs h s =
 pub junction_goes : (at : Place) (b : Bullet) (es : Trees) → AllGood es → Goes (tree.Junction at b es)
 junction_goes at b NoTrees g fs o xs ys h = absurd h.2.1
 junction_goes at b (MoreTrees es e) g fs o xs ys h =
-    here ys fs false _
+    here ys fs flat.Other _
     (ap (λ v. flat.run v fs flat.Want) h.1
     ∙ items at b es g.0 fs h.0 h.2.1.0 h.2.1.2.0 h.2.1.1 h.2.1.2.1
     ∙ part _ _ e (flat.Junction b ∷ fs) g.1.goes tt h.2.1.2.2 h.2.2.1 refl (λ n gs. refl))
 
 -- ---- postfix steps
 
-index_arguments : (es : Trees) → AllGood es → (fs : List flat.Row) (xs ys zs : List Laid) → Commas es xs ys → sign symbols.CloseBracket ys zs → flat.run xs (flat.Index ∷ fs) flat.Want ≡ flat.run zs fs (flat.Have false)
+index_arguments : (es : Trees) → AllGood es → (fs : List flat.Row) (xs ys zs : List Laid) → Commas es xs ys → sign symbols.CloseBracket ys zs → flat.run xs (flat.Index ∷ fs) flat.Want ≡ flat.run zs fs (flat.Have flat.Other)
 index_arguments NoTrees g fs xs ys zs h s = absurd h
 index_arguments (MoreTrees es e) g fs xs ys zs h s =
     commas_in flat.Index fs tt (λ at. refl) es g.0 xs h.0 h.1
     ∙ part _ _ e (flat.Index ∷ fs) g.1.goes tt h.2 s.1 refl (λ n gs. refl)
 
-step_goes : (at : Place) (s : Step) → StepGood s → (fs : List flat.Row) (n : Bool) (xs ys : List Laid) → StepText at s xs ys → flat.run xs fs (flat.Have n) ≡ flat.run ys fs (flat.Have false)
+step_goes : (at : Place) (s : Step) → StepGood s → (fs : List flat.Row) (n : flat.Primary) (xs ys : List Laid) → StepText at s xs ys → flat.run xs fs (flat.Have n) ≡ flat.run ys fs (flat.Have flat.Other)
 step_goes at Prime g fs n xs ys h = ap (λ v. flat.run v fs (flat.Have n)) h
 step_goes at (Index es) g fs n xs ys h = ap (λ v. flat.run v fs (flat.Have n)) h.1 ∙ index_arguments es g fs h.0 h.2.0 ys h.2.1 h.2.2
 step_goes at (Field m) g fs n xs ys h = ap (λ v. flat.run v fs (flat.Have n)) h.1 ∙ ap (λ v. flat.run v fs flat.FieldName) h.2.1
 
-abbrev named_after : Bool → Steps → Bool
+abbrev named_after : flat.Primary → Steps → flat.Primary
 named_after n NoSteps = n
-named_after n (MoreSteps ss at s) = false
+named_after n (MoreSteps ss at s) = flat.Other
 
-steps_go : (ss : Steps) → StepsGood ss → (fs : List flat.Row) (n : Bool) (xs ys : List Laid) → StepsText ss xs ys → flat.run xs fs (flat.Have n) ≡ flat.run ys fs (flat.Have (named_after n ss))
+steps_go : (ss : Steps) → StepsGood ss → (fs : List flat.Row) (n : flat.Primary) (xs ys : List Laid) → StepsText ss xs ys → flat.run xs fs (flat.Have n) ≡ flat.run ys fs (flat.Have (named_after n ss))
 steps_go NoSteps g fs n xs ys h = ap (λ v. flat.run v fs (flat.Have n)) h
 steps_go (MoreSteps ss at s) g fs n xs ys h = steps_go ss g.0 fs n xs h.0 h.1 ∙ step_goes at s g.1 fs (named_after n ss) h.0 ys h.2
 
@@ -191,6 +205,6 @@ postfix_goes at e ss s g gs gl fs o xs ys h =
     let r : Reached (flat.run xs fs flat.Want) k.0 fs = g fs o xs k.0 k.1 in
     record {
       over = r.over;
-      named = false;
+      named = flat.Other;
       runs = r.runs ∙ steps_go ss gs (pile r.over fs) r.named k.0 k.2.0 k.2.1 ∙ step_goes at s gl (pile r.over fs) (named_after r.named ss) k.2.0 ys k.2.2;
     }

@@ -14,7 +14,7 @@ use Rattle.reader_model.specs.declared.frame.Frame.{Frame}
 use Rattle.reader_model.specs.declared.frame.Frame.TheVariants as frame
 use Rattle.reader_model.specs.declared.frame.Mode.{Mode}
 use Rattle.reader_model.specs.declared.frame.Mode.TheVariants as mode
-use Rattle.reader_model.specs.Machine.{Stepped, Reads, Stops, Clashes, Ends, EndsDefinition, has_field, is_bare_name}
+use Rattle.reader_model.specs.Machine.{Stepped, Reads, Stops, Clashes, Ends, EndsDefinition, has_field}
 use Rattle.reader_model.specs.OpenFits.{Open}
 use Rattle.reader_model.proofs.Flat as flat
 
@@ -45,6 +45,7 @@ binds (binders.Defined s n p q) = flat.ByDefinition
 abbrev pub row : Frame → flat.Row
 row (frame.Parenthesis at) = flat.Parenthesis
 row (frame.Call n at es) = flat.Call
+row (frame.QualifiedCall n at es) = flat.Call
 row (frame.Junction b at es) = flat.Junction b
 row (frame.Index e at es) = flat.Index
 row (frame.Braces at es) = flat.Braces (has_trees es)
@@ -77,9 +78,15 @@ rows (frame.Prefix o p ∷ fs) = rows fs
 rows (frame.Infix o es p ∷ fs) = rows fs
 rows (f ∷ fs) = row f ∷ rows fs
 
+-- which primary it is
+abbrev pub primary : Tree → flat.Primary
+primary (tree.Name at n) = flat.Bare
+primary (tree.Qualified at n NoTrees) = flat.Marked
+primary _ = flat.Other
+
 abbrev pub expected : Mode → flat.Expected
 expected mode.Want = flat.Want
-expected (mode.Have e) = flat.Have (is_bare_name e)
+expected (mode.Have e) = flat.Have (primary e)
 expected (mode.BoundName b ns) = flat.BoundName (binds b.binder)
 expected (mode.BoundNamed b ns) = flat.BoundNamed (binds b.binder)
 expected (mode.BracketStart at) = flat.BracketStart
@@ -99,6 +106,7 @@ expected (mode.ExceptMark at e cs) = flat.ExceptMark
 expected (mode.ExceptPath at e cs ss) = flat.ExceptPath (has_steps ss)
 expected (mode.ExceptField at e cs ss q) = flat.ExceptField
 expected (mode.FieldName e q) = flat.FieldName
+expected (mode.InstanceName at i) = flat.InstanceName
 expected (mode.RecordName k at hs) = flat.RecordName k (names_of hs)
 expected (mode.RecordNamed k at hs n) = flat.RecordNamed k (names_of hs) n
 expected (mode.SubscriptStart k at e) = flat.SubscriptStart

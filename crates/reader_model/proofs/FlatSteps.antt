@@ -11,7 +11,7 @@ use Rattle.tla_tokens.specs.declared.token.Symbol.{Symbol}
 use Rattle.tla_tokens.specs.declared.token.Symbol.TheVariants as symbols
 use Rattle.tla_ast.specs.declared.operators.InfixOperator.{InfixOperator}
 use Rattle.tla_ast.specs.Precedence.{infix_symbol}
-use Rattle.tla_ast.specs.Grammar.{◌⨟◌, Text}
+use Rattle.tla_ast.specs.Grammar.{◌⨟◌, qualified, Text}
 use Rattle.tla_ast.specs.Fits.{Fits, LeftAbove}
 use Rattle.tla_ast.specs.Trees as tree
 use Rattle.tla_ast.specs.Trees.{Tree, NoTrees, First, Steps, NoSteps, MoreSteps, Arms}
@@ -24,7 +24,7 @@ use Rattle.reader_model.specs.declared.frame.Frame.{Frame}
 use Rattle.reader_model.specs.declared.frame.Frame.TheVariants as frame
 use Rattle.reader_model.specs.declared.frame.Mode.{Mode}
 use Rattle.reader_model.specs.declared.frame.Mode.TheVariants as mode
-use Rattle.reader_model.specs.Machine.{Stepped, Reads, Stops, infix_of_symbol, settle, closes, is_bare_name, is_case_mark, behind, call_step, infix_or, symbol_follows, kind_follows, follows, same_bullet, has_field, is_other, begins, bound_named, bracket_named, brace_started, brace_named, tuple_started, list_started, choose_named, definition_named, parameter_named, defined_as, except_mark, path_ends, except_path, record_named, fair_opened, case_next, other_arrow, step}
+use Rattle.reader_model.specs.Machine.{Stepped, Reads, Stops, infix_of_symbol, settle, closes, is_case_mark, behind, instance_step, call_step, infix_or, symbol_follows, kind_follows, follows, same_bullet, has_field, is_other, begins, bound_named, bracket_named, brace_started, brace_named, tuple_started, list_started, choose_named, definition_named, parameter_named, defined_as, except_mark, path_ends, except_path, record_named, fair_opened, case_next, other_arrow, step}
 use Rattle.reader_model.specs.OpenFits.{IsOperand, FramesFit, Open}
 use Rattle.reader_model.specs.OpenRows.{FramesText}
 use Rattle.reader_model.proofs.Opened.{Opened, laid_symbol}
@@ -33,7 +33,7 @@ use Rattle.reader_model.proofs.Settling.{settles}
 use Rattle.reader_model.proofs.Closing.{laid}
 use Rattle.reader_model.proofs.Flat as flat
 use Rattle.reader_model.proofs.Closing.{SymbolOf, symbol_of}
-use Rattle.reader_model.proofs.FlatStates.{has_steps, names_of, same_names, binds, rows, expected, Sits, Settles, ChainSits, InLet, FramesKept, ModeKept, Same, same_map, sits, half_sits}
+use Rattle.reader_model.proofs.FlatStates.{has_steps, names_of, same_names, binds, rows, primary, expected, Sits, Settles, ChainSits, InLet, FramesKept, ModeKept, Same, same_map, sits, half_sits}
 use Rattle.reader_model.proofs.FlatBegins.{BeginsSits, deliver_same, on_name_same, on_symbol_same, kind_same, begins_same, action_same, fair_same}
 use Rattle.reader_model.proofs.FlatFolds.{first_sits, infix_same, settle_same}
 use Rattle.reader_model.proofs.FlatCloses.{Meet, closes_same, step_same}
@@ -100,24 +100,31 @@ operator_same : (s : Symbol) (o : Option InfixOperator) (at : Place) (fs : List 
 operator_same s (Some q) at fs e other y i c k o h = infix_same (Follow (laid_symbol s at) fs e) (infix_follow s q at fs e i) q at fs e k o c
 operator_same s None at fs e other y i c k o h = h
 
-call_same : (A : Type 0) (e : Tree) (fs : List Frame) → FramesKept fs → Open fs → Same A (call_step e fs) (flat.call_step (is_bare_name e) (rows fs))
+call_same : (A : Type 0) (e : Tree) (fs : List Frame) → FramesKept fs → Open fs → Same A (call_step e fs) (flat.call_step (primary e) (rows fs))
 call_same A (tree.Name at n) fs k o = (refl, (o, k), (tt, tt))
+call_same A (tree.Qualified at n NoTrees) fs k o = (refl, (o, k), (tt, tt))
 call_same A e fs k o = refl
 
+instance_same : (A : Type 0) (e : Tree) (fs : List Frame) → FramesKept fs → Open fs → Same A (instance_step e fs) (flat.instance_step (primary e) (rows fs))
+instance_same A (tree.Name at i) fs k o = (refl, k, o)
+instance_same A (tree.Qualified at n NoTrees) fs k o = refl
+instance_same A e fs k o = refl
+
 symbol_follows_same : (s : Symbol) (at : Place) (fs : List Frame) (e : Tree) (other : Stepped) (y : flat.Done) → OptionSits (infix_of_symbol s) e fs → FramesKept fs → Open fs
-    → Same (Follow (laid_symbol s at) fs e) other y → Same (Follow (laid_symbol s at) fs e) (symbol_follows s at fs e other) (flat.symbol_follows s (is_bare_name e) (rows fs) y)
+    → Same (Follow (laid_symbol s at) fs e) other y → Same (Follow (laid_symbol s at) fs e) (symbol_follows s at fs e other) (flat.symbol_follows s (primary e) (rows fs) y)
 symbol_follows_same symbols.Prime at fs e other y c k o h = step_same ⊥ e at tree.Prime fs k o
 symbol_follows_same symbols.OpenBracket at fs e other y c k o h = (refl, (o, k), (tt, tt))
 symbol_follows_same symbols.Dot at fs e other y c k o h = (refl, k, o)
 symbol_follows_same symbols.OpenParenthesis at fs e other y c k o h = call_same _ e fs k o
+symbol_follows_same symbols.Exclamation at fs e other y c k o h = instance_same _ e fs k o
 symbol_follows_same s at fs e other y c k o h = operator_same s (infix_of_symbol s) at fs e other y (symbol_of s) c k o h
 
 kind_follows_same : (c : Kind) (at : Place) (fs : List Frame) (e : Tree) (other : Stepped) (y : flat.Done) → KindSits c e fs → FramesKept fs → Open fs
-    → Same (Follow (laid c at) fs e) other y → Same (Follow (laid c at) fs e) (kind_follows c at fs e other) (flat.kind_follows c (is_bare_name e) (rows fs) y)
+    → Same (Follow (laid c at) fs e) other y → Same (Follow (laid c at) fs e) (kind_follows c at fs e other) (flat.kind_follows c (primary e) (rows fs) y)
 kind_follows_same (kinds.Symbol s) at fs e other y c k o h = symbol_follows_same s at fs e other y c k o h
 kind_follows_same _ at fs e other y c k o h = h
 
-follows_same : (x : Laid) (fs : List Frame) (e : Tree) → LaidSits x e fs → FramesKept fs → Open fs → Settles e fs → Same (Follow x fs e) (follows x fs e) (flat.follows x (is_bare_name e) (rows fs))
+follows_same : (x : Laid) (fs : List Frame) (e : Tree) → LaidSits x e fs → FramesKept fs → Open fs → Settles e fs → Same (Follow x fs e) (follows x fs e) (flat.follows x (primary e) (rows fs))
 follows_same (Plain t) fs e c k o i = kind_follows_same t.kind t.place fs e (behind (Plain t) fs e) (flat.behind (Plain t) (rows fs)) c k o (behind_same (Plain t) fs e k i)
 follows_same (ListOpen b q) fs e c k o i = behind_same (ListOpen b q) fs e k i
 follows_same (ListItem b q) fs e c k o i = behind_same (ListItem b q) fs e k i
@@ -286,9 +293,9 @@ module _ (at : Place) (n : List ℕ) (p : Place) (fs : List Frame) (k : FramesKe
   brace_goes x f = (f.0, λ xs s c d. let a = s.0.2 in f.1 xs (a.0, (s.0.0, s.0.1, (a.0, a.1, refl)), a.2) (tt, s.1) (d, c) tt tt tt)
 
   brace_name_follows : (x : Laid) → LaidSits x (tree.Name p n) (frame.Braces at NoTrees ∷ fs)
-      → Same (Goes x fs (mode.BraceName at n p)) (follows x (frame.Braces at NoTrees ∷ fs) (tree.Name p n)) (flat.follows x true (flat.Braces false ∷ rows fs))
+      → Same (Goes x fs (mode.BraceName at n p)) (follows x (frame.Braces at NoTrees ∷ fs) (tree.Name p n)) (flat.follows x flat.Bare (flat.Braces false ∷ rows fs))
   brace_name_follows x c =
-      same_map (Follow x (frame.Braces at NoTrees ∷ fs) (tree.Name p n)) _ (brace_goes x) (follows x (frame.Braces at NoTrees ∷ fs) (tree.Name p n)) (flat.follows x true (flat.Braces false ∷ rows fs))
+      same_map (Follow x (frame.Braces at NoTrees ∷ fs) (tree.Name p n)) _ (brace_goes x) (follows x (frame.Braces at NoTrees ∷ fs) (tree.Name p n)) (flat.follows x flat.Bare (flat.Braces false ∷ rows fs))
       (follows_same x (frame.Braces at NoTrees ∷ fs) (tree.Name p n) c (o, k) tt refl)
 
   brace_named_same : (s : Symbol) (q : Place) → Same (Goes (laid_symbol s q) fs (mode.BraceName at n p)) (brace_named (laid_symbol s q) at n p fs s q) (flat.brace_named (laid_symbol s q) (rows fs) s)
@@ -308,9 +315,9 @@ module _ (at : Place) (n : List ℕ) (p : Place) (fs : List Frame) (k : FramesKe
   bracket_goes : (x : Laid) → Follow x (frame.Bracket at ∷ fs) (tree.Name p n) → Goes x fs (mode.BracketName at n p)
   bracket_goes x f = (f.0, λ xs s c d. let a = s.0.2 in f.1 xs (a.0, (s.0.0, s.0.1, a.1), a.2) (tt, s.1) (d, c) tt tt tt)
 
-  bracket_name_follows : (x : Laid) → Same (Goes x fs (mode.BracketName at n p)) (follows x (frame.Bracket at ∷ fs) (tree.Name p n)) (flat.follows x true (flat.Bracket ∷ rows fs))
+  bracket_name_follows : (x : Laid) → Same (Goes x fs (mode.BracketName at n p)) (follows x (frame.Bracket at ∷ fs) (tree.Name p n)) (flat.follows x flat.Bare (flat.Bracket ∷ rows fs))
   bracket_name_follows x =
-      same_map (Follow x (frame.Bracket at ∷ fs) (tree.Name p n)) _ (bracket_goes x) (follows x (frame.Bracket at ∷ fs) (tree.Name p n)) (flat.follows x true (flat.Bracket ∷ rows fs))
+      same_map (Follow x (frame.Bracket at ∷ fs) (tree.Name p n)) _ (bracket_goes x) (follows x (frame.Bracket at ∷ fs) (tree.Name p n)) (flat.follows x flat.Bare (flat.Bracket ∷ rows fs))
       (follows_same x (frame.Bracket at ∷ fs) (tree.Name p n) (laid_sits x (tree.Name p n) (frame.Bracket at ∷ fs) tt) (o, k) tt tt)
 
   bracket_named_same : (x : Laid) (s : Symbol) (q : Place) → Same (Goes x fs (mode.BracketName at n p)) (bracket_named x at n p fs s q) (flat.bracket_named x n (rows fs) s)
@@ -327,7 +334,7 @@ module _ (at : Place) (n : List ℕ) (p : Place) (fs : List Frame) (k : FramesKe
 pub steps_same : (x : Laid) (fs : List Frame) (m : Mode) → FramesKept fs → ModeKept m fs → Same (Goes x fs m) (step x fs m) (flat.step x (rows fs) (expected m))
 steps_same x fs mode.Want k h = begins_same _ x fs h.1 k h.0
 steps_same x fs (mode.Have e) k h =
-    same_map (Follow x fs e) _ (λ f. (f.0, λ xs s c d. f.1 xs s.0 s.1 c d.0 s.2.0 s.2.1)) (follows x fs e) (flat.follows x (is_bare_name e) (rows fs))
+    same_map (Follow x fs e) _ (λ f. (f.0, λ xs s c d. f.1 xs s.0 s.1 c d.0 s.2.0 s.2.1)) (follows x fs e) (flat.follows x (primary e) (rows fs))
     (follows_same x fs e (laid_sits x e fs h.1) k h.0 (half_sits e fs h.1))
 steps_same x fs (mode.BoundName b ns) k h = on_name_same _ x _ _ _ _ (λ n p. (refl, k, h)) refl
 steps_same x fs (mode.BoundNamed b ns) k h = on_symbol_same _ x _ _ _ _ (λ s p. bound_named_same _ b ns fs s k h) refl
@@ -348,6 +355,7 @@ steps_same x fs (mode.ExceptMark at e cs) k h = on_symbol_same _ x _ _ _ _ (λ s
 steps_same x fs (mode.ExceptPath at e cs ss) k h = on_symbol_same _ x _ _ _ _ (λ s q. except_path_same _ at e cs ss fs s q k h) refl
 steps_same x fs (mode.ExceptField at e cs ss q) k h = on_name_same _ x _ _ _ _ (λ n p. (refl, k, h)) refl
 steps_same x fs (mode.FieldName e q) k h = on_name_same _ x _ _ _ _ (λ n p. step_same ⊥ e q (tree.Field n) fs k h) refl
+steps_same x fs (mode.InstanceName at i) k h = on_name_same _ x _ _ _ _ (λ n p. (refl, k, (h, sits (tree.Qualified at (qualified i n) NoTrees) fs refl refl))) refl
 steps_same x fs (mode.RecordName c at hs) k h = on_name_same _ x _ _ _ _ (λ n p. record_name_same _ c at hs n fs k h) refl
 steps_same x fs (mode.RecordNamed c at hs n) k h = on_symbol_same _ x _ _ _ _ (λ s q. record_named_same _ c at hs n fs s k h) refl
 steps_same x fs (mode.SubscriptStart c at e) k h = action_same _ x c at e fs k h

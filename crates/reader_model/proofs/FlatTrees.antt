@@ -6,7 +6,7 @@ use Rattle.tla_ast.specs.Trees.{Tree, Trees, NoTrees, MoreTrees, Operands, First
 use Rattle.trace_base.specs.declared.place.Place.{Place}
 use Rattle.tla_ast.specs.declared.operators.InfixOperator.{InfixOperator}
 use Rattle.reader_model.proofs.FlatGoes.{Goes, Delivers, Good, AllGood, ChainGood, StepGood, StepsGood, BoundsGood, FieldsGood, ChangesGood, ArmsGood, FunctionGood, DefinitionsGood}
-use Rattle.reader_model.proofs.FlatPlain.{number_goes, str_goes, truth_goes, builtin_goes, name_goes, at_goes, prefix_goes, infix_goes, infix_member, parenthesized_goes, call_goes, if_goes, junction_goes, postfix_goes}
+use Rattle.reader_model.proofs.FlatPlain.{number_goes, str_goes, truth_goes, builtin_goes, name_goes, qualified_goes, at_goes, prefix_goes, infix_goes, infix_member, parenthesized_goes, call_goes, if_goes, junction_goes, postfix_goes}
 use Rattle.reader_model.proofs.FlatBounds.{quantified_goes, choose_goes, case_goes, case_other_goes, let_goes}
 use Rattle.reader_model.proofs.FlatBraces.{set_goes, filter_goes, map_goes, tuple_goes, tuple_delivers, name_delivers, parenthesized_delivers, angle_goes, fairness_goes}
 use Rattle.reader_model.proofs.FlatBrackets.{function_set_goes, except_goes, box_goes, function_goes, record_goes, record_set_goes}
@@ -30,6 +30,7 @@ mutual
   good (tree.Builtin at b) = row (tree.Builtin at b) refl (λ s. s) (builtin_goes at b)
   good (tree.Name at n) = other (tree.Name at n) refl (name_delivers at n) (name_goes at n)
   good (tree.Call at n es) = row (tree.Call at n es) refl (λ s. s) (call_goes at n es (all_good es))
+  good (tree.Qualified at n es) = row (tree.Qualified at n es) refl (λ s. s) (qualified_goes at n es (all_good es))
   good (tree.At at) = row (tree.At at) refl (λ s. s) (at_goes at)
   good (tree.Parenthesized at e) = let g : Goes e = (good e).goes in other (tree.Parenthesized at e) refl (parenthesized_delivers at e g) (parenthesized_goes at e g)
   good (tree.Junction at b es) = row (tree.Junction at b es) refl (λ s. s) (junction_goes at b es (all_good es))

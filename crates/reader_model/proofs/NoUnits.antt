@@ -28,7 +28,7 @@ use Rattle.reader_model.specs.declared.frame.Frame.{Frame}
 use Rattle.reader_model.specs.declared.frame.Frame.TheVariants as frame
 use Rattle.reader_model.specs.declared.frame.Mode.{Mode}
 use Rattle.reader_model.specs.declared.frame.Mode.TheVariants as mode
-use Rattle.reader_model.specs.Machine.{Stepped, Reads, Stops, Clashes, Ends, EndsDefinition, Outcome, StopsAt, ClashesAt, EndsAt, EndsDefinitionAt, Joined, Joins, Meets, Settled, above, goes_on, infix_step, join, deliver, same_bullet, has_field, word_begins, symbol_begins, token_begins, begins, settle, braces_close, bracket_close, on_joined, filter_close, function_close, is_subscript, tuple_close, binder_close, bound_close, symbol_closes, word_closes, name_closes, item_closes, list_closes, kind_closes, laid_closes, closes, is_case_mark, settled_closes, behind, call_step, infix_or, infix_of_symbol, symbol_follows, kind_follows, follows, bound_named, bracket_named, brace_started, brace_named, tuple_started, list_started, choose_named, definition_named, parameter_named, defined_as, except_mark, path_ends, except_path, record_named, subscript_symbol, subscript_started, fair_opened, is_other, case_next, other_arrow, step, after, run}
+use Rattle.reader_model.specs.Machine.{Stepped, Reads, Stops, Clashes, Ends, EndsDefinition, Outcome, StopsAt, ClashesAt, EndsAt, EndsDefinitionAt, Joined, Joins, Meets, Settled, above, goes_on, infix_step, join, deliver, same_bullet, has_field, word_begins, symbol_begins, token_begins, begins, settle, braces_close, bracket_close, on_joined, filter_close, function_close, is_subscript, tuple_close, binder_close, bound_close, symbol_closes, word_closes, name_closes, item_closes, list_closes, kind_closes, laid_closes, closes, is_case_mark, settled_closes, behind, instance_step, call_step, infix_or, infix_of_symbol, symbol_follows, kind_follows, follows, bound_named, bracket_named, brace_started, brace_named, tuple_started, list_started, choose_named, definition_named, parameter_named, defined_as, except_mark, path_ends, except_path, record_named, subscript_symbol, subscript_started, fair_opened, is_other, case_next, other_arrow, step, after, run}
 use Rattle.reader_model.specs.OpenFits.{in_scope, in_binder, in_frame, in_mode, Outermost}
 use Rattle.reader_model.proofs.Edges.{one_of_two}
 use Rattle.reader_model.proofs.Rows.{only_parenthesis, only_bracket, only_brace, only_colon, only_arrow, only_always, comma_parenthesis, comma_bracket}
@@ -183,6 +183,7 @@ module _ (unit : Bool) where
   symbol_kept : (s : Symbol) (f : Frame) (fs : List Frame) (e : Tree) → Outermost unit fs (in_frame f) → Keeps (symbol_closes s f fs e)
   symbol_kept s (frame.Parenthesis at) fs e h = only_parenthesis Keeps tt s _ (λ i. deliver_kept (tree.Parenthesized at e) fs h)
   symbol_kept s (frame.Call n at es) fs e h = comma_parenthesis Keeps tt s _ _ (λ i. (refl, h)) (λ i. h)
+  symbol_kept s (frame.QualifiedCall n at es) fs e h = comma_parenthesis Keeps tt s _ _ (λ i. (refl, h)) (λ i. h)
   symbol_kept s (frame.Index a at es) fs e h = comma_bracket Keeps tt s _ _ (λ i. (refl, h)) (λ i. h)
   symbol_kept s (frame.Braces at es) fs e h = braces_kept s at es fs e h
   symbol_kept s (frame.MaybeFilter at n p q) fs e h = filter_kept s at n p q fs e h
@@ -254,7 +255,12 @@ module _ (unit : Bool) where
 
   call_kept : (e : Tree) (fs : List Frame) → Outermost unit fs false → Keeps (call_step e fs)
   call_kept (tree.Name at n) fs h = (refl, h)
+  call_kept (tree.Qualified at n NoTrees) fs h = (refl, h)
   call_kept e fs h = tt
+
+  instance_kept : (e : Tree) (fs : List Frame) → Outermost unit fs false → Keeps (instance_step e fs)
+  instance_kept (tree.Name at i) fs h = h
+  instance_kept e fs h = tt
 
   operator_kept : (o : Option InfixOperator) (at : Place) (fs : List Frame) (e : Tree) (other : Stepped) → Outermost unit fs false → Keeps other → Keeps (infix_or o at fs e other)
   operator_kept (Some q) at fs e other h k = infix_kept q at fs e h
@@ -265,6 +271,7 @@ module _ (unit : Bool) where
   symbol_follows_kept symbols.OpenBracket at fs e other h k = (refl, h)
   symbol_follows_kept symbols.Dot at fs e other h k = h
   symbol_follows_kept symbols.OpenParenthesis at fs e other h k = call_kept e fs h
+  symbol_follows_kept symbols.Exclamation at fs e other h k = instance_kept e fs h
   symbol_follows_kept s at fs e other h k = operator_kept (infix_of_symbol s) at fs e other h k
 
   kind_follows_kept : (c : Kind) (at : Place) (fs : List Frame) (e : Tree) (other : Stepped) → Outermost unit fs false → Keeps other → Keeps (kind_follows c at fs e other)
@@ -391,6 +398,7 @@ module _ (unit : Bool) where
   step_kept x fs (mode.ExceptPath at d cs ss) h = on_symbol_good Keeps x _ _ (λ s q e. except_path_kept at d cs ss fs s q h) tt
   step_kept x fs (mode.ExceptField at d cs ss o) h = on_name_good Keeps x _ _ (λ n p e. h) tt
   step_kept x fs (mode.FieldName d o) h = on_name_good Keeps x _ _ (λ n p e. h) tt
+  step_kept x fs (mode.InstanceName at i) h = on_name_good Keeps x _ _ (λ n p e. h) tt
   step_kept x fs (mode.RecordName k at hs) h = on_name_good Keeps x _ _ (λ n p e. one_of_two Keeps (has_field n hs) _ _ (λ a. tt) (λ a. h)) tt
   step_kept x fs (mode.RecordNamed k at hs n) h = on_symbol_good Keeps x _ _ (λ s q e. record_named_kept k at hs n fs s h) tt
   step_kept x fs (mode.SubscriptStart k at d) h = subscript_kept x (frame.Subscript k at d ∷ fs) (refl, h)

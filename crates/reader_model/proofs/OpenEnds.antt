@@ -60,6 +60,7 @@ abbrev pub ends : List Frame → List Laid
 ends [] = []
 ends (frame.Parenthesis at ∷ fs) = a_sign symbols.CloseParenthesis ∷ ends fs
 ends (frame.Call n at es ∷ fs) = a_sign symbols.CloseParenthesis ∷ ends fs
+ends (frame.QualifiedCall n at es ∷ fs) = a_sign symbols.CloseParenthesis ∷ ends fs
 ends (frame.Junction b at es ∷ fs) = ListClose start ∷ ends fs
 ends (frame.Prefix o p ∷ fs) = ends fs
 ends (frame.Infix o es p ∷ fs) = ends fs
@@ -219,6 +220,10 @@ close (frame.Parenthesis at ∷ fs) k s e u xs ys F t =
 close (frame.Call n at es ∷ fs) k s e u xs ys F t =
     let a = F.2 in
     close fs k.1 s.1 (tree.Call at n (MoreTrees es e)) (suits (tree.Call at n (MoreTrees es e)) fs k.0) xs F.0 F.1
+    (a.0, a.1, (a.2.0, a.2.1, (a_sign symbols.CloseParenthesis ∷ ends fs, (ys, a.2.2, t), (start, refl))))
+close (frame.QualifiedCall n at es ∷ fs) k s e u xs ys F t =
+    let a = F.2 in
+    close fs k.1 s.1 (tree.Qualified at n (MoreTrees es e)) (suits (tree.Qualified at n (MoreTrees es e)) fs k.0) xs F.0 F.1
     (a.0, a.1, (a.2.0, a.2.1, (a_sign symbols.CloseParenthesis ∷ ends fs, (ys, a.2.2, t), (start, refl))))
 close (frame.Junction b at es ∷ fs) k s e u xs ys F t =
     let a = F.2 in

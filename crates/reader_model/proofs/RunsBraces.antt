@@ -35,7 +35,7 @@ in_infixes infixes.Member h = cc
 in_infixes _ h = refl
 
 special : Special is_in
-special = record { infixes = in_infixes; prime = refl; bracket = refl; dot = refl; parenthesis = refl }
+special = record { infixes = in_infixes; prime = refl; bracket = refl; dot = refl; parenthesis = refl; exclamation = refl }
 
 -- ---- where a tree begins in braces
 

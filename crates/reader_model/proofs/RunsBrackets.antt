@@ -47,7 +47,7 @@ special_infixes infixes.Member h = cc
 special_infixes _ h = refl
 
 pub special : Special is_special
-special = record { infixes = special_infixes; prime = refl; bracket = refl; dot = refl; parenthesis = refl }
+special = record { infixes = special_infixes; prime = refl; bracket = refl; dot = refl; parenthesis = refl; exclamation = refl }
 
 -- ---- where a tree begins in brackets
 

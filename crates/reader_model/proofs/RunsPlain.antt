@@ -1,5 +1,5 @@
 -- Rows that begin with a token of their own.
-use Rattle.std.proofs.Common.{◌≡◌, ℕ, ℤ, Bool, true, false, List, ◌∷◌, refl, ap, ◌∙◌}
+use Rattle.std.proofs.Common.{◌≡◌, ℕ, ℤ, Bool, true, false, List, ◌∷◌, refl, sym, ap, ◌∙◌}
 use Rattle.trace_base.specs.declared.place.Place.{Place}
 use Rattle.tla_ast.specs.declared.laid.Bullet.{Bullet}
 use Rattle.tla_ast.specs.declared.laid.Bullet.TheVariants as bullets
@@ -15,7 +15,7 @@ use Rattle.tla_ast.specs.declared.operators.BuiltinSet.{BuiltinSet}
 use Rattle.tla_ast.specs.declared.operators.BuiltinSet.TheVariants as builtins
 use Rattle.tla_ast.specs.Precedence.{Above, prefix_range, infix_range, chains, prefix_kind, infix_symbol}
 use Rattle.tla_ast.specs.Fits.{LeftAbove, RightAbove, FirstAbove, ChainFits}
-use Rattle.tla_ast.specs.Grammar.{Text, Chain, Commas, ItemsBefore, sign, sign_at, list_item}
+use Rattle.tla_ast.specs.Grammar.{QualifiedName, Text, ArgumentsText, Chain, Commas, ItemsBefore, sign, sign_at, list_item}
 use Rattle.tla_ast.specs.Trees as tree
 use Rattle.tla_ast.specs.Trees.{Tree, Trees, NoTrees, MoreTrees, Operands, First, Next}
 use Rattle.reader_model.specs.declared.frame.Frame.{Frame}
@@ -123,6 +123,30 @@ module _ (reader : Runner) where
       ap (λ v. run reader v fs mode.Want) h.1
       ∙ ap (λ v. run reader v fs (mode.Have (tree.Name at n))) h.2.1.1
       ∙ call_arguments at n es g fs h.2.0 h.2.2.0 ys h.2.2.1 h.2.2.2
+
+  qualified_call : (at : Place) (n : List ℕ) (es : Trees) → AllGood reader es → (fs : List Frame) (xs ys zs : List Laid) → Commas es xs ys → sign symbols.CloseParenthesis ys zs
+      → run reader xs (frame.QualifiedCall n at NoTrees ∷ fs) mode.Want ≡ run reader zs fs (mode.Have (tree.Qualified at n es))
+  qualified_call at n NoTrees g fs xs ys zs h s = absurd h
+  qualified_call at n (MoreTrees es e) g fs xs ys zs h s =
+      commas reader (λ bs. frame.QualifiedCall n at bs) fs (λ bs a. tt) (λ bs p a. refl) es g.0 xs h.0 h.1
+      ∙ part reader _ _ e (frame.QualifiedCall n at es ∷ fs) g.1.runs tt h.2 s.1 refl (λ gs a. refl)
+
+  qualified_arguments : (at : Place) (n : List ℕ) (es : Trees) → AllGood reader es → (fs : List Frame) (xs ys : List Laid) → ArgumentsText es xs ys
+      → run reader xs fs (mode.Have (tree.Qualified at n NoTrees)) ≡ run reader ys fs (mode.Have (tree.Qualified at n es))
+  qualified_arguments at n NoTrees g fs xs ys h = ap (λ v. run reader v fs (mode.Have (tree.Qualified at n NoTrees))) h
+  qualified_arguments at n (MoreTrees es e) g fs xs ys h =
+      ap (λ v. run reader v fs (mode.Have (tree.Qualified at n NoTrees))) h.1.1 ∙ qualified_call at n (MoreTrees es e) g fs h.0 h.2.0 ys h.2.1 h.2.2
+
+  pub qualified_name : (at : Place) (q : List ℕ) (fs : List Frame) (xs ys : List Laid) → QualifiedName at q xs ys → run reader xs fs mode.Want ≡ run reader ys fs (mode.Have (tree.Qualified at q NoTrees))
+  qualified_name at q fs xs ys h =
+      let i = h.0 in let n = h.3 in
+      ap (λ v. run reader v fs mode.Want) n.1
+      ∙ ap (λ v. run reader v fs (mode.Have (tree.Name at i))) n.2.1.1
+      ∙ ap (λ v. run reader v fs (mode.InstanceName at i)) n.2.2.1
+      ∙ ap (λ v. run reader ys fs (mode.Have (tree.Qualified at v NoTrees))) (sym h.2)
+
+  pub qualified_runs : (at : Place) (q : List ℕ) (es : Trees) → AllGood reader es → Runs reader (tree.Qualified at q es)
+  qualified_runs at q es g fs top xs ys h = qualified_name at q fs xs h.0 h.1 ∙ qualified_arguments at q es g fs h.0 ys h.2
 
   pub if_runs : (at : Place) (p e f : Tree) → Runs reader p → Runs reader e → Runs reader f → Runs reader (tree.If at p e f)
   if_runs at p e f rp re rf fs top xs ys h =

@@ -55,6 +55,7 @@ mutual
   opened (tree.Builtin at builtins.Strings) xs ys h = subst Opened (sym h) refl
   opened (tree.Name at n) xs ys h = subst Opened (sym h) tt
   opened (tree.Call at n es) xs ys h = subst Opened (sym h.1) tt
+  opened (tree.Qualified at q es) xs ys h = subst Opened (sym h.1.3.1) tt
   opened (tree.At at) xs ys h = subst Opened (sym h) refl
   opened (tree.Parenthesized at e) xs ys h = subst Opened (sym h.1) refl
   opened (tree.Junction at b es) xs ys h = subst Opened (sym h.1) tt
@@ -113,13 +114,14 @@ Named bad [] = Unit {0}
 Named bad (Plain t ∷ xs) = NamedKind bad t.kind xs
 Named bad (x ∷ xs) = Unit {0}
 
--- symbols that are, but for `\in`, no operator and begin no step and no arguments
+-- symbols that are, but for `\in`, no operator, begin no step and no arguments and are no `!`
 pub record Special (bad : Symbol → Bool) : Type 0 where
   pub infixes : (o : InfixOperator) → is_member o ≡ false → bad (infix_symbol o) ≡ false
   pub prime : bad symbols.Prime ≡ false
   pub bracket : bad symbols.OpenBracket ≡ false
   pub dot : bad symbols.Dot ≡ false
   pub parenthesis : bad symbols.OpenParenthesis ≡ false
+  pub exclamation : bad symbols.Exclamation ≡ false
 
 pub prefix_named : (bad : Symbol → Bool) (o : PrefixOperator) (xs : List Laid) → NamedKind bad (prefix_kind o) xs
 prefix_named bad prefixes.Not xs = tt
@@ -161,6 +163,7 @@ mutual
   named bad b (tree.Builtin at builtins.Strings) m xs ys h c = subst (Named bad) (sym h) tt
   named bad b (tree.Name at n) m xs ys h c = subst (Named bad) (sym h) (c refl)
   named bad b (tree.Call at n es) m xs ys h c = subst (Named bad) (sym h.1) (subst (Clear bad) (sym h.2.1.1) b.parenthesis)
+  named bad b (tree.Qualified at q es) m xs ys h c = subst (Named bad) (sym h.1.3.1) (subst (Clear bad) (sym h.1.3.2.1.1) b.exclamation)
   named bad b (tree.At at) m xs ys h c = subst (Named bad) (sym h) tt
   named bad b (tree.Junction at l es) m xs ys h c = subst (Named bad) (sym h.1) tt
   named bad b (tree.Prefix at o e) m xs ys h c = subst (Named bad) (sym h.1) (prefix_named bad o h.0)

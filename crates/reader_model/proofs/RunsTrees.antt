@@ -8,7 +8,7 @@ use Rattle.tla_ast.specs.Grammar.{IsSubscript, begins_member}
 use Rattle.tla_ast.specs.Trees as tree
 use Rattle.tla_ast.specs.Trees.{Tree, Trees, NoTrees, MoreTrees, Operands, First, Next, Step, Steps, NoSteps, MoreSteps, Bounds, NoBounds, MoreBounds, Fields, NoFields, MoreFields, Changes, NoChanges, MoreChanges, Arms, NoArms, MoreArms, Definitions, NoDefinitions, MoreDefinitions}
 use Rattle.reader_model.proofs.RunsParts.{Runs, Delivers, Good, AllGood, ChainGood, StepGood, StepsGood, BoundsGood, FieldsGood, ChangesGood, ArmsGood, FunctionGood, DefinitionsGood}
-use Rattle.reader_model.proofs.RunsPlain.{number_runs, str_runs, truth_runs, builtin_runs, name_runs, at_runs, prefix_runs, ChainRuns, chain_meets, infix_runs, parenthesized_runs, call_runs, if_runs, junction_runs}
+use Rattle.reader_model.proofs.RunsPlain.{number_runs, str_runs, truth_runs, builtin_runs, name_runs, qualified_runs, at_runs, prefix_runs, ChainRuns, chain_meets, infix_runs, parenthesized_runs, call_runs, if_runs, junction_runs}
 use Rattle.reader_model.proofs.RunsSteps.{postfix_runs}
 use Rattle.reader_model.proofs.RunsBounds.{quantified_runs, choose_runs}
 use Rattle.reader_model.proofs.RunsJoin.{rest_runs}
@@ -48,6 +48,7 @@ module _ (reader : Runner) where
     good (tree.Builtin at b) f = row (tree.Builtin at b) refl (λ s. s) (builtin_runs reader at b)
     good (tree.Name at n) f = other (tree.Name at n) refl (name_delivers reader at n) (name_runs reader at n)
     good (tree.Call at n es) f = row (tree.Call at n es) refl (λ s. s) (call_runs reader at n es (all_good es f))
+    good (tree.Qualified at n es) f = row (tree.Qualified at n es) refl (λ s. s) (qualified_runs reader at n es (all_good es f))
     good (tree.At at) f = row (tree.At at) refl (λ s. s) (at_runs reader at)
     good (tree.Parenthesized at e) f =
         let r : Runs reader e = (good e f).runs in other (tree.Parenthesized at e) refl (parenthesized_delivers reader at e r) (parenthesized_runs reader at e r)

@@ -8,7 +8,7 @@ use Rattle.tla_ast.specs.declared.laid.Laid.TheVariants.{Plain, ListItem}
 use Rattle.tla_tokens.specs.declared.token.Kind.{Kind}
 use Rattle.tla_tokens.specs.declared.token.Word.{Word}
 use Rattle.tla_tokens.specs.declared.token.Symbol.{Symbol}
-use Rattle.tla_ast.specs.Grammar.{sign, name, NamesBefore, NamesText, ParametersText, IsKey, IsPath, IsNew, ArmsBefore, SomeArmsBefore}
+use Rattle.tla_ast.specs.Grammar.{sign, name, qualified, NamesBefore, NamesText, ParametersText, IsKey, IsPath, IsNew, ArmsBefore, SomeArmsBefore}
 use Rattle.tla_ast.specs.Fits.{ArmsBeforeFit}
 use Rattle.tla_ast.specs.Trees.{Tree, NoTrees, Step, Steps, NoSteps, MoreSteps, Fields, NoFields, MoreFields, Changes, Arms, NoArms, MoreArms}
 use Rattle.reader_model.specs.declared.frame.RecordKind.{RecordKind}
@@ -225,6 +225,9 @@ reads_good xs r x fs (mode.ExceptField at d cs ss o) ys F a h f =
 reads_good xs r x fs (mode.FieldName d o) ys F a h f =
     on_name_good (Good xs (x ∷ r) r) x _ _
     (λ n p e. stepped_good xs (x ∷ r) r fs (with_step d o (tree.Field n)) ys F h (step_good d o (tree.Field n) ys a.0 r f.0 f.1 tt a.1 (x ∷ r, a.2, (p, ap (λ y. y ∷ r) e)))) tt
+reads_good xs r x fs (mode.InstanceName at i) ys F a h f =
+    on_name_good (Good xs (x ∷ r) r) x _ _
+    (λ n p e. have_good xs (x ∷ r) r fs (tree.Qualified at (qualified i n) NoTrees) ys F (r, (i, n, refl, (a.0, a.1, (x ∷ r, a.2, (p, ap (λ y. y ∷ r) e)))), refl) h tt tt) tt
 reads_good xs r x fs (mode.RecordName k at hs) ys F a h f =
     on_name_good (Good xs (x ∷ r) r) x _ _
     (λ n p e. one_of_two (Good xs (x ∷ r) r) (has_field n hs) Stops _ (λ i. tt) (λ i. ((ys, F, (a.0, a.1, (x ∷ r, a.2, (p, ap (λ y. y ∷ r) e)))), h, (f.0, f.1, is_new n hs i)))) tt

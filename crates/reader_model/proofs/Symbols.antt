@@ -40,6 +40,10 @@ module _ (xs r : List Laid) (s : Symbol) (q : Place) where
       comma_parenthesis IsGood tt s _ _
       (λ i. want_good xs here r (frame.Call n at (MoreTrees es e)) fs ys F (a.0, a.1, (a.2.0, a.2.1, (zs, a.2.2, (here, t, sign_is r s symbols.Comma q i)))) (f, k) h)
       (λ i. have_good xs here r fs (tree.Call at n (MoreTrees es e)) ys F (a.0, a.1, (a.2.0, a.2.1, (here, (zs, a.2.2, t), sign_is r s symbols.CloseParenthesis q i))) h tt (f, k))
+  symbol_good (frame.QualifiedCall n at es) fs e ys zs F a t f h k m =
+      comma_parenthesis IsGood tt s _ _
+      (λ i. want_good xs here r (frame.QualifiedCall n at (MoreTrees es e)) fs ys F (a.0, a.1, (a.2.0, a.2.1, (zs, a.2.2, (here, t, sign_is r s symbols.Comma q i)))) (f, k) h)
+      (λ i. have_good xs here r fs (tree.Qualified at n (MoreTrees es e)) ys F (a.0, a.1, (a.2.0, a.2.1, (here, (zs, a.2.2, t), sign_is r s symbols.CloseParenthesis q i))) h tt (f, k))
   symbol_good (frame.Index d at es) fs e ys zs F a t f h k n =
       comma_bracket IsGood tt s _ _
       (λ i. want_good xs here r (frame.Index d at (MoreTrees es e)) fs ys F (a.0, a.1, (a.2.0, a.2.1, (zs, a.2.2, (here, t, sign_is r s symbols.Comma q i)))) (f.0, f.1, (f.2, k)) h)

@@ -13,7 +13,7 @@ use Rattle.tla_tokens.specs.declared.token.Symbol.{Symbol}
 use Rattle.tla_tokens.specs.declared.token.Symbol.TheVariants as symbols
 use Rattle.tla_ast.specs.declared.operators.InfixOperator.{InfixOperator}
 use Rattle.tla_ast.specs.Precedence.{prefix_kind, infix_symbol, quantifier_symbol, truth_kind, builtin_kind}
-use Rattle.tla_ast.specs.Grammar.{Span, by_form, ◌⨟◌, nothing, never, either, only, token, some_token, sign_at, sign, list_open, list_item, list_close, NamesText, ParametersText, Text, CommasBefore, Commas, MaybeCommas, Items, ItemsBefore, Chain, StepText, StepsText, BoundsBefore, BoundsText, FieldsBefore, FieldsText, ChangesBefore, ChangesText, ArmsBefore, SomeArmsBefore, ArmsText, FunctionRest, DefinitionsText, SomeDefinitions}
+use Rattle.tla_ast.specs.Grammar.{Span, by_form, ◌⨟◌, nothing, never, either, only, token, some_token, sign_at, sign, name, list_open, list_item, list_close, NamesText, ParametersText, QualifiedName, Text, ArgumentsText, CommasBefore, Commas, MaybeCommas, Items, ItemsBefore, Chain, StepText, StepsText, BoundsBefore, BoundsText, FieldsBefore, FieldsText, ChangesBefore, ChangesText, ArmsBefore, SomeArmsBefore, ArmsText, FunctionRest, DefinitionsText, SomeDefinitions}
 use Rattle.tla_ast.specs.Trees as tree
 use Rattle.tla_ast.specs.Trees.{Tree, Trees, NoTrees, MoreTrees, Operands, First, Next, Step, Steps, NoSteps, MoreSteps, Bounds, NoBounds, MoreBounds, Fields, NoFields, MoreFields, Changes, NoChanges, MoreChanges, Arms, NoArms, MoreArms, Definitions, NoDefinitions, MoreDefinitions}
 
@@ -87,6 +87,12 @@ pub parameters_local : (ns : List (List ℕ)) → Local (ParametersText ns)
 parameters_local [] = nothing_local
 parameters_local (n ∷ ns) = then_local _ _ (symbol symbols.OpenParenthesis) (then_local _ _ (names_local (n ∷ ns)) (symbol symbols.CloseParenthesis))
 
+pub qualified_local : (at : Place) (q : List ℕ) → Local (QualifiedName at q)
+qualified_local at q xs ys h =
+    let a : Front (token at (kinds.Name h.0) ⨟ sign symbols.Exclamation ⨟ name h.1) xs ys =
+    then_local _ _ (token_local at (kinds.Name h.0)) (then_local _ _ (symbol symbols.Exclamation) (some_local (kinds.Name h.1))) xs ys h.3 in
+    record { front = a.front; here = a.here; anywhere = λ zs. (h.0, h.1, h.2, a.anywhere zs) }
+
 pub either_form_local : (form : DefinitionForm) (R S : Span) → Local R → Local S → Local (by_form form R S)
 either_form_local forms.Operator R S f g = f
 either_form_local forms.Function R S f g = g
@@ -99,6 +105,7 @@ mutual
   tree_local (tree.Builtin at b) = token_local at (builtin_kind b)
   tree_local (tree.Name at n) = token_local at (kinds.Name n)
   tree_local (tree.Call at n es) = then_local _ _ (token_local at (kinds.Name n)) (then_local _ _ (symbol symbols.OpenParenthesis) (then_local _ _ (commas_local es) (symbol symbols.CloseParenthesis)))
+  tree_local (tree.Qualified at q es) = then_local _ _ (qualified_local at q) (arguments_local es)
   tree_local (tree.At at) = symbol_at at symbols.At
   tree_local (tree.Parenthesized at e) = then_local _ _ (symbol_at at symbols.OpenParenthesis) (then_local _ _ (tree_local e) (symbol symbols.CloseParenthesis))
   tree_local (tree.Junction at b es) = then_local _ _ (open_local at b) (then_local _ _ (items_local b es) close_local)
@@ -137,6 +144,10 @@ mutual
       only_local _ _ (then_local _ _ (symbol_at at symbols.OpenTuple) (then_local _ _ (tree_local e) (then_local _ _ (symbol symbols.CloseTupleSubscript) (tree_local v))))
   tree_local (tree.Fairness at v e) =
       only_local _ _ (then_local _ _ (token_local at kinds.Fair) (then_local _ _ (tree_local v) (then_local _ _ (symbol symbols.OpenParenthesis) (then_local _ _ (tree_local e) (symbol symbols.CloseParenthesis)))))
+
+  arguments_local : (es : Trees) → Local (ArgumentsText es)
+  arguments_local NoTrees = nothing_local
+  arguments_local (MoreTrees es e) = then_local _ _ (symbol symbols.OpenParenthesis) (then_local _ _ (then_local _ _ (commas_before_local es) (tree_local e)) (symbol symbols.CloseParenthesis))
 
   pub commas_before_local : (es : Trees) → Local (CommasBefore es)
   commas_before_local NoTrees = nothing_local

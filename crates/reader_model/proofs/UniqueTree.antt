@@ -7,6 +7,7 @@ use Rattle.tla_ast.specs.declared.laid.Laid.{Laid}
 use Rattle.tla_ast.specs.declared.laid.Laid.TheVariants.{Plain, ListOpen, ListItem, ListClose}
 use Rattle.tla_tokens.specs.declared.token.Kind.{Kind}
 use Rattle.tla_tokens.specs.declared.token.Kind.TheVariants as kinds
+use Rattle.tla_tokens.specs.declared.token.Symbol.TheVariants as symbols
 use Rattle.tla_ast.specs.Trees.{Tree}
 use Rattle.tla_ast.specs.Grammar.{◌⨟◌, token, Text, DefinitionRest}
 use Rattle.tla_ast.specs.Fits.{Spells, Fits}
@@ -26,6 +27,7 @@ kind_read : (xs rest : List Laid) (k : Kind) (at : Place) (e : Tree) → Fits e 
 kind_read xs rest (kinds.Name n) at e f h q = model_runs xs [] mode.Want ∙ part model xs (plain (kinds.Name n) at ∷ rest) e [] (good model e f).runs tt h refl refl (λ fs a. refl)
 kind_read xs rest (kinds.Word w) at e f h q = model_runs xs [] mode.Want ∙ part model xs (plain (kinds.Word w) at ∷ rest) e [] (good model e f).runs tt h refl refl (λ fs a. refl)
 kind_read xs rest (kinds.Foreign o) at e f h q = model_runs xs [] mode.Want ∙ part model xs (plain (kinds.Foreign o) at ∷ rest) e [] (good model e f).runs tt h refl refl (λ fs a. refl)
+kind_read xs rest (kinds.Symbol symbols.Comma) at e f h q = model_runs xs [] mode.Want ∙ part model xs (plain (kinds.Symbol symbols.Comma) at ∷ rest) e [] (good model e f).runs tt h refl refl (λ fs a. refl)
 kind_read xs rest kinds.Dashes at e f h q = model_runs xs [] mode.Want ∙ part model xs (plain kinds.Dashes at ∷ rest) e [] (good model e f).runs tt h refl refl (λ fs a. refl)
 kind_read xs rest kinds.Equals at e f h q = model_runs xs [] mode.Want ∙ part model xs (plain kinds.Equals at ∷ rest) e [] (good model e f).runs tt h refl refl (λ fs a. refl)
 kind_read xs rest kinds.End at e f h q = model_runs xs [] mode.Want ∙ part model xs (plain kinds.End at ∷ rest) e [] (good model e f).runs tt h refl refl (λ fs a. refl)
@@ -43,6 +45,7 @@ kind_ends : (k : Kind) (at : Place) (n : List ℕ) (p : Place) → EndsKind k �
 kind_ends (kinds.Name m) at n p q = record { closing = λ fs e. refl; no_case = refl; ends = λ form e. refl }
 kind_ends (kinds.Word w) at n p q = record { closing = λ fs e. refl; no_case = refl; ends = λ form e. refl }
 kind_ends (kinds.Foreign f) at n p q = record { closing = λ fs e. refl; no_case = refl; ends = λ form e. refl }
+kind_ends (kinds.Symbol symbols.Comma) at n p q = record { closing = λ fs e. refl; no_case = refl; ends = λ form e. refl }
 kind_ends kinds.Dashes at n p q = record { closing = λ fs e. refl; no_case = refl; ends = λ form e. refl }
 kind_ends kinds.Equals at n p q = record { closing = λ fs e. refl; no_case = refl; ends = λ form e. refl }
 kind_ends kinds.End at n p q = record { closing = λ fs e. refl; no_case = refl; ends = λ form e. refl }

@@ -6,6 +6,7 @@ use Rattle.tla_ast.specs.declared.laid.Laid.{Laid}
 use Rattle.tla_ast.specs.declared.laid.Laid.TheVariants.{Plain}
 use Rattle.tla_tokens.specs.declared.token.Kind.{Kind}
 use Rattle.tla_tokens.specs.declared.token.Kind.TheVariants as kinds
+use Rattle.tla_tokens.specs.declared.token.Symbol.TheVariants as symbols
 use Rattle.tla_ast.specs.Trees.{Tree}
 use Rattle.tla_ast.specs.Fits.{Fits, Spells}
 use Rattle.tla_ast.specs.Grammar.{◌⨟◌, token, DefinitionRest}
@@ -13,11 +14,13 @@ use Rattle.reader_model.specs.declared.frame.Mode.TheVariants as mode
 use Rattle.reader_model.specs.declared.frame.Scope.TheVariants as scopes
 use Rattle.reader_model.specs.Machine.{EndsAt, EndsDefinitionAt, run}
 
--- a name, a word, a token outside the profile, dashes, equals signs and the End: where no row is open, none of them goes on with an expression
+-- a name, a word, a token outside the profile, a comma, dashes, equals signs and the End: where no row is open, none of them goes on with an
+-- expression
 abbrev pub EndsKind : Kind → Type 0
 EndsKind (kinds.Name n) = Unit {0}
 EndsKind (kinds.Word w) = Unit {0}
 EndsKind (kinds.Foreign f) = Unit {0}
+EndsKind (kinds.Symbol symbols.Comma) = Unit {0}
 EndsKind kinds.Dashes = Unit {0}
 EndsKind kinds.Equals = Unit {0}
 EndsKind kinds.End = Unit {0}

@@ -21,7 +21,7 @@ use Rattle.tla_ast.specs.declared.operators.InfixOperator.TheVariants as infixes
 use Rattle.tla_ast.specs.declared.operators.Quantifier.TheVariants as quantifiers
 use Rattle.tla_ast.specs.declared.operators.BuiltinSet.TheVariants as builtins
 use Rattle.tla_ast.specs.Precedence.{Range, prefix_range, infix_range, chains}
-use Rattle.tla_ast.specs.Grammar.{begins_member}
+use Rattle.tla_ast.specs.Grammar.{begins_member, qualified}
 use Rattle.tla_ast.specs.Trees as tree
 use Rattle.tla_ast.specs.Trees.{Tree, Trees, NoTrees, MoreTrees, Operands, First, Next, Step, Steps, NoSteps, MoreSteps, Bounds, NoBounds, MoreBounds, Fields, NoFields, MoreFields, Changes, NoChanges, MoreChanges, Arms, NoArms, MoreArms, NoDefinitions, MoreDefinitions}
 use Rattle.reader_model.specs.declared.frame.Action.{Action}
@@ -384,6 +384,8 @@ abbrev pub symbol_closes : Symbol → Frame → List Frame → Tree → Stepped
 symbol_closes s (frame.Parenthesis at) fs e = only_at s symbols.CloseParenthesis (deliver (tree.Parenthesized at e) fs)
 symbol_closes s (frame.Call n at es) fs e =
     comma_or s symbols.CloseParenthesis (want (frame.Call n at (MoreTrees es e) ∷ fs)) (Reads fs (mode.Have (tree.Call at n (MoreTrees es e))))
+symbol_closes s (frame.QualifiedCall n at es) fs e =
+    comma_or s symbols.CloseParenthesis (want (frame.QualifiedCall n at (MoreTrees es e) ∷ fs)) (Reads fs (mode.Have (tree.Qualified at n (MoreTrees es e))))
 symbol_closes s (frame.Index a at es) fs e =
     comma_or s symbols.CloseBracket (want (frame.Index a at (MoreTrees es e) ∷ fs)) (Reads fs (mode.Have (with_step a at (tree.Index (MoreTrees es e)))))
 symbol_closes s (frame.Braces at es) fs e = braces_close s at es fs e
@@ -469,13 +471,15 @@ settled_closes x s = closes x s.frames s.tree
 abbrev pub behind : Laid → List Frame → Tree → Stepped
 behind x fs e = settled_closes x (settle (is_case_mark x) fs e)
 
-abbrev pub is_bare_name : Tree → Bool
-is_bare_name (tree.Name at n) = true
-is_bare_name _ = false
+-- `!` behind a name, which names an instance of a module, comes before a name of that module
+abbrev pub instance_step : Tree → List Frame → Stepped
+instance_step (tree.Name at i) fs = Reads fs (mode.InstanceName at i)
+instance_step e fs = Stops
 
 -- `(` behind a name begins its arguments
 abbrev pub call_step : Tree → List Frame → Stepped
 call_step (tree.Name at n) fs = want (frame.Call n at NoTrees ∷ fs)
+call_step (tree.Qualified at n NoTrees) fs = want (frame.QualifiedCall n at NoTrees ∷ fs)
 call_step e fs = Stops
 
 abbrev pub infix_or : Option InfixOperator → Place → List Frame → Tree → Stepped → Stepped
@@ -487,6 +491,7 @@ symbol_follows symbols.Prime at fs e other = Reads fs (mode.Have (with_step e at
 symbol_follows symbols.OpenBracket at fs e other = want (frame.Index e at NoTrees ∷ fs)
 symbol_follows symbols.Dot at fs e other = Reads fs (mode.FieldName e at)
 symbol_follows symbols.OpenParenthesis at fs e other = call_step e fs
+symbol_follows symbols.Exclamation at fs e other = instance_step e fs
 symbol_follows s at fs e other = infix_or (infix_of_symbol s) at fs e other
 
 abbrev pub kind_follows : Kind → Place → List Frame → Tree → Stepped → Stepped
@@ -640,6 +645,7 @@ step x fs (mode.ExceptMark at e cs) = on_symbol x (λ s q. except_mark at e cs f
 step x fs (mode.ExceptPath at e cs ss) = on_symbol x (λ s q. except_path at e cs ss fs s q) Stops
 step x fs (mode.ExceptField at e cs ss q) = on_name x (λ h p. Reads fs (mode.ExceptPath at e cs (MoreSteps ss q (tree.Field h)))) Stops
 step x fs (mode.FieldName e q) = on_name x (λ h p. Reads fs (mode.Have (with_step e q (tree.Field h)))) Stops
+step x fs (mode.InstanceName at i) = on_name x (λ n p. Reads fs (mode.Have (tree.Qualified at (qualified i n) NoTrees))) Stops
 step x fs (mode.RecordName k at hs) = on_name x (λ n p. record_name k at hs fs n) Stops
 step x fs (mode.RecordNamed k at hs n) = on_symbol x (λ s q. record_named k at hs n fs s) Stops
 step x fs (mode.SubscriptStart k at e) = subscript_started x (frame.Subscript k at e ∷ fs)

@@ -70,6 +70,7 @@ Top (f ∷ fs) P = Unit {0}
 abbrev pub FrameFits : Frame → List Frame → Type 0
 FrameFits (frame.Parenthesis at) fs = Unit {0}
 FrameFits (frame.Call n at es) fs = AllFit es
+FrameFits (frame.QualifiedCall n at es) fs = AllFit es
 FrameFits (frame.Junction b at es) fs = AllFit es
 FrameFits (frame.Prefix o p) fs = Unit {0}
 FrameFits (frame.Infix o es p) fs = ChainFits o es × Top fs (λ r. Above (infix_range o) r × FirstAbove r es)
@@ -127,6 +128,7 @@ ModeFits (mode.ExceptMark at e cs) fs = Fits e × ChangesFit cs
 ModeFits (mode.ExceptPath at e cs ss) fs = Fits e × ChangesFit cs × StepsFit ss × AreKeys ss
 ModeFits (mode.ExceptField at e cs ss q) fs = Fits e × ChangesFit cs × StepsFit ss × AreKeys ss
 ModeFits (mode.FieldName e q) fs = IsOperand e × Fits e
+ModeFits (mode.InstanceName at i) fs = Unit {0}
 ModeFits (mode.RecordName k at hs) fs = FieldsFit hs × AreOnce hs
 ModeFits (mode.RecordNamed k at hs n) fs = FieldsFit hs × AreOnce hs × IsNew n hs
 ModeFits (mode.SubscriptStart k at e) fs = Fits e

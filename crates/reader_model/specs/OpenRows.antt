@@ -8,7 +8,7 @@ use Rattle.tla_tokens.specs.declared.token.Word.TheVariants as words
 use Rattle.tla_tokens.specs.declared.token.Symbol.{Symbol}
 use Rattle.tla_tokens.specs.declared.token.Symbol.TheVariants as symbols
 use Rattle.tla_ast.specs.Precedence.{prefix_kind, infix_symbol, quantifier_symbol}
-use Rattle.tla_ast.specs.Grammar.{Span, ◌⨟◌, nothing, token, word, sign, sign_at, name, list_open, list_item, NamesBefore, NamesText, ParametersText, Text, CommasBefore, ItemsBefore, Chain, StepsText, BoundsBefore, BoundsText, FieldsBefore, ChangesBefore, ArmsBefore, SomeArmsBefore, DefinitionsText, SomeDefinitions}
+use Rattle.tla_ast.specs.Grammar.{Span, ◌⨟◌, nothing, token, word, sign, sign_at, name, list_open, list_item, NamesBefore, NamesText, ParametersText, QualifiedName, Text, CommasBefore, ItemsBefore, Chain, StepsText, BoundsBefore, BoundsText, FieldsBefore, ChangesBefore, ArmsBefore, SomeArmsBefore, DefinitionsText, SomeDefinitions}
 use Rattle.tla_ast.specs.Trees as tree
 use Rattle.tla_ast.specs.Trees.{Tree, Steps}
 use Rattle.reader_model.specs.declared.frame.Action.{Action}
@@ -64,6 +64,7 @@ PathText at e cs ss = ExceptText at e cs ⨟ sign symbols.Exclamation ⨟ StepsT
 abbrev pub FrameText : Frame → Span
 FrameText (frame.Parenthesis at) = sign_at at symbols.OpenParenthesis
 FrameText (frame.Call n at es) = token at (kinds.Name n) ⨟ sign symbols.OpenParenthesis ⨟ CommasBefore es
+FrameText (frame.QualifiedCall n at es) = QualifiedName at n ⨟ sign symbols.OpenParenthesis ⨟ CommasBefore es
 FrameText (frame.Junction b at es) = list_open at b ⨟ ItemsBefore b es ⨟ list_item b
 FrameText (frame.Prefix o p) = token p (prefix_kind o)
 FrameText (frame.Infix o es p) = Chain o es ⨟ sign_at p (infix_symbol o)
@@ -121,6 +122,7 @@ ModeText (mode.ExceptMark at e cs) = ExceptText at e cs
 ModeText (mode.ExceptPath at e cs ss) = PathText at e cs ss
 ModeText (mode.ExceptField at e cs ss q) = PathText at e cs ss ⨟ sign_at q symbols.Dot
 ModeText (mode.FieldName e q) = Text e ⨟ sign_at q symbols.Dot
+ModeText (mode.InstanceName at i) = token at (kinds.Name i) ⨟ sign symbols.Exclamation
 ModeText (mode.RecordName k at hs) = sign_at at symbols.OpenBracket ⨟ FieldsBefore (field_mark k) hs
 ModeText (mode.RecordNamed k at hs n) = sign_at at symbols.OpenBracket ⨟ FieldsBefore (field_mark k) hs ⨟ name n
 ModeText (mode.SubscriptStart k at e) = ActionText k at e

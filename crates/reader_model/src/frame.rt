@@ -61,6 +61,8 @@ pub enum Frame {
     Parenthesis(Place),
     /// `N(E, E`
     Call(Text, Place, Exprs),
+    /// `I!N(E, E`, with the qualified name
+    QualifiedCall(Text, Place, Exprs),
     /// Items of a junction list, each behind its bullet.
     Junction(Bullet, Place, Exprs),
     Prefix(PrefixOperator, Place),
@@ -155,6 +157,8 @@ pub enum Mode {
     ExceptField(Place, Expr, Changes, Steps, Place),
     /// The field behind a `.`, with the place of that.
     FieldName(Expr, Place),
+    /// The name behind `I!`, with the place of I.
+    InstanceName(Place, Text),
     /// A field of a record behind those before it.
     RecordName(RecordKind, Place, Fields),
     /// `|->` or `:` behind the name of a field.

@@ -7,7 +7,7 @@ use Rattle.tla_ast.specs.Trees.{Tree}
 use Rattle.tla_ast.specs.declared.config.Config.{Config}
 use Rattle.tla_ast.specs.declared.module.Program.{Program}
 use Rattle.tla_ast.specs.declared.module.Unit.{Unit as ModuleUnit}
-use Rattle.tla_ast.specs.declared.module.Unit.TheVariants.{Variables, Constants, Recursive, Define, Assume, Passed}
+use Rattle.tla_ast.specs.declared.module.Unit.TheVariants.{Variables, Constants, Recursive, Define, Instance, Assume, Passed}
 use Rattle.tla_names.specs.declared.fault.NameFault.{NameFault}
 use Rattle.tla_names.specs.Complaints.{complaint}
 use Rattle.tla_terms.specs.declared.level.Level.TheVariants.{Constant}
@@ -54,6 +54,7 @@ assumed_at (Define d ∷ us) j t e = (let r : AssumedAt us j t = assumed_at us j
 assumed_at (Variables ds ∷ us) j t e = (let r : AssumedAt us j t = assumed_at us j t e in record { place = suc r.place; stands = r.stands; before = r.before; formed = λ h. r.formed h.1 })
 assumed_at (Constants ds ∷ us) j t e = (let r : AssumedAt us j t = assumed_at us j t e in record { place = suc r.place; stands = r.stands; before = r.before; formed = λ h. r.formed h.1 })
 assumed_at (Recursive rs ∷ us) j t e = (let r : AssumedAt us j t = assumed_at us j t e in record { place = suc r.place; stands = r.stands; before = r.before; formed = λ h. r.formed h.1 })
+assumed_at (Instance m ∷ us) j t e = (let r : AssumedAt us j t = assumed_at us j t e in record { place = suc r.place; stands = r.stands; before = r.before; formed = λ h. r.formed h.1 })
 assumed_at (Passed ∷ us) j t e = (let r : AssumedAt us j t = assumed_at us j t e in record { place = suc r.place; stands = r.stands; before = r.before; formed = λ h. r.formed h.1 })
 
 fine_assumption : (p : Program) (c : Config) (bs : List Bool) → AreLevelsOf p c bs → HasFineNames p c → (j : ℕ) (t : Tree) → AssumedAt p.units j t → complaint (takes_in_program p c bs) t ≡ None

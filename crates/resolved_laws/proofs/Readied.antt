@@ -7,7 +7,7 @@ use Rattle.tla_ast.specs.declared.config.Config.{Config}
 use Rattle.tla_ast.specs.declared.expr.Definition.{Definition}
 use Rattle.tla_ast.specs.declared.module.Program.{Program}
 use Rattle.tla_ast.specs.declared.module.Unit.{Unit as ModuleUnit}
-use Rattle.tla_ast.specs.declared.module.Unit.TheVariants.{Variables, Constants, Recursive, Define, Assume, Passed}
+use Rattle.tla_ast.specs.declared.module.Unit.TheVariants.{Variables, Constants, Recursive, Define, Instance, Assume, Passed}
 use Rattle.tla_terms.specs.declared.operator.Operator.{Operator}
 use Rattle.tla_terms.specs.Terms.{Term, level_of}
 use Rattle.term_parts.specs.Slots.{Mentions}
@@ -49,6 +49,7 @@ formed_at (Variables x ∷ us) i d h e = formed_at us i d h.1 e
 formed_at (Constants x ∷ us) i d h e = formed_at us i d h.1 e
 formed_at (Assume x ∷ us) i d h e = formed_at us i d h.1 e
 formed_at (Recursive rs ∷ us) i d h e = formed_at us i d h.1 e
+formed_at (Instance m ∷ us) i d h e = formed_at us i d h.1 e
 formed_at (Passed ∷ us) i d h e = formed_at us i d h.1 e
 
 module _ (p : Program) (c : Config) (values : List Val) (number : Numbers) (ops : List Operator) (assumes : List Term) where

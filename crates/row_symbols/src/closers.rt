@@ -100,6 +100,25 @@ fn call_closes(
     }
 }
 
+fn qualified_call_closes(
+    alloc: Global,
+    symbol: Symbol,
+    name: Text,
+    at: Place,
+    mut arguments: Exprs,
+    stack: &mut Stack,
+    e: Expr,
+) -> Result<Stepped, NoMemory>
+    ensures { IfOk result (λ r. Does r (frames_in stack.new) (symbol_closes symbol (Frame.QualifiedCall name at arguments) (frames_in stack.old) e)) }
+{
+    arguments.push(e)?;
+    match symbol {
+        Symbol::Comma => want(stack, Frame::QualifiedCall(name, at, arguments)),
+        Symbol::CloseParenthesis => have(alloc, at, Node::Qualified(name, arguments)),
+        _ => Ok(Stepped::Stops),
+    }
+}
+
 fn index_closes(
     alloc: Global,
     symbol: Symbol,
@@ -352,6 +371,9 @@ pub fn symbol_closes(
     match frame {
         Frame::Parenthesis(at) => parenthesis_closes(alloc, symbol, at, stack, e),
         Frame::Call(name, at, arguments) => call_closes(
+            alloc, symbol, name, at, arguments, stack, e,
+        ),
+        Frame::QualifiedCall(name, at, arguments) => qualified_call_closes(
             alloc, symbol, name, at, arguments, stack, e,
         ),
         Frame::Index(base, at, arguments) => index_closes(

@@ -5,7 +5,7 @@ use Rattle.std.proofs.lemmas.List.Elements.{Contains-append_left, Contains-appen
 use Rattle.std.proofs.lemmas.Option.{slice_get_within}
 use Rattle.tla_ast.specs.declared.module.Program.{Program}
 use Rattle.tla_ast.specs.declared.module.Unit.{Unit as ModuleUnit}
-use Rattle.tla_ast.specs.declared.module.Unit.TheVariants.{Variables, Constants, Recursive, Define, Assume, Passed}
+use Rattle.tla_ast.specs.declared.module.Unit.TheVariants.{Variables, Constants, Recursive, Define, Assume, Passed, Instance}
 use Rattle.tla_terms.specs.declared.level.Level.TheVariants as levels
 use Rattle.tla_terms.specs.declared.operator.Operator.{Operator}
 use Rattle.tla_terms.specs.Terms.{Term, Placed}
@@ -105,6 +105,7 @@ module _ (p : Program) (number : Numbers) (ops : List Operator) (assumes : List 
   unit_first i j (Constants ds) = inl (λ f h. h)
   unit_first i j (Recursive rs) = inl (λ f h. h)
   unit_first i j Passed = inl (λ f h. h)
+  unit_first i j (Instance x) = inl (λ f h. h)
 
   unit_here : (k : ℕ) (u : ModuleUnit) → slice_get p.units k ≡ Some u → (f : LevelFault) → IsUnitFault number ops assumes (definitions_before p.units k) (assumptions_before p.units k) u f ↔ IsLevelFaultAt p number ops assumes k f
   unit_here k u s f = (

@@ -47,6 +47,7 @@ mutual
   complaint_real (tree.Builtin at b) g = none_real
   complaint_real (tree.Name at n) g = counted_real n at 0 (g n)
   complaint_real (tree.Call at n es) g = either_real (counted n at (number_of es) (g n)) (complaints g es) (counted_real n at (number_of es) (g n)) (complaints_real es g)
+  complaint_real (tree.Qualified at n es) g = either_real (counted n at (number_of es) (g n)) (complaints g es) (counted_real n at (number_of es) (g n)) (complaints_real es g)
   complaint_real (tree.At at) g = counted_real at_sign at 0 (g at_sign)
   complaint_real (tree.Parenthesized at e) g = complaint_real e g
   complaint_real (tree.Junction at b es) g = complaints_real es g

@@ -18,9 +18,8 @@ use Rattle.tla_program.specs.Names.{Numbers, definition_index, first_of}
 use Rattle.tla_tables.specs.Tables.{IsTable, IsTabled, unit_operator}
 use Rattle.tla_levels.specs.declared.fault.ResolveFault.{ResolveFault}
 use Rattle.tla_levels.specs.declared.fault.ResolveFault.TheVariants.{NoMemory}
-use Rattle.tla_levels.specs.declared.givens.Left.{Left}
 use Rattle.tla_levels.specs.Configured.{HasBody, IsSilentOf, above, first_too_high, missing, number_named, operator_for, operator_named, row_named, too_high, unless_there}
-use Rattle.tla_levels.specs.Givens.{first_given_fault, fault_by, fit_fault, given_fault, left_of, level_at, params_of, replaced_fault, right_fault, row_of, value_fault}
+use Rattle.tla_levels.specs.Givens.{first_given_fault, fault_by, given_fault, left_of, level_at, params_of, replaced_fault, right_fault, row_of, value_fault}
 use Rattle.tla_levels.proofs.Sought.{named_index}
 use Rattle.some_resolved.proofs.Filled.{definition_at}
 
@@ -77,16 +76,15 @@ if_true : (b : Bool) (x y : Option ResolveFault) → IsTrueRefusal x → IsTrueR
 if_true true x y p q = p
 if_true false x y p q = q
 
-fit_true : (x : Left) (n : List ℕ) (at : Place) (found : ℕ) (l : Level) → IsTrueRefusal (fit_fault x n at found l)
-fit_true x n at found l = if_true (found == x.needed) _ _ (if_true (is_above l x.level) _ _ (λ e. cc) none_true) (λ e. cc)
+option_cases : {A : Type 0} (P : Option A → Type 0) → P None → ((x : A) → P (Some x)) → (o : Option A) → P o
+option_cases P n s None = n
+option_cases P n s (Some x) = s x
 
-right_true : (p : Program) (number : Numbers) (ops : List Operator) (x : Left) (n : List ℕ) (at : Place) (i : Option ℕ) → IsTrueRefusal (right_fault p number ops x n at i)
-right_true p number ops x n at None = λ e. cc
-right_true p number ops x n at (Some i) = fit_true x n at (params_of p i) (level_at number ops i)
-
-replaced_true : (p : Program) (number : Numbers) (ops : List Operator) (g : GivenAt) (n : List ℕ) (at : Place) (x : Option Left) → IsTrueRefusal (replaced_fault p number ops g n at x)
-replaced_true p number ops g n at None = λ e. cc
-replaced_true p number ops g n at (Some x) = right_true p number ops x n at (definition_index p n)
+replaced_true : (p : Program) (number : Numbers) (ops : List Operator) (g : GivenAt) (n : List ℕ) (at : Place) → IsTrueRefusal (replaced_fault p number ops g n at (left_of p number ops g.name))
+replaced_true p number ops g n at =
+    option_cases (λ o. IsTrueRefusal (replaced_fault p number ops g n at o)) (λ e. cc)
+    (λ x. option_cases (λ i. IsTrueRefusal (right_fault p number ops x n at i)) (λ e. cc) (λ i. if_true (params_of p i == x.needed) _ _ (if_true (is_above (level_at number ops i) x.level) _ _ (λ e. cc) none_true) (λ e. cc)) (definition_index p n))
+    (left_of p number ops g.name)
 
 value_true : (g : GivenAt) (i : Option ℕ) → IsTrueRefusal (value_fault g i)
 value_true g None = λ e. cc
@@ -94,7 +92,7 @@ value_true g (Some i) = none_true
 
 by_given : (p : Program) (number : Numbers) (ops : List Operator) (g : GivenAt) (x : Given) → IsTrueRefusal (fault_by p number ops g x)
 by_given p number ops g (Constant l) = value_true g _
-by_given p number ops g (Replaced n at) = replaced_true p number ops g n at (left_of p number ops g.name)
+by_given p number ops g (Replaced n at) = replaced_true p number ops g n at
 
 pub givens_true : (p : Program) (number : Numbers) (ops : List Operator) (gs : List GivenAt) → IsTrueRefusal (first_given_fault p number ops gs)
 givens_true p number ops [] = none_true

@@ -9,7 +9,7 @@ use Rattle.tla_ast.specs.declared.module.Declared.{Declared}
 use Rattle.tla_ast.specs.declared.module.DeclaredOperator.{DeclaredOperator}
 use Rattle.tla_ast.specs.declared.module.Program.{Program}
 use Rattle.tla_ast.specs.declared.module.Unit.{Unit as ModuleUnit}
-use Rattle.tla_ast.specs.declared.module.Unit.TheVariants.{Variables, Constants, Recursive, Define, Assume, Passed}
+use Rattle.tla_ast.specs.declared.module.Unit.TheVariants.{Variables, Constants, Recursive, Define, Assume, Instance, Passed}
 use Rattle.tla_terms.specs.declared.ids.DefId.{DefId}
 use Rattle.tla_terms.specs.declared.operator.Operator.{Operator}
 use Rattle.tla_terms.specs.declared.spec.Spec.{Spec}
@@ -77,6 +77,7 @@ unit_real p c g i (Assume e) f w q = complaint_real e g (w ∙ ap (λ (x : NameF
 unit_real p c g i (Variables ds) f w q = absurd w
 unit_real p c g i (Constants ds) f w q = absurd w
 unit_real p c g i Passed f w q = absurd w
+unit_real p c g i (Instance x) f w q = absurd w
 
 names_come : (p : Program) (c : Config) → IsGiven p c → HasFewVariables p → HasFineNames p c ⊎ ((f : NameFault) × IsFirstNameFault p c f) → HasAllValues p c ⊎ ((d : Declared) × IsFirstWithoutValue p c d) → NamesCome p c
 names_come p c g few (inr w) v = programs.wrong_name w.0 few w.1 (unit_real p c w.1.is.known (definitions_before p.units w.1.index) w.1.is.unit w.0 w.1.is.wrong)

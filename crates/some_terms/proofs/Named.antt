@@ -70,3 +70,9 @@ some_call w at n args s h f =
       behind = r.behind;
       read = call_row w r.behind at n args (number_of args) m.0 r.what (used m.0 r.what) refl refl m.1 (sought_in w.here.names w.here.scope w.table n (number_of args) m.0 s m.1) r.read;
     }
+
+-- a name with a mark means what a call of it does
+pub some_qualified : (w : Around) (at : Place) (n : List ℕ) (args : Trees) → Stands w → complaint (takes w) (tree.Qualified at n args) ≡ None → (complaints (takes w) args ≡ None → SomeRead Terms w (λ g. complaints g args) (λ ts h all. MeansEach h.names all h.scope args ts)) → SomeTerm w (tree.Qualified at n args)
+some_qualified w at n args s h f =
+    let r : SomeTerm w (tree.Call at n args) = some_call w at n args s h f in
+    record { what = r.what; behind = r.behind; read = r.read }

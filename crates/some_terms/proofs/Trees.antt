@@ -22,7 +22,7 @@ use Rattle.tla_names.proofs.Reading.{grows_on, nothing}
 use Rattle.tla_names.proofs.Rows.{chain_level}
 use Rattle.tla_names.proofs.StandingOn.{stands_grown, stands_later}
 use Rattle.some_terms.proofs.Defining.{SomeDefinitions, no_definitions, one_more}
-use Rattle.some_terms.proofs.Named.{SomeTerm, some_at, some_call, some_name}
+use Rattle.some_terms.proofs.Named.{SomeTerm, some_at, some_call, some_name, some_qualified}
 use Rattle.some_terms.proofs.Reading.{SomeRead, Stands, both, fine_bounds, fine_one, inside, left_none, right_none, row, scoped, stands_bounds, stands_one}
 
 -- a meaning whose level asks for no table, at a place
@@ -87,6 +87,7 @@ mutual
   tree_some (tree.Builtin at b) w s q = leaf w (tree.Builtin at b) (placed at (term.Named (builtin_set b))) (λ h all. refl) refl
   tree_some (tree.Name at n) w s q = some_name w at n s q
   tree_some (tree.Call at n es) w s q = some_call w at n es s q (trees_some es w s)
+  tree_some (tree.Qualified at n es) w s q = some_qualified w at n es s q (trees_some es w s)
   tree_some (tree.At at) w s q = some_at w at s q
   tree_some (tree.Parenthesized at a) w s q = row w (λ (x : Term). placed at (term.Parenthesized x)) (λ x h all p. (x, p, refl)) (tree_some a w s q)
   tree_some (tree.Junction at bullet.And es) w s q = row w (λ (ts : Terms). placed at (term.All ts)) (λ ts h all p. (ts, p, refl)) (trees_some es w s q)

@@ -137,6 +137,7 @@ module _ (known : NameMeanings) (ops : List Operator) (names : List Entry) (are 
     go sc i (tree.Builtin at b) y s r h = row (tree.Builtin at b) (term.Named (builtin_set b)) y i h tt tt
     go sc i (tree.Name at n) y s r h = of_use sc i (tree.Name at n) n term.NoTerms h.0 y s h.1 h.2 r (λ x. tt)
     go sc i (tree.Call at n es) y s r h = of_use sc i (tree.Call at n es) n h.0 h.1 y s h.3 h.4 r (λ x. each sc i es h.0 s x h.2)
+    go sc i (tree.Qualified at n es) y s r h = of_use sc i (tree.Qualified at n es) n h.0 h.1 y s h.3 h.4 r (λ x. each sc i es h.0 s x h.2)
     go sc i (tree.At at) y s r h = of_use sc i (tree.At at) at_sign term.NoTerms h.0 y s h.1 h.2 r (λ x. tt)
     go sc i (tree.Parenthesized at a) y s r h = row (tree.Parenthesized at a) (term.Parenthesized h.0) y i h.2 tt (go sc i a h.0 s (inside_of (tree.Parenthesized at a) (term.Parenthesized h.0) y i h.2 r) h.1)
     go sc i (tree.Junction at b es) y s r h = of_junction i (tree.Junction at b es) b h.0 y h.2 r (λ x. each sc i es h.0 s x h.1)

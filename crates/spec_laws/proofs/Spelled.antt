@@ -7,12 +7,12 @@ use Rattle.tla_ast.specs.declared.form.DefinitionForm.TheVariants as forms
 use Rattle.tla_ast.specs.declared.laid.Bullet.{Bullet}
 use Rattle.tla_ast.specs.declared.laid.Laid.{Laid}
 use Rattle.tla_ast.specs.declared.module.Unit.{Unit as ModuleUnit}
-use Rattle.tla_ast.specs.declared.module.Unit.TheVariants.{Variables, Constants, Recursive, Define, Assume, Passed}
+use Rattle.tla_ast.specs.declared.module.Unit.TheVariants.{Variables, Constants, Recursive, Define, Instance, Assume, Passed}
 use Rattle.tla_ast.specs.declared.operators.InfixOperator.{InfixOperator}
 use Rattle.tla_tokens.specs.declared.token.Symbol.{Symbol}
 use Rattle.tla_tokens.specs.declared.token.Symbol.TheVariants as symbols
-use Rattle.tla_ast.specs.Trees.{Tree, Number, Str, Truth, Builtin, Name, Call, At, Parenthesized, Junction, Prefix, Infix, Postfix, SetOf, Filter, Map, Tuple, Function, FunctionSet, Record, RecordSet, Except, Quantified, Choose, If, Case, CaseOther, Let, BoxAction, AngleAction, Fairness, Trees, NoTrees, MoreTrees, Operands, First, Next, Step, Prime, Index, Field, Steps, NoSteps, MoreSteps, Bounds, NoBounds, MoreBounds, Fields, NoFields, MoreFields, Changes, NoChanges, MoreChanges, Arms, NoArms, MoreArms, Definitions, NoDefinitions, MoreDefinitions}
-use Rattle.tla_ast.specs.Grammar.{by_form, Span, IsPath, AreOnce, Text, CommasBefore, Commas, MaybeCommas, Items, ItemsBefore, Chain, StepText, StepsText, BoundsBefore, BoundsText, FieldsBefore, FieldsText, ChangesBefore, ChangesText, ArmsBefore, SomeArmsBefore, ArmsText, FunctionRest, DefinitionsText, SomeDefinitions, DefinitionRest, NamesText}
+use Rattle.tla_ast.specs.Trees.{Tree, Number, Str, Truth, Builtin, Name, Call, Qualified, At, Parenthesized, Junction, Prefix, Infix, Postfix, SetOf, Filter, Map, Tuple, Function, FunctionSet, Record, RecordSet, Except, Quantified, Choose, If, Case, CaseOther, Let, BoxAction, AngleAction, Fairness, Trees, NoTrees, MoreTrees, Operands, First, Next, Step, Prime, Index, Field, Steps, NoSteps, MoreSteps, Bounds, NoBounds, MoreBounds, Fields, NoFields, MoreFields, Changes, NoChanges, MoreChanges, Arms, NoArms, MoreArms, Definitions, NoDefinitions, MoreDefinitions}
+use Rattle.tla_ast.specs.Grammar.{by_form, Span, IsPath, AreOnce, Text, ArgumentsText, CommasBefore, Commas, MaybeCommas, Items, ItemsBefore, Chain, StepText, StepsText, BoundsBefore, BoundsText, FieldsBefore, FieldsText, ChangesBefore, ChangesText, ArmsBefore, SomeArmsBefore, ArmsText, FunctionRest, DefinitionsText, SomeDefinitions, DefinitionRest, NamesText}
 use Rattle.tla_ast.specs.Fits.{Fits, AllFit, ChainFits, StepFits, StepsFit, BoundsFit, FieldsFit, ChangesFit, ArmsBeforeFit, ArmsFit, DefinitionsFit}
 use Rattle.tla_ast.specs.Modules.{UnitText, UnitsText, UnitFits, UnitsFit}
 use Rattle.spec_laws.specs.Formed.{IsFormed, AreFormed, ChainIsFormed, StepIsFormed, StepsAreFormed, BoundsAreFormed, FieldsAreFormed, ChangesAreFormed, ArmsAreFormed, DefinitionsAreFormed, UnitIsFormed, UnitsAreFormed}
@@ -73,6 +73,7 @@ mutual
   formed (Builtin at b) xs ys h f = tt
   formed (Name at n) xs ys h f = tt
   formed (Call at n es) xs ys h f = commas es h.2.0 h.2.2.0 h.2.2.1 f
+  formed (Qualified at n es) xs ys h f = arguments es h.0 ys h.2 f
   formed (At at) xs ys h f = tt
   formed (Parenthesized at e) xs ys h f = formed e h.0 h.2.0 h.2.1 f
   formed (Junction at b es) xs ys h f = items b es h.0 h.2.0 h.2.1 f
@@ -101,6 +102,10 @@ mutual
   commas_before : (es : Trees) (xs ys : List Laid) → CommasBefore es xs ys → AllFit es → AreFormed es
   commas_before NoTrees xs ys h f = tt
   commas_before (MoreTrees es e) xs ys h f = (commas_before es xs h.0 h.1 f.0, formed e h.0 h.2.0 h.2.1 f.1)
+
+  arguments : (es : Trees) (xs ys : List Laid) → ArgumentsText es xs ys → AllFit es → AreFormed es
+  arguments NoTrees xs ys h f = tt
+  arguments (MoreTrees es e) xs ys h f = (commas_before es h.0 h.2.1.0 h.2.1.1 f.0, formed e h.2.1.0 h.2.0 h.2.1.2 f.1)
 
   commas : (es : Trees) (xs ys : List Laid) → Commas es xs ys → AllFit es → (es ≢ NoTrees) × AreFormed es
   commas NoTrees xs ys h f = absurd h
@@ -189,6 +194,7 @@ unit_formed (Constants ds) xs ys h f = tt
 unit_formed (Recursive ds) xs ys h f = tt
 unit_formed (Define d) xs ys h f = rest d.params d.form d.body h.0 ys h.2 f
 unit_formed (Assume e) xs ys h f = formed e h.2.0 ys h.2.2 f
+unit_formed (Instance m) xs ys h f = absurd h
 unit_formed Passed xs ys h f = tt
 
 units_formed : (us : List ModuleUnit) (xs ys : List Laid) → UnitsText us xs ys → UnitsFit us → UnitsAreFormed us

@@ -187,6 +187,9 @@ module _ (names : List Entry) (ops : List Operator) (S : List Local → Type 0) 
     in_order g sc i (tree.Call at n es) y w f c h =
         of_use g sc i (tree.Call at n es) n at (number_of es) h.0 h.1 y w (none_first (counted n at (number_of es) (g n)) (complaints g es) c) (as_many names ops sc es h.0 h.2) h.3
         (each_in g sc i es h.0 w f.1 (none_second (counted n at (number_of es) (g n)) (complaints g es) c) h.2) h.4
+    in_order g sc i (tree.Qualified at n es) y w f c h =
+        of_use g sc i (tree.Qualified at n es) n at (number_of es) h.0 h.1 y w (none_first (counted n at (number_of es) (g n)) (complaints g es) c) (as_many names ops sc es h.0 h.2) h.3
+        (each_in g sc i es h.0 w f (none_second (counted n at (number_of es) (g n)) (complaints g es) c) h.2) h.4
     in_order g sc i (tree.At at) y w f c h = of_use g sc i (tree.At at) at_sign at 0 term.NoTerms h.0 y w c refl h.1 tt h.2
     in_order g sc i (tree.Parenthesized at a) y w f c h = plain (tree.Parenthesized at a) (term.Parenthesized h.0) y i h.2 tt tt (in_order g sc i a h.0 w f c h.1)
     in_order g sc i (tree.Junction at b es) y w f c h = of_junction i (tree.Junction at b es) b h.0 y h.2 (some_terms names ops sc es h.0 f.0 h.1) (each_in g sc i es h.0 w f.1 c h.1)

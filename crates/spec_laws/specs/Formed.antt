@@ -1,11 +1,12 @@
 -- Trees in order: each list has as many parts as its row of the grammar asks for, and no record has a field twice. What a text spells is so.
 use Rattle.std.specs.Prelude.{◌≡◌, ◌≢◌, true, List, [], ◌∷◌}
 use Rattle.tla_ast.specs.declared.module.Unit.{Unit as ModuleUnit}
-use Rattle.tla_ast.specs.declared.module.Unit.TheVariants.{Variables, Constants, Recursive, Define, Assume, Passed}
+use Rattle.tla_ast.specs.declared.module.Unit.TheVariants.{Variables, Constants, Recursive, Define, Instance, Assume, Passed}
+use Rattle.tla_ast.specs.declared.module.With.{With}
 use Rattle.tla_ast.specs.declared.operators.InfixOperator.{InfixOperator}
 use Rattle.tla_ast.specs.Precedence.{chains}
 use Rattle.tla_ast.specs.Grammar.{IsPath, AreOnce}
-use Rattle.tla_ast.specs.Trees.{Tree, Number, Str, Truth, Builtin, Name, Call, At, Parenthesized, Junction, Prefix, Infix, Postfix, SetOf, Filter, Map, Tuple, Function, FunctionSet, Record, RecordSet, Except, Quantified, Choose, If, Case, CaseOther, Let, BoxAction, AngleAction, Fairness, Trees, NoTrees, MoreTrees, Operands, First, Next, Step, Prime, Index, Field, Steps, NoSteps, MoreSteps, Bounds, NoBounds, MoreBounds, Fields, NoFields, MoreFields, Changes, NoChanges, MoreChanges, Arms, NoArms, MoreArms, Definitions, NoDefinitions, MoreDefinitions}
+use Rattle.tla_ast.specs.Trees.{Tree, Number, Str, Truth, Builtin, Name, Call, Qualified, At, Parenthesized, Junction, Prefix, Infix, Postfix, SetOf, Filter, Map, Tuple, Function, FunctionSet, Record, RecordSet, Except, Quantified, Choose, If, Case, CaseOther, Let, BoxAction, AngleAction, Fairness, Trees, NoTrees, MoreTrees, Operands, First, Next, Step, Prime, Index, Field, Steps, NoSteps, MoreSteps, Bounds, NoBounds, MoreBounds, Fields, NoFields, MoreFields, Changes, NoChanges, MoreChanges, Arms, NoArms, MoreArms, Definitions, NoDefinitions, MoreDefinitions}
 
 abbrev mutual
   pub IsFormed : Tree → Type 0
@@ -15,6 +16,7 @@ abbrev mutual
   IsFormed (Builtin at b) = Unit {0}
   IsFormed (Name at n) = Unit {0}
   IsFormed (Call at n es) = (es ≢ NoTrees) × AreFormed es
+  IsFormed (Qualified at n es) = AreFormed es
   IsFormed (At at) = Unit {0}
   IsFormed (Parenthesized at e) = IsFormed e
   IsFormed (Junction at b es) = (es ≢ NoTrees) × AreFormed es
@@ -78,13 +80,18 @@ abbrev mutual
   DefinitionsAreFormed NoDefinitions = Unit {0}
   DefinitionsAreFormed (MoreDefinitions ds n at ps form e) = DefinitionsAreFormed ds × IsFormed e
 
--- the tree of a unit, where it has one that is read
+abbrev pub WithsAreFormed : List With → Type 0
+WithsAreFormed [] = Unit {0}
+WithsAreFormed (w ∷ ws) = IsFormed w.by × WithsAreFormed ws
+
+-- the trees of a unit, where it has some that are read
 abbrev pub UnitIsFormed : ModuleUnit → Type 0
 UnitIsFormed (Define d) = IsFormed d.body
 UnitIsFormed (Assume e) = IsFormed e
 UnitIsFormed (Variables ds) = Unit {0}
 UnitIsFormed (Constants ds) = Unit {0}
 UnitIsFormed (Recursive rs) = Unit {0}
+UnitIsFormed (Instance m) = WithsAreFormed m.withs
 UnitIsFormed Passed = Unit {0}
 
 abbrev pub UnitsAreFormed : List ModuleUnit → Type 0

@@ -7,7 +7,7 @@
 use Rattle.std.specs.Prelude.{◌≡◌, true, List, []}
 use Rattle.tla_ast.specs.declared.operators.InfixOperator.{InfixOperator}
 use Rattle.tla_ast.specs.declared.laid.Laid.{Laid}
-use Rattle.tla_ast.specs.Trees.{Tree, Number, Str, Truth, Builtin, Name, Call, At, Parenthesized, Junction, Prefix, Infix, Postfix, SetOf, Filter, Map, Tuple, Function, FunctionSet, Record, RecordSet, Except, Quantified, Choose, If, Case, CaseOther, Let, BoxAction, AngleAction, Fairness, Trees, NoTrees, MoreTrees, Operands, First, Next, Step, Prime, Index, Field, Steps, NoSteps, MoreSteps, Bounds, NoBounds, MoreBounds, Fields, NoFields, MoreFields, Changes, NoChanges, MoreChanges, Arms, NoArms, MoreArms, Definitions, NoDefinitions, MoreDefinitions}
+use Rattle.tla_ast.specs.Trees.{Tree, Number, Str, Truth, Builtin, Name, Call, Qualified, At, Parenthesized, Junction, Prefix, Infix, Postfix, SetOf, Filter, Map, Tuple, Function, FunctionSet, Record, RecordSet, Except, Quantified, Choose, If, Case, CaseOther, Let, BoxAction, AngleAction, Fairness, Trees, NoTrees, MoreTrees, Operands, First, Next, Step, Prime, Index, Field, Steps, NoSteps, MoreSteps, Bounds, NoBounds, MoreBounds, Fields, NoFields, MoreFields, Changes, NoChanges, MoreChanges, Arms, NoArms, MoreArms, Definitions, NoDefinitions, MoreDefinitions}
 use Rattle.tla_ast.specs.Precedence.{Range, Above, prefix_range, infix_range, chains}
 use Rattle.tla_ast.specs.Grammar.{Text}
 
@@ -53,6 +53,7 @@ abbrev mutual
   Fits (Builtin at b) = Unit {0}
   Fits (Name at n) = Unit {0}
   Fits (Call at n es) = AllFit es
+  Fits (Qualified at n es) = AllFit es
   Fits (At at) = Unit {0}
   Fits (Parenthesized at e) = Fits e
   Fits (Junction at b es) = AllFit es

@@ -2,7 +2,7 @@
 -- project's profile of the grammar in Lamport's Specifying Systems. Which trees the ranges of the operators allow says Fits.)
 --
 -- The text of a part is a relation between the laid tokens from its beginning on and those behind it; `R ⨟ S` is R and then S.
-use Rattle.std.specs.Prelude.{◌≡◌, ◌⊎◌, ℕ, Bool, true, false, ◌&&◌, ◌||◌, List, [], ◌∷◌}
+use Rattle.std.specs.Prelude.{◌≡◌, ◌⊎◌, ℕ, Bool, true, false, ◌&&◌, ◌||◌, List, [], ◌∷◌, ◌++◌}
 use Rattle.trace_base.specs.declared.place.Place.{Place}
 use Rattle.tla_ast.specs.declared.form.DefinitionForm.{DefinitionForm}
 use Rattle.tla_ast.specs.declared.form.DefinitionForm.TheVariants as forms
@@ -17,7 +17,7 @@ use Rattle.tla_tokens.specs.declared.token.Symbol.{Symbol}
 use Rattle.tla_tokens.specs.declared.token.Symbol.TheVariants as symbols
 use Rattle.tla_ast.specs.declared.operators.InfixOperator.{InfixOperator}
 use Rattle.tla_ast.specs.declared.operators.InfixOperator.TheVariants as infixes
-use Rattle.tla_ast.specs.Trees.{Tree, Number, Str, Truth, Builtin, Name, Call, At, Parenthesized, Junction, Prefix, Infix, Postfix, SetOf, Filter, Map, Tuple, Function, FunctionSet, Record, RecordSet, Except, Quantified, Choose, If, Case, CaseOther, Let, BoxAction, AngleAction, Fairness, Trees, NoTrees, MoreTrees, Operands, First, Next, Step, Prime, Index, Field, Steps, NoSteps, MoreSteps, Bounds, NoBounds, MoreBounds, Fields, NoFields, MoreFields, Changes, NoChanges, MoreChanges, Arms, NoArms, MoreArms, Definitions, NoDefinitions, MoreDefinitions}
+use Rattle.tla_ast.specs.Trees.{Tree, Number, Str, Truth, Builtin, Name, Call, Qualified, At, Parenthesized, Junction, Prefix, Infix, Postfix, SetOf, Filter, Map, Tuple, Function, FunctionSet, Record, RecordSet, Except, Quantified, Choose, If, Case, CaseOther, Let, BoxAction, AngleAction, Fairness, Trees, NoTrees, MoreTrees, Operands, First, Next, Step, Prime, Index, Field, Steps, NoSteps, MoreSteps, Bounds, NoBounds, MoreBounds, Fields, NoFields, MoreFields, Changes, NoChanges, MoreChanges, Arms, NoArms, MoreArms, Definitions, NoDefinitions, MoreDefinitions}
 use Rattle.tla_ast.specs.Precedence.{prefix_kind, infix_symbol, quantifier_symbol, truth_kind, builtin_kind}
 
 -- from the laid tokens at the beginning of a part to those behind it
@@ -95,6 +95,18 @@ abbrev pub ParametersText : List (List ℕ) → Span
 ParametersText [] = nothing
 ParametersText (n ∷ ns) = sign symbols.OpenParenthesis ⨟ NamesText (n ∷ ns) ⨟ sign symbols.CloseParenthesis
 
+-- the code of `!`
+abbrev pub mark : ℕ
+mark = 33
+
+-- the qualified name `I!N`
+abbrev pub qualified : List ℕ → List ℕ → List ℕ
+qualified i n = i ++ mark ∷ n
+
+-- how a qualified name is spelled: the name of an instance, `!`, and a name of its module
+abbrev pub QualifiedName : Place → List ℕ → Span
+QualifiedName at q xs ys = (i : List ℕ) × (n : List ℕ) × (q ≡ qualified i n) × (token at (kinds.Name i) ⨟ sign symbols.Exclamation ⨟ name n) xs ys
+
 -- ---- conditions of rows
 
 -- A postfix step stands behind a primary: neither an operator with its operands nor a row that reaches as far right as it can.
@@ -166,6 +178,7 @@ abbrev mutual
   Text (Builtin at b) = token at (builtin_kind b)
   Text (Name at n) = token at (kinds.Name n)
   Text (Call at n es) = token at (kinds.Name n) ⨟ sign symbols.OpenParenthesis ⨟ Commas es ⨟ sign symbols.CloseParenthesis
+  Text (Qualified at q es) = QualifiedName at q ⨟ ArgumentsText es
   Text (At at) = sign_at at symbols.At
   Text (Parenthesized at e) = sign_at at symbols.OpenParenthesis ⨟ Text e ⨟ sign symbols.CloseParenthesis
   Text (Junction at b es) = list_open at b ⨟ Items b es ⨟ list_close
@@ -190,6 +203,11 @@ abbrev mutual
   Text (BoxAction at e v) = only (IsSubscript v) (sign_at at symbols.OpenBracket ⨟ Text e ⨟ sign symbols.CloseBracketSubscript ⨟ Text v)
   Text (AngleAction at e v) = only (IsSubscript v) (sign_at at symbols.OpenTuple ⨟ Text e ⨟ sign symbols.CloseTupleSubscript ⨟ Text v)
   Text (Fairness at v e) = only (IsSubscript v) (token at kinds.Fair ⨟ Text v ⨟ sign symbols.OpenParenthesis ⨟ Text e ⨟ sign symbols.CloseParenthesis)
+
+  -- one or more arguments in parentheses, or nothing
+  pub ArgumentsText : Trees → Span
+  ArgumentsText NoTrees = nothing
+  ArgumentsText (MoreTrees es e) = sign symbols.OpenParenthesis ⨟ (CommasBefore es ⨟ Text e) ⨟ sign symbols.CloseParenthesis
 
   -- expressions, each with a comma behind it
   pub CommasBefore : Trees → Span

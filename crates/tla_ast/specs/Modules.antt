@@ -4,7 +4,7 @@
 -- 1. A module is dashes, MODULE, its name, dashes, EXTENDS and names where it extends others, units, equals signs and the End.
 -- 2. Declared names stand behind VARIABLE, VARIABLES, CONSTANT or CONSTANTS, with commas between them.
 -- 3. Declared operators stand behind RECURSIVE, with commas between them. Each is a name, and `_` for each of its parameters.
--- 4. A definition is its name and what stands behind it.
+-- 4. A definition is its name and what stands behind it. No text spells an instance yet.
 -- 5. ASSUME, ASSUMPTION or AXIOM has an expression behind it, and a name and `==` before that or not.
 -- 6. Passed over are dashes, and THEOREM, LEMMA, PROPOSITION or COROLLARY with what stands behind it, which is as behind ASSUME.
 use Rattle.std.specs.Prelude.{◌≡◌, ℕ, zero, suc, false, List, [], ◌∷◌, ◌++◌}
@@ -18,7 +18,8 @@ use Rattle.tla_tokens.specs.declared.token.Foreign.TheVariants as foreign
 use Rattle.tla_ast.specs.declared.module.Declared.{Declared}
 use Rattle.tla_ast.specs.declared.module.DeclaredOperator.{DeclaredOperator}
 use Rattle.tla_ast.specs.declared.module.Unit.{Unit as ModuleUnit}
-use Rattle.tla_ast.specs.declared.module.Unit.TheVariants.{Variables, Constants, Recursive, Define, Assume, Passed}
+use Rattle.tla_ast.specs.declared.module.Unit.TheVariants.{Variables, Constants, Recursive, Define, Instance, Assume, Passed}
+use Rattle.tla_ast.specs.declared.module.With.{With}
 use Rattle.tla_ast.specs.declared.module.Module.{Module}
 use Rattle.tla_ast.specs.Opens.{is_end}
 use Rattle.tla_ast.specs.Trees.{Tree}
@@ -94,6 +95,7 @@ UnitTextBy some (Variables ds) = variable_word ⨟ DeclaredNamesText ds
 UnitTextBy some (Constants ds) = constant_word ⨟ DeclaredNamesText ds
 UnitTextBy some (Recursive ds) = recursive_word ⨟ DeclaredOperatorsText ds
 UnitTextBy some (Define d) = token d.at (kinds.Name d.name) ⨟ DefinitionRest d.params d.form d.body
+UnitTextBy some (Instance m) = never
 UnitTextBy some (Assume e) = assume_word ⨟ MaybeTitle ⨟ Text e
 UnitTextBy some Passed = either (some_token kinds.Dashes) (theorem_word ⨟ MaybeTitle ⨟ some)
 
@@ -107,9 +109,14 @@ UnitsTextBy some (u ∷ us) = UnitTextBy some u ⨟ UnitsTextBy some us
 abbrev pub UnitsText : List ModuleUnit → Span
 UnitsText us = UnitsTextBy SomeExpression us
 
--- the ranges on the edges of what a unit defines or assumes
+abbrev pub WithsFit : List With → Type 0
+WithsFit [] = Unit {0}
+WithsFit (w ∷ ws) = Fits w.by × WithsFit ws
+
+-- the ranges on the edges of what a unit defines, assumes, or gives an instance
 abbrev pub UnitFits : ModuleUnit → Type 0
 UnitFits (Define d) = Fits d.body
+UnitFits (Instance m) = WithsFit m.withs
 UnitFits (Assume e) = Fits e
 UnitFits _ = Unit {0}
 

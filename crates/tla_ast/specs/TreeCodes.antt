@@ -4,7 +4,7 @@ use Rattle.std.specs.Coded.{Coded, code_by}
 use base.Stored.{Gv, gnil, gnum, gcons}
 use denote.Struct.Codes.{itself}
 use Rattle.tla_ast.specs.OperatorCodes.{place_gv, gv_place, place_back, int_gv, gv_int, int_back, bool_gv, gv_bool, bool_back, bytes_gv, gv_bytes, bytes_back, names_gv, gv_names, names_back, prefix_gv, gv_prefix, prefix_back, infix_gv, gv_infix, infix_back, quantifier_gv, gv_quantifier, quantifier_back, builtin_gv, gv_builtin, builtin_back, bullet_gv, gv_bullet, bullet_back, form_gv, gv_form, form_back}
-use Rattle.tla_ast.specs.Trees.{Tree, Number, Str, Truth, Builtin, Name, Call, At, Parenthesized, Junction, Prefix, Infix, Postfix, SetOf, Filter, Map, Tuple, Function, FunctionSet, Record, RecordSet, Except, Quantified, Choose, If, Case, CaseOther, Let, BoxAction, AngleAction, Fairness, Trees, NoTrees, MoreTrees, Operands, First, Next, Step, Prime, Index, Field, Steps, NoSteps, MoreSteps, Bounds, NoBounds, MoreBounds, Fields, NoFields, MoreFields, Changes, NoChanges, MoreChanges, Arms, NoArms, MoreArms, Definitions, NoDefinitions, MoreDefinitions}
+use Rattle.tla_ast.specs.Trees.{Tree, Number, Str, Truth, Builtin, Name, Call, Qualified, At, Parenthesized, Junction, Prefix, Infix, Postfix, SetOf, Filter, Map, Tuple, Function, FunctionSet, Record, RecordSet, Except, Quantified, Choose, If, Case, CaseOther, Let, BoxAction, AngleAction, Fairness, Trees, NoTrees, MoreTrees, Operands, First, Next, Step, Prime, Index, Field, Steps, NoSteps, MoreSteps, Bounds, NoBounds, MoreBounds, Fields, NoFields, MoreFields, Changes, NoChanges, MoreChanges, Arms, NoArms, MoreArms, Definitions, NoDefinitions, MoreDefinitions}
 
 abbrev mutual
   pub tree_gv : Tree → Gv
@@ -38,6 +38,7 @@ abbrev mutual
   tree_gv (BoxAction a b c) = gcons (gnum 27) (gcons (place_gv a) (gcons (tree_gv b) (tree_gv c)))
   tree_gv (AngleAction a b c) = gcons (gnum 28) (gcons (place_gv a) (gcons (tree_gv b) (tree_gv c)))
   tree_gv (Fairness a b c) = gcons (gnum 29) (gcons (place_gv a) (gcons (tree_gv b) (tree_gv c)))
+  tree_gv (Qualified a b c) = gcons (gnum 30) (gcons (place_gv a) (gcons (bytes_gv b) (trees_gv c)))
 
   pub trees_gv : Trees → Gv
   trees_gv NoTrees = gcons (gnum 0) gnil
@@ -108,6 +109,7 @@ abbrev mutual
   gv_tree (gcons (gnum (suc (suc (suc (suc (suc (suc (suc (suc (suc (suc (suc (suc (suc (suc (suc (suc (suc (suc (suc (suc (suc (suc (suc (suc (suc (suc (suc zero)))))))))))))))))))))))))))) (gcons a (gcons b c))) = BoxAction (gv_place a) (gv_tree b) (gv_tree c)
   gv_tree (gcons (gnum (suc (suc (suc (suc (suc (suc (suc (suc (suc (suc (suc (suc (suc (suc (suc (suc (suc (suc (suc (suc (suc (suc (suc (suc (suc (suc (suc (suc zero))))))))))))))))))))))))))))) (gcons a (gcons b c))) = AngleAction (gv_place a) (gv_tree b) (gv_tree c)
   gv_tree (gcons (gnum (suc (suc (suc (suc (suc (suc (suc (suc (suc (suc (suc (suc (suc (suc (suc (suc (suc (suc (suc (suc (suc (suc (suc (suc (suc (suc (suc (suc (suc zero)))))))))))))))))))))))))))))) (gcons a (gcons b c))) = Fairness (gv_place a) (gv_tree b) (gv_tree c)
+  gv_tree (gcons (gnum (suc (suc (suc (suc (suc (suc (suc (suc (suc (suc (suc (suc (suc (suc (suc (suc (suc (suc (suc (suc (suc (suc (suc (suc (suc (suc (suc (suc (suc (suc zero))))))))))))))))))))))))))))))) (gcons a (gcons b c))) = Qualified (gv_place a) (gv_bytes b) (gv_trees c)
   gv_tree _ = At (gv_place gnil)
 
   pub gv_trees : Gv → Trees
@@ -188,6 +190,7 @@ mutual
   tree_back (BoxAction a b c) = λ i. BoxAction (place_back a i) (tree_back b i) (tree_back c i)
   tree_back (AngleAction a b c) = λ i. AngleAction (place_back a i) (tree_back b i) (tree_back c i)
   tree_back (Fairness a b c) = λ i. Fairness (place_back a i) (tree_back b i) (tree_back c i)
+  tree_back (Qualified a b c) = λ i. Qualified (place_back a i) (bytes_back b i) (trees_back c i)
 
   pub trees_back : (x : Trees) → gv_trees (trees_gv x) ≡ x
   trees_back NoTrees = refl

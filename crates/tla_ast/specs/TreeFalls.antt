@@ -88,6 +88,7 @@ tree_falls at (node.Truth b) = omega arith
 tree_falls at (node.Builtin b) = omega arith
 tree_falls at (node.Name n) = omega arith
 tree_falls at (node.Call n es) = omega arith
+tree_falls at (node.Qualified n es) = omega arith
 tree_falls at node.At = omega arith
 tree_falls at (node.Parenthesized e) = omega arith
 tree_falls at (node.Junction b es) = omega arith

@@ -93,6 +93,7 @@ node_view at (node.Truth b) = tree.Truth at b
 node_view at (node.Builtin b) = tree.Builtin at b
 node_view at (node.Name n) = tree.Name at n
 node_view at (node.Call n es) = tree.Call at n es
+node_view at (node.Qualified n es) = tree.Qualified at n es
 node_view at node.At = tree.At at
 node_view at (node.Parenthesized e) = tree.Parenthesized at e
 node_view at (node.Junction b es) = tree.Junction at b es

@@ -1,6 +1,7 @@
 -- Syntax trees of expressions, one constructor for each row of the grammar (see Grammar). Each begins with the place of the
 -- tree: that of its last operator for a chain of infix operators or of postfix steps, and of its first token for all else.
--- Lists grow at their end, as they are read.
+-- Lists grow at their end, as they are read. A qualified name has a mark `!` in it, and arguments or none: `I!N` is one, in which
+-- I names an instance of a module and N is of that module.
 use Rattle.std.specs.Prelude.{ℕ, ℤ, Bool, List}
 use Rattle.trace_base.specs.declared.place.Place.{Place}
 use Rattle.tla_ast.specs.declared.form.DefinitionForm.{DefinitionForm}
@@ -18,6 +19,7 @@ mutual
     Builtin : Place → BuiltinSet → Tree
     Name : Place → List ℕ → Tree
     Call : Place → List ℕ → Trees → Tree
+    Qualified : Place → List ℕ → Trees → Tree
     At : Place → Tree
     Parenthesized : Place → Tree → Tree
     Junction : Place → Bullet → Trees → Tree
@@ -88,6 +90,7 @@ place_of (Truth at a) = at
 place_of (Builtin at a) = at
 place_of (Name at a) = at
 place_of (Call at a b) = at
+place_of (Qualified at a b) = at
 place_of (At at) = at
 place_of (Parenthesized at a) = at
 place_of (Junction at a b) = at

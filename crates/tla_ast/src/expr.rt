@@ -68,6 +68,8 @@ pub enum Node {
     Name(Text),
     /// `F(a, b)`
     Call(Text, Exprs),
+    /// A name with a mark in it, as `I!N`, and its arguments: `I!N(a, b)`, or none.
+    Qualified(Text, Exprs),
     /// `@`
     At,
     Parenthesized(Expr),

@@ -10,6 +10,7 @@ mod laid_laws;
 mod lexed_ends;
 mod module;
 mod operators;
+mod qualified_names;
 
 pub use config::{Config, Given, GivenAt, Givens, Literal, Literals};
 pub use construct::{Construct, Open};
@@ -22,6 +23,8 @@ pub use laid::{Bullet, Laid};
 pub use laid_laws::laws_of_laid;
 pub use lexed_ends::tokens_end_once;
 pub use module::{
-    Declared, DeclaredNames, DeclaredOperator, DeclaredOperators, Module, Program, Unit, Units,
+    Declared, DeclaredNames, DeclaredOperator, DeclaredOperators, Made, Module, Program, Unit,
+    Units, With, Withs,
 };
 pub use operators::{BuiltinSet, InfixOperator, PrefixOperator, Quantifier};
+pub use qualified_names::qualified;

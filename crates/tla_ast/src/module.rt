@@ -122,6 +122,77 @@ impl DeclaredOperators {
     }
 }
 
+/// What WITH gives for one name of the module of an instance: the name and the place of it, and what stands for it.
+#[derive(Drop)]
+pub struct With {
+    pub name: Text,
+    pub at: Place,
+    pub by: Expr,
+}
+
+/// What WITH gives, seen as the list itself.
+#[derive(Drop)]
+pub struct Withs {
+    items: Vec<With>,
+}
+
+impl Model for Withs {
+    ghost use Rattle.std.specs.Prelude.{List};
+    ghost use Rattle.tla_ast.specs.declared.module.With.{With};
+
+    ghost Value = { List With };
+
+    ghost use Rattle.std.specs.Coded.{codes};
+    ghost use Rattle.tla_ast.specs.TreeCodes.{tree_code};
+
+    ghost coded = { Prim.hlevel (codes, tree_code) };
+
+    ghost view = { λ w. w.items.items };
+}
+
+impl Withs {
+    /// Nothing.
+    pub fn new(alloc: Global) -> Withs
+        ensures { result ≡ [] }
+    {
+        Withs {
+            items: Vec::new(alloc),
+        }
+    }
+
+    /// Adds one at the end. On a refusal the list is as it was.
+    pub fn push(&mut self, item: With) -> Result<(), NoMemory>
+        ensures pushed { OnOk result (self.new ≡ self.old ++ item ∷ []) }
+        ensures kept { OnErr result (self.new ≡ self.old) }
+    {
+        self.items.push(item)?;
+        Ok(())
+    }
+
+    /// How many names have something.
+    pub fn len(&self) -> usize
+        ensures { result ≡ length self.now }
+    {
+        self.items.len()
+    }
+
+    /// What WITH gives, as a slice.
+    pub fn items(&self) -> &[With]
+        ensures { result.now ≡ self.now }
+    {
+        &self.items
+    }
+}
+
+/// An instance of a module, as `I == INSTANCE M WITH p <- e`: its name and the place of that, the name of the module, and what WITH gives.
+#[derive(Drop)]
+pub struct Made {
+    pub name: Text,
+    pub at: Place,
+    pub module_name: Text,
+    pub withs: Withs,
+}
+
 /// A unit of a module.
 #[derive(Drop)]
 pub enum Unit {
@@ -132,6 +203,8 @@ pub enum Unit {
     /// `RECURSIVE F(_), g`: operators whose definitions may use them
     Recursive(DeclaredOperators),
     Define(Definition),
+    /// `I == INSTANCE M`
+    Instance(Made),
     /// What is assumed. A name before it is passed over.
     Assume(Expr),
     /// A theorem or dashes.

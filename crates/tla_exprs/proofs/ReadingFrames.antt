@@ -25,7 +25,7 @@ use Rattle.reader_model.specs.OpenRows.{FrameText}
 use Rattle.reader_model.proofs.Edges.{operand_left}
 use Rattle.tla_exprs.proofs.ReadingBrackets.{maybe_function_goes, function_body_goes, function_range_goes, record_goes, except_index_goes, except_value_goes, box_goes, angle_goes}
 use Rattle.tla_exprs.proofs.ReadingLike.{Like, is_row, one_row, ready, scope_stands, binder_stands, Stands}
-use Rattle.tla_exprs.proofs.ReadingRows.{call_goes, junction_goes, prefix_goes, index_goes, elements_go, brace_goes, maybe_filter_goes, filter_test_goes, tuple_goes, fair_body_goes}
+use Rattle.tla_exprs.proofs.ReadingRows.{call_goes, qualified_call_goes, junction_goes, prefix_goes, index_goes, elements_go, brace_goes, maybe_filter_goes, filter_test_goes, tuple_goes, fair_body_goes}
 use Rattle.tla_exprs.proofs.ReadingScopes.{quantifier_open, form_goes, let_body_goes, bounds_state, SetRead, set_read, named_goes, binder_goes}
 use Rattle.tla_exprs.proofs.ReadingStarts.{Inner, Ready, top_all, Fresh, enter, enters_fresh, enters_by, enters_parenthesis, enters_tuple}
 use Rattle.tla_exprs.proofs.ReadingWords.{quantifier_goes, choose_set_goes, choose_body_goes, then_goes, else_goes, arms_go, case_value_goes, case_other_goes}
@@ -51,6 +51,9 @@ operand_fresh e o xs ys h c = (opened e xs ys h, named is_special special e (ope
 
 pub call_fresh : (n : List ℕ) (at p : Place) (xs ys zs : List Laid) → xs ≡ plain (kinds.Name n) at ∷ ys → ys ≡ plain (kinds.Symbol symbols.OpenParenthesis) p ∷ zs → Fresh xs
 call_fresh n at p xs ys zs h k = subst Fresh (sym h) (tt, subst (Clear is_special) (sym k) refl)
+
+pub instance_fresh : (i : List ℕ) (at p : Place) (xs ys zs : List Laid) → xs ≡ plain (kinds.Name i) at ∷ ys → ys ≡ plain (kinds.Symbol symbols.Exclamation) p ∷ zs → Fresh xs
+instance_fresh i at p xs ys zs h k = subst Fresh (sym h) (tt, subst (Clear is_special) (sym k) refl)
 
 -- a row that is no chain of operands
 abbrev pub NoChain : Frame → Type 0
@@ -103,6 +106,9 @@ module _ (reader : Runner) (unit : Bool) where
     frame_goes (frame.Parenthesis at) c f d o xs ys h = kept (frame.Parenthesis at) xs ys (enters_parenthesis reader unit gs (l.inner o) at xs ys h)
     frame_goes (frame.Call n at es) c f d o xs ys h =
         kept (frame.Call n at es) xs ys (enters_fresh reader unit gs (ready unit fs gs l d o) xs (call_fresh n at h.2.1.0 xs h.0 h.2.0 h.1 h.2.1.1) ∙ call_goes reader n at es f gs xs ys h)
+    frame_goes (frame.QualifiedCall n at es) c f d o xs ys h =
+        let i = h.1.3 in
+        kept (frame.QualifiedCall n at es) xs ys (enters_fresh reader unit gs (ready unit fs gs l d o) xs (instance_fresh h.1.0 at i.2.1.0 xs i.0 i.2.0 i.1 i.2.1.1) ∙ qualified_call_goes reader n at es f gs xs ys h)
     frame_goes (frame.Junction b at es) c f d o xs ys h =
         kept (frame.Junction b at es) xs ys (enters_fresh reader unit gs (ready unit fs gs l d o) xs (subst Fresh (sym h.1) (tt, tt)) ∙ junction_goes reader b at es f gs xs ys h)
     frame_goes (frame.Prefix q p) c f d o xs ys h =

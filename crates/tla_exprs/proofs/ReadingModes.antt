@@ -10,6 +10,7 @@ use Rattle.tla_tokens.specs.declared.token.Symbol.{Symbol}
 use Rattle.tla_tokens.specs.declared.token.Symbol.TheVariants as symbols
 use Rattle.tla_ast.specs.Fits.{LeftAbove}
 use Rattle.tla_ast.specs.Grammar.{NamesBefore, NamesText, IsNew}
+use Rattle.tla_ast.specs.Trees as tree
 use Rattle.tla_ast.specs.Trees.{NoTrees, MoreTrees, Bounds, NoBounds, MoreBounds, Fields, NoFields, MoreFields, NoArms, MoreArms, Definitions, NoDefinitions, MoreDefinitions}
 use Rattle.reader_model.specs.declared.frame.Action.TheVariants as actions
 use Rattle.reader_model.specs.declared.frame.Binder.{Binder}
@@ -30,7 +31,7 @@ use Rattle.reader_model.specs.OpenRows.{ModeText}
 use Rattle.reader_model.proofs.Edges.{operand_left}
 use Rattle.reader_model.proofs.FittingEnds.{first_mode}
 use Rattle.tla_exprs.proofs.ReadingBrackets.{fields_go, except_mark_goes, path_goes, box_goes, angle_goes}
-use Rattle.tla_exprs.proofs.ReadingFrames.{ready_subscript, operand_fresh}
+use Rattle.tla_exprs.proofs.ReadingFrames.{ready_subscript, operand_fresh, instance_fresh}
 use Rattle.tla_exprs.proofs.ReadingLike.{Like, ready, scope_stands, binder_stands}
 use Rattle.tla_exprs.proofs.ReadingRows.{operand_goes, fair_open_goes}
 use Rattle.tla_exprs.proofs.ReadingScopes.{ScopeStands, form_mode, form_read, bound_names_before, bound_names, parameters_before, parameters, bounds_state, named_goes, binder_goes}
@@ -185,6 +186,9 @@ module _ (reader : Runner) (unit : Bool) where
         let r = ready unit fs gs l d o in
         itself (mode.FieldName e q) xs (enters_fresh reader unit gs r xs (operand_fresh e f.0 xs h.0 h.1 (subst (Clear is_special) (sym h.2) refl))
         ∙ operand_goes reader e f.0 f.1 gs (top_all unit gs r (λ v. LeftAbove v e) (λ v. operand_left v e f.0)) xs h.0 h.1 ∙ ap (λ v. run reader v gs (mode.Have e)) h.2)
+    mode_ended (mode.InstanceName at i) f d o xs h =
+        itself (mode.InstanceName at i) xs (enters_fresh reader unit gs (ready unit fs gs l d o) xs (instance_fresh i at h.2.0 xs h.0 [] h.1 h.2.1)
+        ∙ ap (λ v. run reader v gs mode.Want) h.1 ∙ ap (λ v. run reader v gs (mode.Have (tree.Name at i))) h.2.1)
     mode_ended (mode.RecordName k at hs) f d o xs h =
         earlier reader _ _ gs (mode.RecordName k at hs) (by_symbol (ready unit fs gs l d o) symbols.OpenBracket at xs h.0 h.1 refl ∙ fields_go reader k at hs f.0 f.1 gs xs [] h) (field_ended reader k at hs gs)
     mode_ended (mode.RecordNamed k at hs n) f d o xs h =

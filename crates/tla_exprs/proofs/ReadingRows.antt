@@ -20,7 +20,7 @@ use Rattle.reader_model.proofs.Runner.{Runner, after, run}
 use Rattle.reader_model.proofs.RunsEdges.{spine, last, Top}
 use Rattle.reader_model.proofs.RunsStarts.{opened}
 use Rattle.reader_model.proofs.RunsParts.{plain, part, commas}
-use Rattle.reader_model.proofs.RunsPlain.{prefix_begins, chain_meets, chain_runs, items}
+use Rattle.reader_model.proofs.RunsPlain.{prefix_begins, chain_meets, chain_runs, qualified_name, items}
 use Rattle.reader_model.proofs.RunsBraces.{elements}
 use Rattle.reader_model.proofs.RunsTrees.{good, all_good, all_run, chain_good}
 use Rattle.reader_model.proofs.RunsTuples.{starts, list_opened, fair_subscript}
@@ -64,6 +64,13 @@ module _ (reader : Runner) where
       ap (λ v. run reader v gs mode.Want) h.1
       ∙ ap (λ v. run reader v gs (mode.Have (tree.Name at n))) h.2.1.1
       ∙ commas reader (λ bs. frame.Call n at bs) gs (λ bs a. tt) (λ bs p a. refl) es (all_good reader es f) h.2.0 ys h.2.2
+
+  pub qualified_call_goes : (n : List ℕ) (at : Place) (es : Trees) → AllFit es → (gs : List Frame) (xs ys : List Laid) → FrameText (frame.QualifiedCall n at es) xs ys
+      → run reader xs gs mode.Want ≡ run reader ys (frame.QualifiedCall n at es ∷ gs) mode.Want
+  qualified_call_goes n at es f gs xs ys h =
+      qualified_name reader at n gs xs h.0 h.1
+      ∙ ap (λ v. run reader v gs (mode.Have (tree.Qualified at n NoTrees))) h.2.1.1
+      ∙ commas reader (λ bs. frame.QualifiedCall n at bs) gs (λ bs a. tt) (λ bs p a. refl) es (all_good reader es f) h.2.0 ys h.2.2
 
   pub junction_goes : (b : Bullet) (at : Place) (es : Trees) → AllFit es → (gs : List Frame) (xs ys : List Laid) → FrameText (frame.Junction b at es) xs ys
       → run reader xs gs mode.Want ≡ run reader ys (frame.Junction b at es ∷ gs) mode.Want

@@ -5,7 +5,7 @@ use Rattle.std.proofs.lemmas.List.{take_more}
 use Rattle.std.proofs.lemmas.Option.{slice_get_within}
 use Rattle.tla_ast.specs.declared.module.Program.{Program}
 use Rattle.tla_ast.specs.declared.module.Unit.{Unit as ModuleUnit}
-use Rattle.tla_ast.specs.declared.module.Unit.TheVariants.{Variables, Constants, Recursive, Define, Assume, Passed}
+use Rattle.tla_ast.specs.declared.module.Unit.TheVariants.{Variables, Constants, Recursive, Define, Instance, Assume, Passed}
 use Rattle.tla_terms.specs.declared.operator.Operator.{Operator}
 use Rattle.tla_terms.specs.Terms.{Term}
 use Rattle.term_parts.specs.declared.fault.LevelFault.{LevelFault}
@@ -64,6 +64,7 @@ assumptions_behind (Constants ds ∷ us) vs = assumptions_behind us vs
 assumptions_behind (Define d ∷ us) vs = assumptions_behind us vs
 assumptions_behind (Assume e ∷ us) vs = ap (λ l. e ∷ l) (assumptions_behind us vs)
 assumptions_behind (Recursive rs ∷ us) vs = assumptions_behind us vs
+assumptions_behind (Instance m ∷ us) vs = assumptions_behind us vs
 assumptions_behind (Passed ∷ us) vs = assumptions_behind us vs
 
 assumed_more : (us : List ModuleUnit) (k : ℕ) (u : ModuleUnit) → k < length us → u ≡ get_or us k u → assumptions_before us (k + 1) ≡ assumptions_before us k + length (assumptions_in (u ∷ []))
@@ -81,6 +82,7 @@ one_assumed (Variables ds) r e = (let none : r ≡ 0 = e in omega arith)
 one_assumed (Constants ds) r e = (let none : r ≡ 0 = e in omega arith)
 one_assumed (Assume t) r e = (let one : r ≡ 1 = e in omega arith)
 one_assumed (Recursive rs) r e = (let none : r ≡ 0 = e in omega arith)
+one_assumed (Instance m) r e = (let none : r ≡ 0 = e in omega arith)
 one_assumed Passed r e = (let none : r ≡ 0 = e in omega arith)
 
 module _ (p : Program) (number : Numbers) (ops : List Operator) (assumes : List Term) (k : ℕ) (u : ModuleUnit) (stands : slice_get p.units k ≡ Some u) (i j : ℕ) (at : i ≡ definitions_before p.units k) (on : j ≡ assumptions_before p.units k) where

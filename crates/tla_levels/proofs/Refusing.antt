@@ -1,9 +1,11 @@
 -- What is refused, and that it is the first thing that is wrong.
-use Rattle.std.proofs.Common.{◌≡◌, ◌∙◌, sym, ap, subst, ℕ, List}
-use Rattle.std.specs.Prelude.{Option, Some, None, Result, Ok, Err, IfErr, IsErrAnd, MatchOption, slice_get}
+use Rattle.std.proofs.Common.{◌≡◌, ◌∙◌, sym, ap, subst, ℕ, List, length, take, take_all, arith}
+use Rattle.std.specs.Prelude.{Option, Some, None, Result, Ok, Err, IfOk, IfErr, IsErrAnd, MatchOption, eqb, slice_get}
+use Rattle.std.specs.List.{position_or_len}
 use Rattle.std.specs.Borrow.{Bor}
 use Rattle.trace_base.specs.declared.place.Place.{Place}
 use Rattle.tla_values.specs.Data.{Val}
+use Rattle.tla_ast.specs.Grammar.{mark}
 use Rattle.tla_ast.specs.declared.config.Config.{Config}
 use Rattle.tla_ast.specs.declared.config.GivenAt.{GivenAt}
 use Rattle.tla_ast.specs.declared.module.Declared.{Declared}
@@ -21,7 +23,7 @@ use Rattle.term_levels.specs.Notes.{AreNotes}
 use Rattle.tla_levels.specs.declared.fault.ResolveFault.{ResolveFault}
 use Rattle.tla_levels.specs.declared.fault.ResolveFault.TheVariants.{TooManyVariables, UnknownName, WrongArity, Recursion, NoValue, LevelTooHigh, PrimedArgument, NoOperator, NotTheShape, NoMemory}
 use Rattle.tla_levels.specs.Givens.{first_given_fault}
-use Rattle.tla_levels.specs.Refusals.{of_level, of_name}
+use Rattle.tla_levels.specs.Refusals.{of_level, of_name, told_name}
 use Rattle.tla_levels.specs.Resolved.{Answers, HasFewVariables, IsConfigured, IsLevelled, IsNamed, Resolved, too_many_variables, wrong_name, no_value, wrong_given, wrong_level, no_operator, no_shape, too_high}
 use Rattle.tla_levels.specs.Configured.{HasNoShape, first_too_high, first_without_operator}
 use Rattle.tla_levels.specs.Standing.{RefusesName, RefusesShape}
@@ -56,6 +58,14 @@ module _ (p : Program) (c : Config) (number : Numbers) (ops : List Operator) (as
 
 pub refuses_variable : (p : Program) (o : Option Declared) (d : Declared) → o ≡ slice_get (variables_in p.units) 64 → o ≡ Some d → (c : Config) (silent : Option (List ℕ)) → Answers p c silent (Err (TooManyVariables d.at))
 refuses_variable p o d e s c silent = too_many_variables d (sym e ∙ s)
+
+-- a text that is told of a name
+pub same_name : {E : Type 0} (r : Result (List ℕ) E) (a b : List ℕ) → a ≡ b → IfOk r (λ t. t ≡ a) → IfOk r (λ t. t ≡ b)
+same_name r a b p h = subst (λ x. IfOk r (λ t. t ≡ x)) p h
+
+-- a name without a mark is told as it is
+pub whole_name : (n : List ℕ) → position_or_len (λ c. eqb c mark) n ≡ length n → told_name n ≡ n
+whole_name n p = ap (λ k. take k n) p ∙ take_all (length n) n (omega arith)
 
 pub refuses_name : (p : Program) (c : Config) (f : NameFault) (r : ResolveFault) (o : Option NameFault) → HasFewVariables p → MatchOption o (HasFineNames p c) (IsFirstNameFault p c) → o ≡ Some f → r ≡ of_name f → (silent : Option (List ℕ)) → Answers p c silent (Err r)
 refuses_name p c f r o few h s q silent =

@@ -1,7 +1,8 @@
-ghost use Rattle.std.specs.Prelude.{◌≡◌};
+ghost use Rattle.std.specs.Prelude.{◌≡◌, IfOk};
 ghost use Rattle.tla_levels.specs.FaultCodes.{resolve_code};
-ghost use Rattle.tla_levels.specs.Refusals.{of_level, of_name};
+ghost use Rattle.tla_levels.specs.Refusals.{of_level, of_name, told_name};
 
+use std::alloc::Global;
 use term_parts::LevelFault;
 use thiserror::Error;
 use tla_names::NameFault;
@@ -72,17 +73,30 @@ impl From<NoMemory> for ResolveFault {
     }
 }
 
+/// The name that is told of one that means nothing: of a qualified name, as `I!N`, that of its instance.
+fn told_name(alloc: Global, name: &Text) -> Result<Text, NoMemory>
+    ensures { IfOk result (λ told. told ≡ told_name name.now) }
+{
+    match name.as_str().split_once('!') {
+        Some((instance, _)) => Text::from_text(alloc, instance),
+        None => name.copy(),
+    }
+}
+
 /// What is wrong with a name.
-pub(crate) fn of_name(fault: NameFault) -> ResolveFault
-    ensures { result ≡ of_name fault }
+pub(crate) fn of_name(alloc: Global, fault: NameFault) -> Result<ResolveFault, NoMemory>
+    ensures { IfOk result (λ refusal. refusal ≡ of_name fault) }
 {
     match fault {
-        NameFault::UnknownName(name, at) => ResolveFault::UnknownName(name, at),
-        NameFault::WrongArity(name, found, needed, at) => {
-            ResolveFault::WrongArity(name, found, needed, at)
+        NameFault::UnknownName(name, at) => {
+            let told = told_name(alloc, &name)?;
+            Ok(ResolveFault::UnknownName(told, at))
         }
-        NameFault::Recursion(name, at) => ResolveFault::Recursion(name, at),
-        NameFault::NoMemory => ResolveFault::NoMemory,
+        NameFault::WrongArity(name, found, needed, at) => {
+            Ok(ResolveFault::WrongArity(name, found, needed, at))
+        }
+        NameFault::Recursion(name, at) => Ok(ResolveFault::Recursion(name, at)),
+        NameFault::NoMemory => Ok(ResolveFault::NoMemory),
     }
 }
 

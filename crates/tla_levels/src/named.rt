@@ -62,7 +62,10 @@ fn check_names(
     ensures refused { IfErr result (λ f. (silent : Option (List ℕ)) → Answers program.now config.now silent (Err f)) }
 {
     match first_name_fault(alloc, program, config, names, uses)? {
-        Some(fault) => Err(of_name(fault)),
+        Some(fault) => {
+            let refusal = of_name(alloc, fault)?;
+            Err(refusal)
+        }
         None => Ok(()),
     }
 }

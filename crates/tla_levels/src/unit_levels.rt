@@ -90,6 +90,7 @@ fn unit_fault(
         Unit::Variables(_) => Ok(None),
         Unit::Constants(_) => Ok(None),
         Unit::Recursive(_) => Ok(None),
+        Unit::Instance(_) => Ok(None),
         Unit::Passed => Ok(None),
     }
 }
@@ -132,6 +133,7 @@ fn definitions_of(unit: &Unit) -> usize
         Unit::Constants(_) => 0,
         Unit::Assume(_) => 0,
         Unit::Recursive(_) => 0,
+        Unit::Instance(_) => 0,
         Unit::Passed => 0,
     }
 }
@@ -146,6 +148,7 @@ fn assumptions_of(unit: &Unit) -> usize
         Unit::Constants(_) => 0,
         Unit::Define(_) => 0,
         Unit::Recursive(_) => 0,
+        Unit::Instance(_) => 0,
         Unit::Passed => 0,
     }
 }

@@ -5,7 +5,7 @@ use Rattle.std.specs.Str.{bytes_eq}
 use Rattle.trace_base.specs.declared.place.Place.{Place}
 use Rattle.tla_ast.specs.declared.module.Declared.{Declared}
 use Rattle.tla_ast.specs.declared.module.Unit.{Unit as ModuleUnit}
-use Rattle.tla_ast.specs.declared.module.Unit.TheVariants.{Variables, Constants, Recursive, Define, Assume, Passed}
+use Rattle.tla_ast.specs.declared.module.Unit.TheVariants.{Variables, Constants, Recursive, Define, Instance, Assume, Passed}
 use Rattle.tla_modules.specs.declared.fault.LoadWhy.{LoadWhy}
 use Rattle.tla_modules.specs.declared.fault.LoadWhy.TheVariants.{Read, Lex, Lay, Parse, Cycle, TooMany, Twice, WrongName}
 use Rattle.tla_modules.specs.Standard.{is_brought}
@@ -20,6 +20,7 @@ declared_by (Constants ds) = ds
 declared_by (Define d) = declared_as d.name d.at ∷ []
 declared_by (Assume e) = []
 declared_by (Recursive rs) = []
+declared_by (Instance m) = declared_as m.name m.at ∷ []
 declared_by Passed = []
 
 abbrev pub declared_in : List ModuleUnit → List Declared

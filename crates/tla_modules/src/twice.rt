@@ -42,6 +42,7 @@ fn add_unit(names: &mut DeclaredNames, unit: &Unit) -> Result<(), NoMemory>
         Unit::Define(definition) => add(names, &definition.name, definition.at),
         Unit::Assume(_) => Ok(()),
         Unit::Recursive(_) => Ok(()),
+        Unit::Instance(made) => add(names, &made.name, made.at),
         Unit::Passed => Ok(()),
     }
 }

@@ -162,6 +162,7 @@ module _ (names : List Entry) (ops : List Operator) (program : AreIn (length ops
     means_below sc (tree.Builtin at b) y g h = at_row (tree.Builtin at b) (term.Named (builtin_set b)) y h tt (no_parts (length ops))
     means_below sc (tree.Name at n) y g h = at_two (tree.Name at n) h.0 y h.2 (of_use sc n term.NoTerms h.0 g h.1 (no_terms (length ops)))
     means_below sc (tree.Call at n es) y g h = at_two (tree.Call at n es) h.1 y h.4 (of_use sc n h.0 h.1 g h.3 (each_below sc es h.0 g h.2))
+    means_below sc (tree.Qualified at n es) y g h = at_two (tree.Qualified at n es) h.1 y h.4 (of_use sc n h.0 h.1 g h.3 (each_below sc es h.0 g h.2))
     means_below sc (tree.At at) y g h = at_two (tree.At at) h.0 y h.2 (of_use sc at_sign term.NoTerms h.0 g h.1 (no_terms (length ops)))
     means_below sc (tree.Parenthesized at a) y g h =
         at_row (tree.Parenthesized at a) (term.Parenthesized h.0) y h.2 tt (one_part (length ops) false h.0 (means_below sc a h.0 g h.1))

@@ -204,6 +204,7 @@ place_is at (node.Truth b) = refl
 place_is at (node.Builtin b) = refl
 place_is at (node.Name n) = refl
 place_is at (node.Call n es) = refl
+place_is at (node.Qualified n es) = refl
 place_is at node.At = refl
 place_is at (node.Parenthesized e) = refl
 place_is at (node.Junction b es) = refl

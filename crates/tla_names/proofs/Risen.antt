@@ -309,6 +309,7 @@ module _ (names : List Entry) (ops : List Operator) where
     risen (tree.Builtin at b) sc g x p c r = stood (tree.Builtin at b) (term.Named (builtin_set b)) x (false) r (refl)
     risen (tree.Name at n) sc g x p c r = stood (tree.Name at n) (r.0) x (told g n) r.2 (by_name sc g n r.0 p r.1)
     risen (tree.Call at n es) sc g x p c r = stood (tree.Call at n es) (r.1) x (told g n || rises_each (told g) es) r.4 (by_call sc g n at es r.0 r.1 p r.3 (left_none (counted n at (number_of es) (g n)) (complaints g es) c) (each_risen es sc g r.0 p (right_none (counted n at (number_of es) (g n)) (complaints g es) c) r.2))
+    risen (tree.Qualified at n es) sc g x p c r = stood (tree.Qualified at n es) (r.1) x (told g n || rises_each (told g) es) r.4 (by_call sc g n at es r.0 r.1 p r.3 (left_none (counted n at (number_of es) (g n)) (complaints g es) c) (each_risen es sc g r.0 p (right_none (counted n at (number_of es) (g n)) (complaints g es) c) r.2))
     risen (tree.At at) sc g x p c r = stood (tree.At at) (r.0) x (told g at_sign) r.2 (by_name sc g at_sign r.0 p r.1)
     risen (tree.Parenthesized at e) sc g x p c r = stood (tree.Parenthesized at e) (term.Parenthesized r.0) x (rises (told g) e) r.2 (risen e sc g r.0 p c r.1)
     risen (tree.Junction at b es) sc g x p c r = stood (tree.Junction at b es) (junction b r.0) x (rises_each (told g) es) r.2 (by_junction ops b r.0 ∙ each_risen es sc g r.0 p c r.1)

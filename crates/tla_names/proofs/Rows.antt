@@ -189,6 +189,13 @@ pub at_answers : (w : Around) (n : List ℕ) (at : Place) (t : Tree) (r : Result
 at_answers w n at t (Ok x) e k u = subst (λ (y : Tree). ResolvesRow w w y (node_view x)) e (at_row w at n (node_view x) k u)
 at_answers w n at t (Err f) e k u = tt
 
+-- a qualified name means what a call of that name does
+pub qualified_answers : (w v : Around) (at : Place) (n : List ℕ) (args : Trees) (t : Tree) (r : Result TermNode NameFault) → tree.Qualified at n args ≡ t → IfOk r (λ x. ResolvesRow w v (tree.Call at n args) (node_view x)) → IfOk r (λ x. ResolvesRow w v t (node_view x))
+qualified_answers w v at n args t r e h = subst (λ (y : Tree). IfOk r (λ x. ResolvesRow w v y (node_view x))) e h
+
+pub qualified_refused : (w : Around) (at : Place) (n : List ℕ) (args : Trees) (t : Tree) (r : Result TermNode NameFault) → tree.Qualified at n args ≡ t → IfErr r (Complains (complaint (takes w) (tree.Call at n args))) → IfErr r (Complains (complaint (takes w) t))
+qualified_refused w at n args t r e h = subst (λ (y : Tree). IfErr r (Complains (complaint (takes w) y))) e h
+
 pub at_refused : (w : Around) (n : List ℕ) (at : Place) (t : Tree) (r : Result TermNode NameFault) → tree.At at ≡ t → n ≡ at_sign → IfErr r (Complains (counted n at 0 (takes w n))) → IfErr r (Complains (complaint (takes w) t))
 at_refused w n at t (Ok x) e k u = tt
 at_refused w n at t (Err f) e k u =

@@ -88,6 +88,8 @@ module _ (names : List Entry) (ops : List Operator) where
     Means sc (tree.Name at n) e = (m : Meaning) × Uses names sc n term.NoTerms m × Stands (tree.Name at n) m e
     Means sc (tree.Call at n es) e =
         (ts : Terms) × (m : Meaning) × MeansEach sc es ts × Uses names sc n ts m × Stands (tree.Call at n es) m e
+    Means sc (tree.Qualified at n es) e =
+        (ts : Terms) × (m : Meaning) × MeansEach sc es ts × Uses names sc n ts m × Stands (tree.Qualified at n es) m e
     Means sc (tree.At at) e = (m : Meaning) × Uses names sc at_sign term.NoTerms m × Stands (tree.At at) m e
     Means sc (tree.Parenthesized at a) e = (x : Term) × Means sc a x × Stands (tree.Parenthesized at a) (term.Parenthesized x) e
     Means sc (tree.Junction at b es) e = (ts : Terms) × MeansEach sc es ts × Stands (tree.Junction at b es) (junction b ts) e

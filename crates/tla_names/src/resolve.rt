@@ -143,6 +143,7 @@ fn resolve_row(alloc: Global, walk: &mut Walk<'_>, tree: &Expr) -> Result<TermNo
         Node::Builtin(set) => Ok(TermNode::Named(builtin_set(*set))),
         Node::Name(name) => use_of(alloc, walk, name, tree.at),
         Node::Call(name, arguments) => resolve_call(alloc, walk, tree.at, name, arguments),
+        Node::Qualified(name, arguments) => resolve_call(alloc, walk, tree.at, name, arguments),
         Node::At => use_of(alloc, walk, &Text::from_text(alloc, "@")?, tree.at),
         Node::Parenthesized(inner) => {
             let inner = resolve(alloc, walk, inner)?;

@@ -4,7 +4,7 @@ use Rattle.tla_ast.specs.Trees.{Tree}
 use Rattle.tla_ast.specs.declared.expr.Definition.{Definition}
 use Rattle.tla_ast.specs.declared.module.Declared.{Declared}
 use Rattle.tla_ast.specs.declared.module.Unit.{Unit as ModuleUnit}
-use Rattle.tla_ast.specs.declared.module.Unit.TheVariants.{Variables, Constants, Recursive, Define, Assume, Passed}
+use Rattle.tla_ast.specs.declared.module.Unit.TheVariants.{Variables, Constants, Recursive, Define, Instance, Assume, Passed}
 use Rattle.tla_program.specs.InUnits.{variables_in, constants_in, definitions_in, assumptions_in}
 
 pub variables_behind : (us vs : List ModuleUnit) → variables_in (us ++ vs) ≡ variables_in us ++ variables_in vs
@@ -14,6 +14,7 @@ variables_behind (Constants ds ∷ us) vs = variables_behind us vs
 variables_behind (Define d ∷ us) vs = variables_behind us vs
 variables_behind (Assume e ∷ us) vs = variables_behind us vs
 variables_behind (Recursive rs ∷ us) vs = variables_behind us vs
+variables_behind (Instance m ∷ us) vs = variables_behind us vs
 variables_behind (Passed ∷ us) vs = variables_behind us vs
 
 pub constants_behind : (us vs : List ModuleUnit) → constants_in (us ++ vs) ≡ constants_in us ++ constants_in vs
@@ -23,6 +24,7 @@ constants_behind (Constants ds ∷ us) vs = ap (λ (xs : List Declared). ds ++ x
 constants_behind (Define d ∷ us) vs = constants_behind us vs
 constants_behind (Assume e ∷ us) vs = constants_behind us vs
 constants_behind (Recursive rs ∷ us) vs = constants_behind us vs
+constants_behind (Instance m ∷ us) vs = constants_behind us vs
 constants_behind (Passed ∷ us) vs = constants_behind us vs
 
 pub definitions_behind : (us vs : List ModuleUnit) → definitions_in (us ++ vs) ≡ definitions_in us ++ definitions_in vs
@@ -32,6 +34,7 @@ definitions_behind (Constants ds ∷ us) vs = definitions_behind us vs
 definitions_behind (Define d ∷ us) vs = ap (λ (xs : List Definition). d ∷ xs) (definitions_behind us vs)
 definitions_behind (Assume e ∷ us) vs = definitions_behind us vs
 definitions_behind (Recursive rs ∷ us) vs = definitions_behind us vs
+definitions_behind (Instance m ∷ us) vs = definitions_behind us vs
 definitions_behind (Passed ∷ us) vs = definitions_behind us vs
 
 pub assumptions_behind : (us vs : List ModuleUnit) → assumptions_in (us ++ vs) ≡ assumptions_in us ++ assumptions_in vs
@@ -41,4 +44,5 @@ assumptions_behind (Constants ds ∷ us) vs = assumptions_behind us vs
 assumptions_behind (Define d ∷ us) vs = assumptions_behind us vs
 assumptions_behind (Assume e ∷ us) vs = ap (λ (xs : List Tree). e ∷ xs) (assumptions_behind us vs)
 assumptions_behind (Recursive rs ∷ us) vs = assumptions_behind us vs
+assumptions_behind (Instance m ∷ us) vs = assumptions_behind us vs
 assumptions_behind (Passed ∷ us) vs = assumptions_behind us vs

@@ -5,7 +5,7 @@ use Rattle.tla_ast.specs.declared.expr.Definition.{Definition}
 use Rattle.tla_ast.specs.declared.module.Declared.{Declared}
 use Rattle.tla_ast.specs.declared.module.DeclaredOperator.{DeclaredOperator}
 use Rattle.tla_ast.specs.declared.module.Unit.{Unit as ModuleUnit}
-use Rattle.tla_ast.specs.declared.module.Unit.TheVariants.{Variables, Constants, Recursive, Define, Assume, Passed}
+use Rattle.tla_ast.specs.declared.module.Unit.TheVariants.{Variables, Constants, Recursive, Define, Instance, Assume, Passed}
 
 abbrev pub variables_in : List ModuleUnit → List Declared
 variables_in [] = []
@@ -14,6 +14,7 @@ variables_in (Constants ds ∷ us) = variables_in us
 variables_in (Define d ∷ us) = variables_in us
 variables_in (Assume e ∷ us) = variables_in us
 variables_in (Recursive rs ∷ us) = variables_in us
+variables_in (Instance m ∷ us) = variables_in us
 variables_in (Passed ∷ us) = variables_in us
 
 abbrev pub constants_in : List ModuleUnit → List Declared
@@ -23,6 +24,7 @@ constants_in (Constants ds ∷ us) = ds ++ constants_in us
 constants_in (Define d ∷ us) = constants_in us
 constants_in (Assume e ∷ us) = constants_in us
 constants_in (Recursive rs ∷ us) = constants_in us
+constants_in (Instance m ∷ us) = constants_in us
 constants_in (Passed ∷ us) = constants_in us
 
 abbrev pub definitions_in : List ModuleUnit → List Definition
@@ -32,6 +34,7 @@ definitions_in (Constants ds ∷ us) = definitions_in us
 definitions_in (Define d ∷ us) = d ∷ definitions_in us
 definitions_in (Assume e ∷ us) = definitions_in us
 definitions_in (Recursive rs ∷ us) = definitions_in us
+definitions_in (Instance m ∷ us) = definitions_in us
 definitions_in (Passed ∷ us) = definitions_in us
 
 abbrev pub assumptions_in : List ModuleUnit → List Tree
@@ -41,6 +44,7 @@ assumptions_in (Constants ds ∷ us) = assumptions_in us
 assumptions_in (Define d ∷ us) = assumptions_in us
 assumptions_in (Assume e ∷ us) = e ∷ assumptions_in us
 assumptions_in (Recursive rs ∷ us) = assumptions_in us
+assumptions_in (Instance m ∷ us) = assumptions_in us
 assumptions_in (Passed ∷ us) = assumptions_in us
 
 -- the operators that RECURSIVE declares
@@ -51,4 +55,5 @@ recursive_in (Constants ds ∷ us) = recursive_in us
 recursive_in (Define d ∷ us) = recursive_in us
 recursive_in (Assume e ∷ us) = recursive_in us
 recursive_in (Recursive rs ∷ us) = rs ++ recursive_in us
+recursive_in (Instance m ∷ us) = recursive_in us
 recursive_in (Passed ∷ us) = recursive_in us

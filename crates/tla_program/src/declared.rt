@@ -27,6 +27,7 @@ fn add_variables<'a>(found: &mut Vec<&'a Declared>, unit: &'a Unit) -> Result<()
         Unit::Define(_) => Ok(()),
         Unit::Assume(_) => Ok(()),
         Unit::Recursive(_) => Ok(()),
+        Unit::Instance(_) => Ok(()),
         Unit::Passed => Ok(()),
     }
 }
@@ -52,6 +53,7 @@ fn add_constants<'a>(found: &mut Vec<&'a Declared>, unit: &'a Unit) -> Result<()
         Unit::Define(_) => Ok(()),
         Unit::Assume(_) => Ok(()),
         Unit::Recursive(_) => Ok(()),
+        Unit::Instance(_) => Ok(()),
         Unit::Passed => Ok(()),
     }
 }
@@ -85,6 +87,7 @@ fn add_definition<'a>(found: &mut Vec<&'a Definition>, unit: &'a Unit) -> Result
         Unit::Constants(_) => Ok(()),
         Unit::Assume(_) => Ok(()),
         Unit::Recursive(_) => Ok(()),
+        Unit::Instance(_) => Ok(()),
         Unit::Passed => Ok(()),
     }
 }
@@ -118,6 +121,7 @@ fn add_assumption<'a>(found: &mut Vec<&'a Expr>, unit: &'a Unit) -> Result<(), N
         Unit::Constants(_) => Ok(()),
         Unit::Define(_) => Ok(()),
         Unit::Recursive(_) => Ok(()),
+        Unit::Instance(_) => Ok(()),
         Unit::Passed => Ok(()),
     }
 }

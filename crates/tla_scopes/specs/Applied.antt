@@ -4,7 +4,7 @@ use Rattle.std.specs.Prelude.{ℕ, Bool, true, false, not, ◌&&◌, ◌||◌, L
 use Rattle.std.specs.Str.{bytes_eq}
 use Rattle.tla_scopes.specs.Mentions.{binds, defines, is_one_of, mentions_bounds}
 use Rattle.tla_scopes.specs.Scopes.{at_sign}
-use Rattle.tla_ast.specs.Trees.{Tree, Name, Call, At, Parenthesized, Junction, Prefix, Infix, Postfix, SetOf, Filter, Map, Tuple, Function, FunctionSet, Record, RecordSet, Except, Quantified, Choose, If, Case, CaseOther, Let, BoxAction, AngleAction, Fairness, Trees, NoTrees, MoreTrees, Operands, First, Next, Step, Index, Steps, NoSteps, MoreSteps, Bounds, NoBounds, MoreBounds, Fields, NoFields, MoreFields, Changes, NoChanges, MoreChanges, Arms, NoArms, MoreArms, Definitions, NoDefinitions, MoreDefinitions}
+use Rattle.tla_ast.specs.Trees.{Tree, Name, Call, Qualified, At, Parenthesized, Junction, Prefix, Infix, Postfix, SetOf, Filter, Map, Tuple, Function, FunctionSet, Record, RecordSet, Except, Quantified, Choose, If, Case, CaseOther, Let, BoxAction, AngleAction, Fairness, Trees, NoTrees, MoreTrees, Operands, First, Next, Step, Index, Steps, NoSteps, MoreSteps, Bounds, NoBounds, MoreBounds, Fields, NoFields, MoreFields, Changes, NoChanges, MoreChanges, Arms, NoArms, MoreArms, Definitions, NoDefinitions, MoreDefinitions}
 
 abbrev pub is_index : Step → Bool
 is_index (Index es) = true
@@ -24,6 +24,7 @@ abbrev mutual
   pub bare : List ℕ → Tree → Bool
   bare n (Name at m) = bytes_eq m n
   bare n (Call at m es) = bytes_eq m n || bare_each n es
+  bare n (Qualified at m es) = bytes_eq m n || bare_each n es
   bare n (At at) = bytes_eq at_sign n
   bare n (Parenthesized at e) = bare n e
   bare n (Junction at b es) = bare_each n es

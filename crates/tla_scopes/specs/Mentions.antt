@@ -4,7 +4,7 @@ use Rattle.std.specs.Prelude.{ℕ, Bool, false, not, ◌&&◌, ◌||◌, List, [
 use Rattle.std.specs.List.{list_any}
 use Rattle.std.specs.Str.{bytes_eq}
 use Rattle.tla_scopes.specs.Scopes.{at_sign}
-use Rattle.tla_ast.specs.Trees.{Tree, Name, Call, At, Parenthesized, Junction, Prefix, Infix, Postfix, SetOf, Filter, Map, Tuple, Function, FunctionSet, Record, RecordSet, Except, Quantified, Choose, If, Case, CaseOther, Let, BoxAction, AngleAction, Fairness, Trees, NoTrees, MoreTrees, Operands, First, Next, Step, Index, Steps, NoSteps, MoreSteps, Bounds, NoBounds, MoreBounds, Fields, NoFields, MoreFields, Changes, NoChanges, MoreChanges, Arms, NoArms, MoreArms, Definitions, NoDefinitions, MoreDefinitions}
+use Rattle.tla_ast.specs.Trees.{Tree, Name, Call, Qualified, At, Parenthesized, Junction, Prefix, Infix, Postfix, SetOf, Filter, Map, Tuple, Function, FunctionSet, Record, RecordSet, Except, Quantified, Choose, If, Case, CaseOther, Let, BoxAction, AngleAction, Fairness, Trees, NoTrees, MoreTrees, Operands, First, Next, Step, Index, Steps, NoSteps, MoreSteps, Bounds, NoBounds, MoreBounds, Fields, NoFields, MoreFields, Changes, NoChanges, MoreChanges, Arms, NoArms, MoreArms, Definitions, NoDefinitions, MoreDefinitions}
 
 abbrev pub is_one_of : List ℕ → List (List ℕ) → Bool
 is_one_of n ns = list_any (λ m. bytes_eq m n) ns
@@ -22,6 +22,7 @@ abbrev mutual
   pub mentions : List ℕ → Tree → Bool
   mentions n (Name at m) = bytes_eq m n
   mentions n (Call at m es) = bytes_eq m n || mentions_each n es
+  mentions n (Qualified at m es) = bytes_eq m n || mentions_each n es
   mentions n (At at) = bytes_eq at_sign n
   mentions n (Parenthesized at e) = mentions n e
   mentions n (Junction at b es) = mentions_each n es

@@ -129,7 +129,7 @@ fn bare_row(name: &Text, tree: &Expr) -> bool
         Node::Truth(_) => false,
         Node::Builtin(_) => false,
         Node::Name(other) => *other == *name,
-        Node::Call(other, arguments) => {
+        Node::Call(other, arguments) | Node::Qualified(other, arguments) => {
             if *other == *name {
                 return true;
             }

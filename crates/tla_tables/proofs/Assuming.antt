@@ -11,7 +11,7 @@ use Rattle.tla_ast.specs.Trees.{Tree}
 use Rattle.tla_ast.specs.declared.config.Config.{Config}
 use Rattle.tla_ast.specs.declared.module.Program.{Program}
 use Rattle.tla_ast.specs.declared.module.Unit.{Unit as ModuleUnit}
-use Rattle.tla_ast.specs.declared.module.Unit.TheVariants.{Variables, Constants, Recursive, Define, Assume, Passed}
+use Rattle.tla_ast.specs.declared.module.Unit.TheVariants.{Variables, Constants, Recursive, Define, Instance, Assume, Passed}
 use Rattle.tla_terms.specs.declared.operator.Operator.{Operator}
 use Rattle.tla_terms.specs.Terms.{Term, Terms, NoTerms, MoreTerms}
 use Rattle.term_parts.specs.Parts.{listed}
@@ -50,6 +50,7 @@ assumed_at (Define d ∷ us) j t e = (let r : AssumedAt us t = assumed_at us j t
 assumed_at (Variables ds ∷ us) j t e = (let r : AssumedAt us t = assumed_at us j t e in record { place = suc r.place; stands = r.stands })
 assumed_at (Constants ds ∷ us) j t e = (let r : AssumedAt us t = assumed_at us j t e in record { place = suc r.place; stands = r.stands })
 assumed_at (Recursive rs ∷ us) j t e = (let r : AssumedAt us t = assumed_at us j t e in record { place = suc r.place; stands = r.stands })
+assumed_at (Instance m ∷ us) j t e = (let r : AssumedAt us t = assumed_at us j t e in record { place = suc r.place; stands = r.stands })
 assumed_at (Passed ∷ us) j t e = (let r : AssumedAt us t = assumed_at us j t e in record { place = suc r.place; stands = r.stands })
 
 fine_assumption : (p : Program) (c : Config) (bs : List Bool) → AreLevelsOf p c bs → HasFineNames p c → (j : ℕ) (t : Tree) → slice_get (assumptions_in p.units) j ≡ Some t → complaint (takes_in_program p c bs) t ≡ None

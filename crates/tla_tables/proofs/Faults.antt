@@ -8,7 +8,7 @@ use Rattle.tla_values.specs.Data.{Val, truth}
 use Rattle.tla_ast.specs.declared.config.Config.{Config}
 use Rattle.tla_ast.specs.declared.module.Program.{Program}
 use Rattle.tla_ast.specs.declared.module.Unit.{Unit as ModuleUnit}
-use Rattle.tla_ast.specs.declared.module.Unit.TheVariants.{Variables, Constants, Recursive, Define, Assume, Passed}
+use Rattle.tla_ast.specs.declared.module.Unit.TheVariants.{Variables, Constants, Recursive, Define, Instance, Assume, Passed}
 use Rattle.tla_terms.specs.Terms.{Term, Known, Meaning, meaning_of}
 use Rattle.term_parts.specs.Slots.{Mentions, MentionsBelow, used, listed_in_let, mentioned_in_part}
 use Rattle.term_parts.specs.Parts.{parts}
@@ -75,6 +75,7 @@ one_at_most (Variables ds) r e = (let none : r ≡ 0 = e in omega arith)
 one_at_most (Constants ds) r e = (let none : r ≡ 0 = e in omega arith)
 one_at_most (Assume t) r e = (let none : r ≡ 0 = e in omega arith)
 one_at_most (Recursive rs) r e = (let none : r ≡ 0 = e in omega arith)
+one_at_most (Instance m) r e = (let none : r ≡ 0 = e in omega arith)
 one_at_most Passed r e = (let none : r ≡ 0 = e in omega arith)
 
 -- the definition of that index uses itself wrongly where the mark says so

@@ -5,7 +5,7 @@ use Rattle.tla_ast.specs.declared.config.Config.{Config}
 use Rattle.tla_ast.specs.declared.expr.Definition.{Definition}
 use Rattle.tla_ast.specs.declared.module.Program.{Program}
 use Rattle.tla_ast.specs.declared.module.Unit.{Unit as ModuleUnit}
-use Rattle.tla_ast.specs.declared.module.Unit.TheVariants.{Variables, Constants, Recursive, Define, Assume, Passed}
+use Rattle.tla_ast.specs.declared.module.Unit.TheVariants.{Variables, Constants, Recursive, Define, Instance, Assume, Passed}
 use Rattle.tla_names.specs.declared.fault.NameFault.{NameFault}
 use Rattle.tla_names.specs.declared.fault.NameFault.TheVariants.{Recursion}
 use Rattle.least_levels.specs.Levels.{mark}
@@ -32,6 +32,7 @@ defined_at (Variables x ∷ us) i d e = (let r : DefinedAt us i d = defined_at u
 defined_at (Constants x ∷ us) i d e = (let r : DefinedAt us i d = defined_at us i d e in record { place = suc r.place; stands = r.stands; before = r.before })
 defined_at (Assume x ∷ us) i d e = (let r : DefinedAt us i d = defined_at us i d e in record { place = suc r.place; stands = r.stands; before = r.before })
 defined_at (Recursive rs ∷ us) i d e = (let r : DefinedAt us i d = defined_at us i d e in record { place = suc r.place; stands = r.stands; before = r.before })
+defined_at (Instance m ∷ us) i d e = (let r : DefinedAt us i d = defined_at us i d e in record { place = suc r.place; stands = r.stands; before = r.before })
 defined_at (Passed ∷ us) i d e = (let r : DefinedAt us i d = defined_at us i d e in record { place = suc r.place; stands = r.stands; before = r.before })
 
 starts : (p : Program) (c : Config) (i j : ℕ) → LeadsTo p c i j → (d : Definition) × (slice_get (definitions_in p.units) i ≡ Some d)
@@ -89,6 +90,7 @@ fault_is p c g i (Assume t) f b mark e = e
 fault_is p c g i (Variables ds) f b mark e = absurd (cc)
 fault_is p c g i (Constants ds) f b mark e = absurd (cc)
 fault_is p c g i (Recursive rs) f b mark e = e
+fault_is p c g i (Instance m) f b mark e = absurd (cc)
 fault_is p c g i Passed f b mark e = absurd (cc)
 
 pub is_fault : (p : Program) (c : Config) (g : Takes) (i : ℕ) (unit : ModuleUnit) (f : NameFault) (b : Bool) → (IsTrue b ↔ MeetsRecursion p c i) → UnitFault p c g i unit f → unit_complaint (definitions_in p.units) g b unit ≡ Some f
@@ -100,4 +102,5 @@ is_fault p c g i (Assume t) f b mark w = w
 is_fault p c g i (Variables ds) f b mark w = absurd w
 is_fault p c g i (Constants ds) f b mark w = absurd w
 is_fault p c g i (Recursive rs) f b mark w = w
+is_fault p c g i (Instance m) f b mark w = absurd w
 is_fault p c g i Passed f b mark w = absurd w

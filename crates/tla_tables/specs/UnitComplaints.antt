@@ -5,7 +5,7 @@ use Rattle.tla_ast.specs.declared.config.Config.{Config}
 use Rattle.tla_ast.specs.declared.expr.Definition.{Definition}
 use Rattle.tla_ast.specs.declared.module.Program.{Program}
 use Rattle.tla_ast.specs.declared.module.Unit.{Unit as ModuleUnit}
-use Rattle.tla_ast.specs.declared.module.Unit.TheVariants.{Variables, Constants, Recursive, Define, Assume, Passed}
+use Rattle.tla_ast.specs.declared.module.Unit.TheVariants.{Variables, Constants, Recursive, Define, Instance, Assume, Passed}
 use Rattle.tla_names.specs.declared.fault.NameFault.{NameFault}
 use Rattle.tla_names.specs.declared.fault.NameFault.TheVariants.{Recursion}
 use Rattle.tla_names.specs.Complaints.{Takes, with_names, complaint}
@@ -21,6 +21,7 @@ unit_complaint ds g wrong (Assume e) = complaint g e
 unit_complaint ds g wrong (Variables vs) = None
 unit_complaint ds g wrong (Constants cs) = None
 unit_complaint ds g wrong (Recursive rs) = declared_complaints ds rs
+unit_complaint ds g wrong (Instance m) = None
 unit_complaint ds g wrong Passed = None
 
 -- the marks say which definitions use themselves wrongly, by their indices

@@ -129,6 +129,7 @@ fn unit_fault(
         Unit::Variables(_) => Ok(None),
         Unit::Constants(_) => Ok(None),
         Unit::Recursive(operators) => declared_fault(definitions, operators),
+        Unit::Instance(_) => Ok(None),
         Unit::Passed => Ok(None),
     }
 }
@@ -143,6 +144,7 @@ fn definitions_of(unit: &Unit) -> usize
         Unit::Constants(_) => 0,
         Unit::Assume(_) => 0,
         Unit::Recursive(_) => 0,
+        Unit::Instance(_) => 0,
         Unit::Passed => 0,
     }
 }

@@ -187,6 +187,7 @@ shallow_definition text q (inr (inr t)) = absurd (stated_no_definition (form_of 
 definition_by : Defined → (u : ModuleUnit) (xs text mid : List Laid) (p : Place) → UnitText u text [] → unit_form u ≡ OfDefinition → ShallowDefinition text → TextEnds mid → xs ≡ text ++ mid → IsTooNested FittingBegunDefinition ShallowDefinition xs p → ⊥
 definition_by k (units.Define d) xs text mid p h q s m e t =
     not_deep Definition BegunDefinition FittingBegunDefinition k true text mid t.read t.rest t.here (d.name, d.at, d.params, d.form, d.body, h, tt) s m t.fits t.shallow t.deep (parted text mid t.read (t.here ∷ t.rest) (sym e ∙ t.whole))
+definition_by k (units.Instance w) xs text mid p h q s m e t = absurd h
 definition_by k (units.Variables ds) xs text mid p h q s m e t = let r : OfVariables ≡ OfDefinition = q in cc
 definition_by k (units.Constants ds) xs text mid p h q s m e t = let r : OfConstants ≡ OfDefinition = q in cc
 definition_by k (units.Recursive ds) xs text mid p h q s m e t = let r : OfRecursive ≡ OfDefinition = q in cc
@@ -287,6 +288,7 @@ stated_by ends none k (units.Variables ds) xs text mid p h s m q d = declaring_s
 stated_by ends none k (units.Constants ds) xs text mid p h s m q d = declaring_stated (form_of xs) (inr (unit_first (units.Constants ds) xs text mid h q)) (stating_form xs d.body (deep_stating xs p d))
 stated_by ends none k (units.Recursive ds) xs text mid p h s m q d = recursive_stated (form_of xs) (unit_first (units.Recursive ds) xs text mid h q) (stating_form xs d.body (deep_stating xs p d))
 stated_by ends none k (units.Define e) xs text mid p h s m q d = stated_no_definition (form_of xs) (stating_form xs d.body (deep_stating xs p d)) (unit_first (units.Define e) xs text mid h q)
+stated_by ends none k (units.Instance w) xs text mid p h s m q d = absurd h
 stated_by ends none k (units.Assume e) xs text mid p h s m q d = stated_clash ends none k e xs text mid h.0 h.2.0 p (inl h.1) h.2.1 h.2.2 s m q d
 stated_by ends none k units.Passed xs text mid p (inl h) s m q d =
     let at : Stating xs d.body = deep_stating xs p d in

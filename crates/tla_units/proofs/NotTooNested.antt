@@ -57,6 +57,7 @@ local_unit text defined (units.Variables ds) = local_variables ds
 local_unit text defined (units.Constants ds) = local_constants ds
 local_unit text defined (units.Recursive ds) = local_recursive ds
 local_unit text defined (units.Define d) = local_definition defined d
+local_unit text defined (units.Instance m) = λ xs ys h. absurd h
 local_unit text defined (units.Assume e) = local_assumption text e
 local_unit text defined units.Passed = local_passed text
 
@@ -112,8 +113,8 @@ no_deep_units k [] (suc n) xs body ys p h g q d =
     no_deep_unit k xs g.0 p g.1 (form_ends g.0 there) (subst (λ v. Deep v p) (sym h) d)
 no_deep_units k (u ∷ us) zero xs body ys p h g q d = equals_no_unit u xs h.0 h.1 (ap form_of g ∙ q)
 no_deep_units k (u ∷ us) (suc n) xs body ys p h g q d =
-    let here : TextEnds h.0 = form_ends h.0 (units_form us h.0 body h.2 (deep_form body p d)) in
-    let there : TextEnds g.0 = form_ends g.0 (so_many_form k.text k.defined n g.0 ys g.2 q) in
+    let here : IsOfUnits (form_of h.0) = units_form us h.0 body h.2 (deep_form body p d) in
+    let there : IsOfUnits (form_of g.0) = so_many_form k.text k.defined n g.0 ys g.2 q in
     let same : h.0 ≡ g.0 = unit_extent k.titles k.expressions k.definitions u g.1.unit xs h.0 g.0 h.1 (unit_before k.text k.defined xs g.0 g.1) here there in
     no_deep_units k us n g.0 body ys p (subst (λ v. UnitsText us v body) same h.2) g.2 q d
 

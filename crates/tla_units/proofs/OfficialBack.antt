@@ -125,6 +125,7 @@ part_from (units.Variables ds) fit xs ys h f = unit_from marks.Variables fit xs 
 part_from (units.Constants ds) fit xs ys h f = unit_from marks.Constants fit xs h.0 ys (of_mark marks.Constants xs h.0 h.1) (λ x. declared_from ds h.0 ys h.2)
 part_from (units.Recursive ds) fit xs ys h f = unit_from marks.Recursive fit xs h.0 ys (of_mark marks.Recursive xs h.0 h.1) (λ x. operators_from ds h.0 ys h.2)
 part_from (units.Define d) fit xs ys h f = definition_part fit xs ys (d.name, d.at, d.params, d.form, d.body, h, fits_defined fit d f)
+part_from (units.Instance m) fit xs ys h f = absurd h
 part_from (units.Assume e) fit xs ys h f = unit_from marks.Assume fit xs h.0 ys (of_mark marks.Assume xs h.0 h.1) (λ x. (h.2.0, title_from h.0 h.2.0 h.2.1, (e, h.2.2, fits_assumed fit e f)))
 part_from units.Passed fit xs ys h f = passed_from fit xs ys h
 

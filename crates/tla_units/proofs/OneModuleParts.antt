@@ -21,7 +21,7 @@ use Rattle.tla_ast.specs.Modules.{DeclaredText, DeclaredNamesText, PlacesText, M
 use Rattle.reader_model.specs.declared.frame.Mode.TheVariants as mode
 use Rattle.reader_model.specs.Machine.{EndsAt, EndsDefinitionAt, run}
 use Rattle.reader_model.specs.LawsOfTrees.{SpelledRead, DefinitionRead}
-use Rattle.tla_units.proofs.OneModuleTokens.{IsOfUnits, TextEnds, form_of, form_ends, tail_of, some_behind}
+use Rattle.tla_units.proofs.OneModuleTokens.{IsOfUnits, TextEnds, UnitEnds, form_of, tail_of, some_behind}
 
 -- ---- names
 
@@ -43,10 +43,10 @@ token_same n m p q ws xs ys zs w h g =
     let here : Plain (record { kind = kinds.Name n; place = p }) ∷ ys ≡ Plain (record { kind = kinds.Name m; place = q }) ∷ zs = sym h ∙ w ∙ g in
     (ap head_name here, ap (head_place p) here, ap tail_of here)
 
-no_comma : (xs ys : List Laid) → TextEnds xs → sign symbols.Comma xs ys → ⊥
-no_comma xs ys a c = subst TextEnds c.1 a
+no_comma : (xs ys : List Laid) → UnitEnds xs → sign symbols.Comma xs ys → ⊥
+no_comma xs ys a c = subst UnitEnds c.1 a
 
-pub names_same : (ns ms : List (List ℕ)) (xs ys zs : List Laid) → NamesText ns xs ys → NamesText ms xs zs → TextEnds ys → TextEnds zs → (ns ≡ ms) × (ys ≡ zs)
+pub names_same : (ns ms : List (List ℕ)) (xs ys zs : List Laid) → NamesText ns xs ys → NamesText ms xs zs → UnitEnds ys → UnitEnds zs → (ns ≡ ms) × (ys ≡ zs)
 names_same [] ms xs ys zs h g a b = absurd h
 names_same (n ∷ ns) [] xs ys zs h g a b = absurd g
 names_same (n ∷ []) (m ∷ []) xs ys zs h g a b =
@@ -54,10 +54,10 @@ names_same (n ∷ []) (m ∷ []) xs ys zs h g a b =
     (ap (λ v. v ∷ []) p.0, p.2)
 names_same (n ∷ []) (m ∷ k ∷ ms) xs ys zs h g a b =
     let p = token_same n m h.0 g.1.0 xs xs ys g.0 refl h.1 g.1.1 in
-    absurd (no_comma g.0 g.2.0 (subst TextEnds p.2 a) g.2.1)
+    absurd (no_comma g.0 g.2.0 (subst UnitEnds p.2 a) g.2.1)
 names_same (n ∷ l ∷ ns) (m ∷ []) xs ys zs h g a b =
     let p = token_same n m h.1.0 g.0 xs xs h.0 zs refl h.1.1 g.1 in
-    absurd (no_comma h.0 h.2.0 (subst TextEnds (sym p.2) b) h.2.1)
+    absurd (no_comma h.0 h.2.0 (subst UnitEnds (sym p.2) b) h.2.1)
 names_same (n ∷ l ∷ ns) (m ∷ k ∷ ms) xs ys zs h g a b =
     let p = token_same n m h.1.0 g.1.0 xs xs h.0 g.0 refl h.1.1 g.1.1 in
     let q : h.2.0 ≡ g.2.0 = some_behind (kinds.Symbol symbols.Comma) h.0 g.0 h.2.0 g.2.0 p.2 h.2.1 g.2.1 in
@@ -75,7 +75,7 @@ declared_same d e xs ys zs h g =
     let p = token_same d.name e.name d.at e.at xs xs ys zs refl h g in
     (same_declared d e p.0 p.1, p.2)
 
-pub declared_names_same : (ds es : List Declared) (xs ys zs : List Laid) → DeclaredNamesText ds xs ys → DeclaredNamesText es xs zs → TextEnds ys → TextEnds zs → (ds ≡ es) × (ys ≡ zs)
+pub declared_names_same : (ds es : List Declared) (xs ys zs : List Laid) → DeclaredNamesText ds xs ys → DeclaredNamesText es xs zs → UnitEnds ys → UnitEnds zs → (ds ≡ es) × (ys ≡ zs)
 declared_names_same [] es xs ys zs h g a b = absurd h
 declared_names_same (d ∷ ds) [] xs ys zs h g a b = absurd g
 declared_names_same (d ∷ []) (e ∷ []) xs ys zs h g a b =
@@ -83,10 +83,10 @@ declared_names_same (d ∷ []) (e ∷ []) xs ys zs h g a b =
     (ap (λ v. v ∷ []) p.0, p.1)
 declared_names_same (d ∷ []) (e ∷ f ∷ es) xs ys zs h g a b =
     let p = declared_same d e xs ys g.0 h g.1 in
-    absurd (no_comma g.0 g.2.0 (subst TextEnds p.1 a) g.2.1)
+    absurd (no_comma g.0 g.2.0 (subst UnitEnds p.1 a) g.2.1)
 declared_names_same (d ∷ c ∷ ds) (e ∷ []) xs ys zs h g a b =
     let p = declared_same d e xs h.0 zs h.1 g in
-    absurd (no_comma h.0 h.2.0 (subst TextEnds (sym p.1) b) h.2.1)
+    absurd (no_comma h.0 h.2.0 (subst UnitEnds (sym p.1) b) h.2.1)
 declared_names_same (d ∷ c ∷ ds) (e ∷ f ∷ es) xs ys zs h g a b =
     let p = declared_same d e xs h.0 g.0 h.1 g.1 in
     let q : h.2.0 ≡ g.2.0 = some_behind (kinds.Symbol symbols.Comma) h.0 g.0 h.2.0 g.2.0 p.1 h.2.1 g.2.1 in
@@ -121,8 +121,8 @@ comma_no_open xs ys zs h g = let q : true ≡ false = sym (ap is_comma h.1) ∙ 
 close_no_comma : (xs ys zs : List Laid) → sign symbols.CloseParenthesis xs ys → sign symbols.Comma xs zs → ⊥
 close_no_comma xs ys zs h g = let q : true ≡ false = sym (ap is_comma g.1) ∙ ap is_comma h.1 in cc
 
-no_open : (xs ys : List Laid) → TextEnds xs → sign symbols.OpenParenthesis xs ys → ⊥
-no_open xs ys a c = subst TextEnds c.1 a
+no_open : (xs ys : List Laid) → UnitEnds xs → sign symbols.OpenParenthesis xs ys → ⊥
+no_open xs ys a c = subst UnitEnds c.1 a
 
 places_same : (n m : ℕ) (xs ys zs : List Laid) → PlacesText n xs ys → PlacesText m xs zs → NoComma ys → NoComma zs → (n ≡ m) × (ys ≡ zs)
 places_same zero m xs ys zs h g a b = absurd h
@@ -162,7 +162,7 @@ operator_same d e xs ys zs h g a b =
     let r = maybe_places_same d.parameters e.parameters h.0 ys zs h.2 (subst (λ v. MaybePlaces e.parameters v zs) (sym p.2) g.2) a b in
     (same_operator d e p.0 p.1 r.0, r.1)
 
-pub operators_same : (ds es : List DeclaredOperator) (xs ys zs : List Laid) → DeclaredOperatorsText ds xs ys → DeclaredOperatorsText es xs zs → TextEnds ys → TextEnds zs → (ds ≡ es) × (ys ≡ zs)
+pub operators_same : (ds es : List DeclaredOperator) (xs ys zs : List Laid) → DeclaredOperatorsText ds xs ys → DeclaredOperatorsText es xs zs → UnitEnds ys → UnitEnds zs → (ds ≡ es) × (ys ≡ zs)
 operators_same [] es xs ys zs h g a b = absurd h
 operators_same (d ∷ ds) [] xs ys zs h g a b = absurd g
 operators_same (d ∷ []) (e ∷ []) xs ys zs h g a b =
@@ -170,10 +170,10 @@ operators_same (d ∷ []) (e ∷ []) xs ys zs h g a b =
     (ap (λ v. v ∷ []) p.0, p.1)
 operators_same (d ∷ []) (e ∷ f ∷ es) xs ys zs h g a b =
     let p = operator_same d e xs ys g.0 h g.1 (λ vs c. no_open ys vs a c) (λ vs c. comma_no_open g.0 g.2.0 vs g.2.1 c) in
-    absurd (no_comma g.0 g.2.0 (subst TextEnds p.1 a) g.2.1)
+    absurd (no_comma g.0 g.2.0 (subst UnitEnds p.1 a) g.2.1)
 operators_same (d ∷ c ∷ ds) (e ∷ []) xs ys zs h g a b =
     let p = operator_same d e xs h.0 zs h.1 g (λ vs k. comma_no_open h.0 h.2.0 vs h.2.1 k) (λ vs k. no_open zs vs b k) in
-    absurd (no_comma h.0 h.2.0 (subst TextEnds (sym p.1) b) h.2.1)
+    absurd (no_comma h.0 h.2.0 (subst UnitEnds (sym p.1) b) h.2.1)
 operators_same (d ∷ c ∷ ds) (e ∷ f ∷ es) xs ys zs h g a b =
     let p = operator_same d e xs h.0 g.0 h.1 g.1 (λ vs k. comma_no_open h.0 h.2.0 vs h.2.1 k) (λ vs k. comma_no_open g.0 g.2.0 vs g.2.1 k) in
     let q : h.2.0 ≡ g.2.0 = some_behind (kinds.Symbol symbols.Comma) h.0 g.0 h.2.0 g.2.0 p.1 h.2.1 g.2.1 in
@@ -189,7 +189,7 @@ extends_same [] (m ∷ ms) xs ys zs h g a b = absurd (subst (λ v. IsOfUnits (fo
 extends_same (n ∷ ns) [] xs ys zs h g a b = absurd (subst (λ v. IsOfUnits (form_of v)) (sym g ∙ h.1.1) b)
 extends_same (n ∷ ns) (m ∷ ms) xs ys zs h g a b =
     let q : h.0 ≡ g.0 = some_behind (kinds.Word words.Extends) xs xs h.0 g.0 refl h.1 g.1 in
-    names_same (n ∷ ns) (m ∷ ms) h.0 ys zs h.2 (subst (λ v. NamesText (m ∷ ms) v zs) (sym q) g.2) (form_ends ys a) (form_ends zs b)
+    names_same (n ∷ ns) (m ∷ ms) h.0 ys zs h.2 (subst (λ v. NamesText (m ∷ ms) v zs) (sym q) g.2) a b
 
 -- ---- expressions
 

@@ -63,6 +63,7 @@ unit_form (units.Variables ds) = OfVariables
 unit_form (units.Constants ds) = OfConstants
 unit_form (units.Recursive ds) = OfRecursive
 unit_form (units.Define d) = OfDefinition
+unit_form (units.Instance m) = OfDefinition
 unit_form (units.Assume e) = OfAssumption
 unit_form units.Passed = OfPassed
 
@@ -77,6 +78,10 @@ IsOfUnits OfExtends = ⊥
 IsOfUnits OfOther = ⊥
 IsOfUnits _ = Unit {0}
 
+-- a unit begins there, or equals signs stand there
+abbrev pub UnitEnds : List Laid → Type 0
+UnitEnds xs = IsOfUnits (form_of xs)
+
 -- a token that stands behind an expression and is no part of it
 abbrev pub TextEnds : List Laid → Type 0
 TextEnds [] = ⊥
@@ -89,6 +94,7 @@ kind_ends (kinds.Foreign f) h = tt
 kind_ends kinds.Dashes h = tt
 kind_ends kinds.Equals h = tt
 kind_ends kinds.End h = tt
+kind_ends (kinds.Symbol s) h = absurd h
 kind_ends _ h = h
 
 pub form_ends : (xs : List Laid) → IsOfUnits (form_of xs) → TextEnds xs
@@ -128,6 +134,7 @@ unit_begins (units.Variables ds) xs ys h = variable_begins xs h.0 h.1
 unit_begins (units.Constants ds) xs ys h = constant_begins xs h.0 h.1
 unit_begins (units.Recursive ds) xs ys h = ap form_of h.1.1
 unit_begins (units.Define d) xs ys h = ap form_of h.1
+unit_begins (units.Instance m) xs ys h = absurd h
 unit_begins (units.Assume e) xs ys h = assume_begins xs h.0 h.1
 unit_begins units.Passed xs ys h = passed_begins xs ys h
 
@@ -140,6 +147,7 @@ form_of_unit (units.Variables ds) = tt
 form_of_unit (units.Constants ds) = tt
 form_of_unit (units.Recursive ds) = tt
 form_of_unit (units.Define d) = tt
+form_of_unit (units.Instance m) = tt
 form_of_unit (units.Assume e) = tt
 form_of_unit units.Passed = tt
 

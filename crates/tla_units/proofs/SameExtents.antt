@@ -18,7 +18,7 @@ use Rattle.tla_units.specs.Rests.{Expression, Definition}
 use Rattle.tla_units.specs.declared.marks.Mark.TheVariants as marks
 use Rattle.tla_units.proofs.Extents.{TextKind, Parted, Same, Before, Behind, alone, parted, none_within, ends_first}
 use Rattle.tla_units.proofs.OneModuleParts.{title_tail}
-use Rattle.tla_units.proofs.OneModuleTokens.{TextEnds, unit_form, unit_begins, some_behind, assume_behind, theorem_behind, dashes_no_theorem}
+use Rattle.tla_units.proofs.OneModuleTokens.{TextEnds, UnitEnds, form_ends, unit_form, unit_begins, some_behind, assume_behind, theorem_behind, dashes_no_theorem}
 use Rattle.tla_units.proofs.OneModuleUnits.{variables_same, constants_same, recursive_same}
 use Rattle.tla_units.proofs.OpenStarts.{name_token, defined_token}
 use Rattle.tla_units.proofs.Titles.{NoTitle}
@@ -90,11 +90,13 @@ definition_extent : Defined → (d e : UnitDefinition) (xs ys zs : List Laid) �
 definition_extent k d e xs ys zs h g a b = one_extent Definition BegunDefinition FittingBegunDefinition k xs ys zs (d.name, d.at, d.params, d.form, d.body, h, tt) (e.name, e.at, e.params, e.form, e.body, g, tt) a b
 
 -- two units from one point on end at one point
-pub unit_extent : NoTitle → Expressions → Defined → (u v : ModuleUnit) (xs ys zs : List Laid) → UnitText u xs ys → UnitText v xs zs → TextEnds ys → TextEnds zs → ys ≡ zs
+pub unit_extent : NoTitle → Expressions → Defined → (u v : ModuleUnit) (xs ys zs : List Laid) → UnitText u xs ys → UnitText v xs zs → UnitEnds ys → UnitEnds zs → ys ≡ zs
 unit_extent none k l (units.Variables ds) (units.Variables es) xs ys zs h g a b = (variables_same ds es xs ys zs h g a b).1
 unit_extent none k l (units.Constants ds) (units.Constants es) xs ys zs h g a b = (constants_same ds es xs ys zs h g a b).1
 unit_extent none k l (units.Recursive ds) (units.Recursive es) xs ys zs h g a b = (recursive_same ds es xs ys zs h g a b).1
-unit_extent none k l (units.Define d) (units.Define e) xs ys zs h g a b = definition_extent l d e xs ys zs h g a b
-unit_extent none k l (units.Assume e) (units.Assume f) xs ys zs h g a b = assume_extent none k e f xs ys zs h g a b
-unit_extent none k l units.Passed units.Passed xs ys zs h g a b = passed_extent none k xs ys zs h g a b
+unit_extent none k l (units.Define d) (units.Define e) xs ys zs h g a b = definition_extent l d e xs ys zs h g (form_ends ys a) (form_ends zs b)
+unit_extent none k l (units.Assume e) (units.Assume f) xs ys zs h g a b = assume_extent none k e f xs ys zs h g (form_ends ys a) (form_ends zs b)
+unit_extent none k l units.Passed units.Passed xs ys zs h g a b = passed_extent none k xs ys zs h g (form_ends ys a) (form_ends zs b)
+unit_extent none k l (units.Instance m) v xs ys zs h g a b = absurd h
+unit_extent none k l u (units.Instance m) xs ys zs h g a b = absurd g
 unit_extent none k l u v xs ys zs h g a b = absurd (let q : unit_form u ≡ unit_form v = sym (unit_begins u xs ys h) ∙ unit_begins v xs zs g in cc)

@@ -4,7 +4,7 @@ use Rattle.std.specs.Prelude.{ℕ, ◌+◌, ◌||◌, Bool, true, false, drop, g
 use Rattle.std.specs.Str.{bytes_eq}
 use Rattle.tla_ast.specs.declared.module.DeclaredOperator.{DeclaredOperator}
 use Rattle.tla_ast.specs.declared.module.Unit.{Unit as ModuleUnit}
-use Rattle.tla_ast.specs.declared.module.Unit.TheVariants.{Variables, Constants, Recursive, Define, Assume, Passed}
+use Rattle.tla_ast.specs.declared.module.Unit.TheVariants.{Variables, Constants, Recursive, Define, Instance, Assume, Passed}
 use Rattle.tla_scopes.specs.Mentions.{is_one_of}
 use Rattle.tla_scopes.proofs.LevelLoops.{cut_at, cut_end}
 use Rattle.tla_program.specs.InUnits.{recursive_in}
@@ -44,6 +44,7 @@ unit_first n (Variables ds) us = refl
 unit_first n (Constants ds) us = refl
 unit_first n (Define d) us = refl
 unit_first n (Assume e) us = refl
+unit_first n (Instance m) us = refl
 unit_first n Passed us = refl
 
 pub unit_alone : (n : List ℕ) (rs : List DeclaredOperator) → in_operators n rs ≡ in_units n (Recursive rs ∷ [])

@@ -42,6 +42,7 @@ fn declares(unit: &Unit, name: &Text) -> bool
         Unit::Constants(_) => false,
         Unit::Define(_) => false,
         Unit::Assume(_) => false,
+        Unit::Instance(_) => false,
         Unit::Passed => false,
     }
 }

@@ -2,8 +2,9 @@
 //! kind of frame is proved anew.
 
 ghost use Rattle.open_rows.specs.Does.{Does, frames_in};
-ghost use Rattle.reader_model.specs.Machine.{body_of, call_step, form_of, infix_of_symbol, infix_or, is_case_mark, item_closes, list_closes, name_closes, parameters_of, same_bullet, symbol_follows, word_closes};
+ghost use Rattle.reader_model.specs.Machine.{body_of, call_step, form_of, infix_of_symbol, infix_or, instance_step, is_case_mark, item_closes, list_closes, name_closes, parameters_of, same_bullet, symbol_follows, word_closes};
 ghost use Rattle.std.specs.Prelude.{◌≡◌, ◌∷◌, IfOk, List, Ok};
+ghost use Rattle.tla_ast.specs.Trees as tree;
 ghost use Rattle.token_steps.specs.Kept.{kept_behind, kept_closes, kept_follows, kept_kind_closes, kept_laid_closes};
 
 use crate::named::symbol_at;
@@ -393,6 +394,36 @@ fn behind(alloc: Global, laid: &Laid, stack: &mut Stack, e: Expr) -> Result<Step
     closes(alloc, laid, stack, whole)
 }
 
+/// `!` behind a name, which names an instance of a module, comes before a name of that module.
+fn instance_step(stack: &mut Stack, e: Expr) -> Result<Stepped, NoMemory>
+    ensures { IfOk result (λ r. Does r (frames_in stack.new) (instance_step e (frames_in stack.old))) }
+{
+    let _ = &stack.frames;
+    let (at, node) = e.into_parts();
+    match node {
+        Node::Name(name) => Ok(Stepped::Reads(Mode::InstanceName(at, name))),
+        other => {
+            drop(other);
+            Ok(Stepped::Stops)
+        }
+    }
+}
+
+/// `(` behind a qualified name begins its arguments, where it has none.
+fn qualified_call(
+    stack: &mut Stack,
+    at: Place,
+    name: Text,
+    arguments: Exprs,
+) -> Result<Stepped, NoMemory>
+    ensures { IfOk result (λ r. Does r (frames_in stack.new) (call_step (tree.Qualified at name arguments) (frames_in stack.old))) }
+{
+    if arguments.is_empty() {
+        return want(stack, Frame::QualifiedCall(name, at, arguments));
+    }
+    Ok(Stepped::Stops)
+}
+
 /// `(` behind a name begins its arguments.
 fn call_step(alloc: Global, stack: &mut Stack, e: Expr) -> Result<Stepped, NoMemory>
     ensures { IfOk result (λ r. Does r (frames_in stack.new) (call_step e (frames_in stack.old))) }
@@ -400,6 +431,7 @@ fn call_step(alloc: Global, stack: &mut Stack, e: Expr) -> Result<Stepped, NoMem
     let (at, node) = e.into_parts();
     match node {
         Node::Name(name) => want(stack, Frame::Call(name, at, Exprs::new(alloc))),
+        Node::Qualified(name, arguments) => qualified_call(stack, at, name, arguments),
         other => {
             drop(other);
             Ok(Stepped::Stops)
@@ -442,6 +474,7 @@ fn symbol_follows(
         Symbol::OpenBracket => want(stack, Frame::Index(e, at, Exprs::new(alloc))),
         Symbol::Dot => Ok(Stepped::Reads(Mode::FieldName(e, at))),
         Symbol::OpenParenthesis => call_step(alloc, stack, e),
+        Symbol::Exclamation => instance_step(stack, e),
         other => operator_or(alloc, laid, other, at, stack, e),
     }
 }

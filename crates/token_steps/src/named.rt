@@ -11,7 +11,7 @@ use open_rows::{Stack, Stepped, want};
 use reader_model::{Binder, Binding, Form, Frame, Mode, RecordKind, Scope};
 use row_symbols::{begin_binding, with_step};
 use std::alloc::Global;
-use tla_ast::{Arms, Changes, Expr, Exprs, Fields, Laid, Step, StepAt, Steps};
+use tla_ast::{Arms, Changes, Expr, Exprs, Fields, Laid, Node, Step, StepAt, Steps, qualified};
 use tla_tokens::{Kind, Symbol};
 use trace_base::{Names, NoMemory, Place, Text};
 
@@ -305,6 +305,24 @@ pub fn field_name(
     };
     let whole = with_step(alloc, e, dot, Step::Field(name))?;
     Ok(Stepped::Reads(Mode::Have(whole)))
+}
+
+pub fn instance_name(
+    alloc: Global,
+    laid: &Laid,
+    stack: &mut Stack,
+    at: Place,
+    instance: Text,
+) -> Result<Stepped, NoMemory>
+    ensures { IfOk result (λ r. Does r (frames_in stack.new) (kept_step laid.now (frames_in stack.old) (Mode.InstanceName at instance))) }
+{
+    let _ = &stack.frames;
+    let Some((name, _)) = name_at(laid)? else {
+        return Ok(Stepped::Stops);
+    };
+    let whole = qualified(alloc, &instance, &name)?;
+    let e = Expr::new(alloc, at, Node::Qualified(whole, Exprs::new(alloc)))?;
+    Ok(Stepped::Reads(Mode::Have(e)))
 }
 
 pub fn record_name(

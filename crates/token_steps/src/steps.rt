@@ -67,6 +67,7 @@ pub fn step(alloc: Global, laid: &Laid, stack: &mut Stack, mode: Mode) -> Result
             laid, stack, at, e, changes, path, dot,
         ),
         Mode::FieldName(e, dot) => named::field_name(alloc, laid, stack, e, dot),
+        Mode::InstanceName(at, instance) => named::instance_name(alloc, laid, stack, at, instance),
         Mode::RecordName(kind, at, fields) => named::record_name(laid, stack, kind, at, fields),
         Mode::RecordNamed(kind, at, fields, name) => named::record_named(
             laid, stack, kind, at, fields, name,

@@ -6,7 +6,7 @@ use Rattle.tla_ast.specs.declared.expr.Definition.{Definition}
 use Rattle.tla_ast.specs.declared.module.DeclaredOperator.{DeclaredOperator}
 use Rattle.tla_ast.specs.declared.module.Program.{Program}
 use Rattle.tla_ast.specs.declared.module.Unit.{Unit as ModuleUnit}
-use Rattle.tla_ast.specs.declared.module.Unit.TheVariants.{Variables, Constants, Recursive, Define, Assume, Passed}
+use Rattle.tla_ast.specs.declared.module.Unit.TheVariants.{Variables, Constants, Recursive, Define, Instance, Assume, Passed}
 use Rattle.tla_ast.specs.Trees.{Tree}
 use Rattle.tla_program.specs.InUnits.{assumptions_in, definitions_in}
 use Rattle.wide_trees.specs.Laws.{AskedIsBad, FineStays, NeededStays, NothingIsLost, NothingIsMade, OneAlone, OnePruned, OverIsNotNeeded}
@@ -35,6 +35,7 @@ module _ (Goes : ℕ → ModuleUnit → Type 0) where
   left_in _ _ _ _ (is_left k (Constants ds) units left gone g l) i d e stays = left_in k units left gone l i d e stays
   left_in _ _ _ _ (is_left k (Assume x) units left gone g l) i d e stays = left_in k units left gone l i d e stays
   left_in _ _ _ _ (is_left k (Recursive rs) units left gone g l) i d e stays = left_in k units left gone l i d e stays
+  left_in _ _ _ _ (is_left k (Instance m) units left gone g l) i d e stays = left_in k units left gone l i d e stays
   left_in _ _ _ _ (is_left k Passed units left gone g l) i d e stays = left_in k units left gone l i d e stays
   left_in _ _ _ _ (is_left k (Define x) units left gone g l) zero d e stays =
       let same : x ≡ d = cc in
@@ -46,6 +47,7 @@ module _ (Goes : ℕ → ModuleUnit → Type 0) where
   left_in _ _ _ _ (is_gone k (Constants ds) units left gone b l) i d e stays = left_in k units left gone l i d e stays
   left_in _ _ _ _ (is_gone k (Assume x) units left gone b l) i d e stays = left_in k units left gone l i d e stays
   left_in _ _ _ _ (is_gone k (Recursive rs) units left gone b l) i d e stays = left_in k units left gone l i d e stays
+  left_in _ _ _ _ (is_gone k (Instance m) units left gone b l) i d e stays = left_in k units left gone l i d e stays
   left_in _ _ _ _ (is_gone k Passed units left gone b l) i d e stays = left_in k units left gone l i d e stays
   left_in _ _ _ _ (is_gone k (Define x) units left gone b l) zero d e stays =
       let same : x ≡ d = cc in
@@ -90,12 +92,14 @@ module _ (Goes : ℕ → ModuleUnit → Type 0) where
   gone_at _ _ _ _ (is_left k (Constants ds) units left gone g l) d h = goes_after k (Constants ds) units d refl (gone_at k units left gone l d h)
   gone_at _ _ _ _ (is_left k (Assume x) units left gone g l) d h = goes_after k (Assume x) units d refl (gone_at k units left gone l d h)
   gone_at _ _ _ _ (is_left k (Recursive rs) units left gone g l) d h = goes_after k (Recursive rs) units d refl (gone_at k units left gone l d h)
+  gone_at _ _ _ _ (is_left k (Instance m) units left gone g l) d h = goes_after k (Instance m) units d refl (gone_at k units left gone l d h)
   gone_at _ _ _ _ (is_left k Passed units left gone g l) d h = goes_after k Passed units d refl (gone_at k units left gone l d h)
   gone_at _ _ _ _ (is_left k (Define x) units left gone g l) d h = goes_behind k x units d (gone_at (k + 1) units left gone l d h)
   gone_at _ _ _ _ (is_gone k (Variables ds) units left gone b l) d h = goes_after k (Variables ds) units d refl (gone_at k units left gone l d h)
   gone_at _ _ _ _ (is_gone k (Constants ds) units left gone b l) d h = goes_after k (Constants ds) units d refl (gone_at k units left gone l d h)
   gone_at _ _ _ _ (is_gone k (Assume x) units left gone b l) d h = goes_after k (Assume x) units d refl (gone_at k units left gone l d h)
   gone_at _ _ _ _ (is_gone k (Recursive rs) units left gone b l) d h = goes_after k (Recursive rs) units d refl (gone_at k units left gone l d h)
+  gone_at _ _ _ _ (is_gone k (Instance m) units left gone b l) d h = goes_after k (Instance m) units d refl (gone_at k units left gone l d h)
   gone_at _ _ _ _ (is_gone k Passed units left gone b l) d h = goes_after k Passed units d refl (gone_at k units left gone l d h)
   gone_at _ _ _ _ (is_gone k (Define x) units left gone b l) d h = elim (head_or_tail x d (definitions_in gone) h) [
     | inl e ↦ subst (λ y. GoesAt k (Define x ∷ units) y) e (goes_here k x units b)
@@ -133,6 +137,7 @@ assumed_in (Assume x ∷ units) e h = elim (head_or_tail (Assume x) (Assume e) u
   | inr t ↦ in_tail x e (assumptions_in units) (assumed_in units e t)
 ]
 assumed_in (Recursive rs ∷ units) e h = elim (head_or_tail (Recursive rs) (Assume e) units h) [ inl q ↦ absurd (cc) | inr t ↦ assumed_in units e t ]
+assumed_in (Instance m ∷ units) e h = elim (head_or_tail (Instance m) (Assume e) units h) [ inl q ↦ absurd (cc) | inr t ↦ assumed_in units e t ]
 assumed_in (Passed ∷ units) e h = elim (head_or_tail Passed (Assume e) units h) [ inl q ↦ absurd (cc) | inr t ↦ assumed_in units e t ]
 
 module _ (p : Program) (c : Config) (unread : List (List ℕ)) (none : NothingIsLost p c unread) where
@@ -154,6 +159,7 @@ module _ (p : Program) (c : Config) (unread : List (List ℕ)) (none : NothingIs
   none_goes i (Define d) h b = none_bad i b
   none_goes i (Assume e) h b = none_assumed e (assumed_in p.units e h) b
   none_goes i (Recursive rs) h b = none_declared rs h b
+  none_goes i (Instance m) h b = b
   none_goes i Passed h b = b
 
 -- programs that have the same parts

@@ -14,7 +14,7 @@ use Rattle.tla_ast.specs.declared.config.Config.{Config}
 use Rattle.tla_ast.specs.declared.module.DeclaredOperator.{DeclaredOperator}
 use Rattle.tla_ast.specs.declared.module.Program.{Program}
 use Rattle.tla_ast.specs.declared.module.Unit.{Unit as ModuleUnit}
-use Rattle.tla_ast.specs.declared.module.Unit.TheVariants.{Variables, Constants, Recursive, Define, Assume, Passed}
+use Rattle.tla_ast.specs.declared.module.Unit.TheVariants.{Variables, Constants, Recursive, Define, Instance, Assume, Passed}
 use Rattle.tla_ast.specs.Trees.{Tree}
 use Rattle.tla_scopes.specs.declared.meant.Entry.{Entry}
 use Rattle.tla_scopes.specs.Mentions.{is_one_of, mentions}
@@ -212,6 +212,7 @@ behind_next i (Constants ds) = omega arith
 behind_next i (Define d) = omega arith
 behind_next i (Assume e) = omega arith
 behind_next i (Recursive rs) = omega arith
+behind_next i (Instance m) = omega arith
 behind_next i Passed = omega arith
 
 pub one_flag : (Goes : ℕ → ModuleUnit → Type 0) (items : List ModuleUnit) (k i j : ℕ) (u : ModuleUnit) (old new : List Bool) (b : Bool) → k < length items → u ≡ get_or items k u

@@ -7,7 +7,7 @@ use Rattle.tla_ast.specs.declared.expr.Definition.{Definition}
 use Rattle.tla_ast.specs.declared.module.DeclaredOperator.{DeclaredOperator}
 use Rattle.tla_ast.specs.declared.module.Program.{Program}
 use Rattle.tla_ast.specs.declared.module.Unit.{Unit as ModuleUnit}
-use Rattle.tla_ast.specs.declared.module.Unit.TheVariants.{Variables, Constants, Recursive, Define, Assume, Passed}
+use Rattle.tla_ast.specs.declared.module.Unit.TheVariants.{Variables, Constants, Recursive, Define, Instance, Assume, Passed}
 use Rattle.tla_ast.specs.Trees.{Tree}
 use Rattle.tla_scopes.specs.declared.meant.Entry.{Entry}
 use Rattle.tla_scopes.specs.declared.meant.Meant.{Meant}
@@ -194,6 +194,7 @@ module _ (p : Program) (c : Config) (values : List Val) (names : List Entry) (ar
     goes i (Define d) h = (exact i).0 h
     goes i (Assume e) h = leans_on e h
     goes i (Recursive rs) h = declares_one rs h
+    goes i (Instance m) h = h
     goes i Passed h = h
 
     is_to_go : (i : ℕ) (u : ModuleUnit) → GoesWith p c unread Goes i u → IsOver names unread flags i u
@@ -202,6 +203,7 @@ module _ (p : Program) (c : Config) (values : List Val) (names : List Entry) (ar
     is_to_go i (Define d) h = (exact i).1 h
     is_to_go i (Assume e) h = has_bad_name e h
     is_to_go i (Recursive rs) h = declares_bad rs h
+    is_to_go i (Instance m) h = h
     is_to_go i Passed h = h
 
     pub goes_with : (i : ℕ) (u : ModuleUnit) → IsOver names unread flags i u ↔ GoesWith p c unread Goes i u

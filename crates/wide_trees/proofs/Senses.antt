@@ -14,7 +14,7 @@ use Rattle.tla_ast.specs.declared.expr.Definition.{Definition}
 use Rattle.tla_ast.specs.declared.module.Declared.{Declared}
 use Rattle.tla_ast.specs.declared.module.Program.{Program}
 use Rattle.tla_ast.specs.declared.module.Unit.{Unit as ModuleUnit}
-use Rattle.tla_ast.specs.declared.module.Unit.TheVariants.{Variables, Constants, Recursive, Define, Assume, Passed}
+use Rattle.tla_ast.specs.declared.module.Unit.TheVariants.{Variables, Constants, Recursive, Define, Instance, Assume, Passed}
 use Rattle.tla_scopes.specs.declared.meant.Meant.{Meant}
 use Rattle.tla_scopes.specs.declared.meant.Meant.TheVariants as meant
 use Rattle.tla_scopes.specs.declared.meant.Named.{Named}
@@ -91,6 +91,7 @@ module _ (Goes : ℕ → ModuleUnit → Type 0) (n : List ℕ) where
   own_left _ _ _ _ (is_left k (Constants ds) units left gone g l) h = own_left k units left gone l h
   own_left _ _ _ _ (is_left k (Assume e) units left gone g l) h = own_left k units left gone l h
   own_left _ _ _ _ (is_left k (Recursive rs) units left gone g l) h = own_left k units left gone l h
+  own_left _ _ _ _ (is_left k (Instance m) units left gone g l) h = own_left k units left gone l h
   own_left _ _ _ _ (is_left k Passed units left gone g l) h = own_left k units left gone l h
   own_left _ _ _ _ (is_left k (Define x) units left gone g l) h =
       own_if_left k x (definitions_in units) (definitions_in left) (bytes_eq x.name n) refl h (own_left (k + 1) units left gone l)
@@ -98,6 +99,7 @@ module _ (Goes : ℕ → ModuleUnit → Type 0) (n : List ℕ) where
   own_left _ _ _ _ (is_gone k (Constants ds) units left gone b l) h = own_left k units left gone l h
   own_left _ _ _ _ (is_gone k (Assume e) units left gone b l) h = own_left k units left gone l h
   own_left _ _ _ _ (is_gone k (Recursive rs) units left gone b l) h = own_left k units left gone l h
+  own_left _ _ _ _ (is_gone k (Instance m) units left gone b l) h = own_left k units left gone l h
   own_left _ _ _ _ (is_gone k Passed units left gone b l) h = own_left k units left gone l h
   own_left _ _ _ _ (is_gone k (Define x) units left gone b l) h =
       own_if_gone k x (definitions_in units) (definitions_in left) (bytes_eq x.name n) refl h b (own_left (k + 1) units left gone l)
@@ -113,12 +115,14 @@ module _ (Goes : ℕ → ModuleUnit → Type 0) where
     variables_left _ _ _ _ (is_left k (Define d) units left gone g l) = variables_left (k + 1) units left gone l
     variables_left _ _ _ _ (is_left k (Assume e) units left gone g l) = variables_left k units left gone l
     variables_left _ _ _ _ (is_left k (Recursive rs) units left gone g l) = variables_left k units left gone l
+    variables_left _ _ _ _ (is_left k (Instance m) units left gone g l) = variables_left k units left gone l
     variables_left _ _ _ _ (is_left k Passed units left gone g l) = variables_left k units left gone l
     variables_left _ _ _ _ (is_gone k (Variables ds) units left gone b l) = absurd (variables k ds b)
     variables_left _ _ _ _ (is_gone k (Constants ds) units left gone b l) = variables_left k units left gone l
     variables_left _ _ _ _ (is_gone k (Define d) units left gone b l) = variables_left (k + 1) units left gone l
     variables_left _ _ _ _ (is_gone k (Assume e) units left gone b l) = variables_left k units left gone l
     variables_left _ _ _ _ (is_gone k (Recursive rs) units left gone b l) = variables_left k units left gone l
+    variables_left _ _ _ _ (is_gone k (Instance m) units left gone b l) = variables_left k units left gone l
     variables_left _ _ _ _ (is_gone k Passed units left gone b l) = variables_left k units left gone l
 
     constants_left : (k : ℕ) (units left gone : List ModuleUnit) → Parted Goes k units left gone → constants_in left ≡ constants_in units
@@ -128,12 +132,14 @@ module _ (Goes : ℕ → ModuleUnit → Type 0) where
     constants_left _ _ _ _ (is_left k (Define d) units left gone g l) = constants_left (k + 1) units left gone l
     constants_left _ _ _ _ (is_left k (Assume e) units left gone g l) = constants_left k units left gone l
     constants_left _ _ _ _ (is_left k (Recursive rs) units left gone g l) = constants_left k units left gone l
+    constants_left _ _ _ _ (is_left k (Instance m) units left gone g l) = constants_left k units left gone l
     constants_left _ _ _ _ (is_left k Passed units left gone g l) = constants_left k units left gone l
     constants_left _ _ _ _ (is_gone k (Variables ds) units left gone b l) = constants_left k units left gone l
     constants_left _ _ _ _ (is_gone k (Constants ds) units left gone b l) = absurd (constants k ds b)
     constants_left _ _ _ _ (is_gone k (Define d) units left gone b l) = constants_left (k + 1) units left gone l
     constants_left _ _ _ _ (is_gone k (Assume e) units left gone b l) = constants_left k units left gone l
     constants_left _ _ _ _ (is_gone k (Recursive rs) units left gone b l) = constants_left k units left gone l
+    constants_left _ _ _ _ (is_gone k (Instance m) units left gone b l) = constants_left k units left gone l
     constants_left _ _ _ _ (is_gone k Passed units left gone b l) = constants_left k units left gone l
 
 -- ---- what stands in place of a name

@@ -5,7 +5,7 @@ use Rattle.trace_base.specs.declared.place.Place.{Place}
 use Rattle.tla_ast.specs.declared.expr.Node.{Node}
 use Rattle.tla_ast.specs.declared.expr.Node.TheVariants as node
 use Rattle.tla_ast.specs.declared.module.Unit.{Unit as ModuleUnit}
-use Rattle.tla_ast.specs.declared.module.Unit.TheVariants.{Variables, Constants, Recursive, Define, Assume, Passed}
+use Rattle.tla_ast.specs.declared.module.Unit.TheVariants.{Variables, Constants, Recursive, Define, Instance, Assume, Passed}
 use Rattle.tla_ast.specs.Trees.{place_of}
 use Rattle.tla_ast.specs.TreeViews.{node_view}
 use Rattle.wide_trees.specs.declared.telling.PassedOver.{PassedOver}
@@ -19,6 +19,7 @@ place_is at (node.Truth b) = refl
 place_is at (node.Builtin b) = refl
 place_is at (node.Name n) = refl
 place_is at (node.Call n es) = refl
+place_is at (node.Qualified n es) = refl
 place_is at node.At = refl
 place_is at (node.Parenthesized e) = refl
 place_is at (node.Junction b es) = refl
@@ -51,4 +52,5 @@ told_behind (Constants ds ∷ us) vs = told_behind us vs
 told_behind (Define d ∷ us) vs = ap (λ (ts : List PassedOver). Definition d.name d.at ∷ ts) (told_behind us vs)
 told_behind (Assume e ∷ us) vs = ap (λ (ts : List PassedOver). Assumption (place_of e) ∷ ts) (told_behind us vs)
 told_behind (Recursive rs ∷ us) vs = told_behind us vs
+told_behind (Instance m ∷ us) vs = told_behind us vs
 told_behind (Passed ∷ us) vs = told_behind us vs

@@ -5,7 +5,7 @@ use Rattle.tla_ast.specs.declared.expr.Definition.{Definition}
 use Rattle.tla_ast.specs.declared.module.DeclaredOperator.{DeclaredOperator}
 use Rattle.tla_ast.specs.declared.module.Program.{Program}
 use Rattle.tla_ast.specs.declared.module.Unit.{Unit as ModuleUnit}
-use Rattle.tla_ast.specs.declared.module.Unit.TheVariants.{Variables, Constants, Recursive, Define, Assume, Passed}
+use Rattle.tla_ast.specs.declared.module.Unit.TheVariants.{Variables, Constants, Recursive, Define, Instance, Assume, Passed}
 use Rattle.tla_ast.specs.Trees.{Tree}
 use Rattle.tla_scopes.specs.declared.meant.Entry.{Entry}
 use Rattle.tla_scopes.specs.Mentions.{is_one_of, mentions}
@@ -74,6 +74,7 @@ IsOver names unread bad i (Constants ds) = ⊥
 IsOver names unread bad i (Define d) = is_set_at bad (Some i) ≡ true
 IsOver names unread bad i (Assume e) = HasBadName names unread bad e
 IsOver names unread bad i (Recursive rs) = DeclaresBad names unread bad rs
+IsOver names unread bad i (Instance m) = ⊥
 IsOver names unread bad i Passed = ⊥
 
 -- for each of these units, before which there are so many definitions, whether it goes

@@ -14,7 +14,7 @@ use Rattle.tla_ast.specs.declared.expr.Definition.{Definition}
 use Rattle.tla_ast.specs.declared.module.DeclaredOperator.{DeclaredOperator}
 use Rattle.tla_ast.specs.declared.module.Program.{Program}
 use Rattle.tla_ast.specs.declared.module.Unit.{Unit as ModuleUnit}
-use Rattle.tla_ast.specs.declared.module.Unit.TheVariants.{Variables, Constants, Recursive, Define, Assume, Passed}
+use Rattle.tla_ast.specs.declared.module.Unit.TheVariants.{Variables, Constants, Recursive, Define, Instance, Assume, Passed}
 use Rattle.tla_ast.specs.Trees.{Tree}
 use Rattle.tla_scopes.specs.Mentions.{is_one_of, mentions}
 use Rattle.tla_program.specs.InUnits.{definitions_in}
@@ -69,6 +69,7 @@ GoesWith p c unread Goes i (Constants ds) = ⊥
 GoesWith p c unread Goes i (Define d) = Goes i
 GoesWith p c unread Goes i (Assume e) = LeansOn p c unread Goes e
 GoesWith p c unread Goes i (Recursive rs) = DeclaresGone p c unread Goes rs
+GoesWith p c unread Goes i (Instance m) = ⊥
 GoesWith p c unread Goes i Passed = ⊥
 
 -- the index of a definition behind the unit
@@ -78,6 +79,7 @@ behind i (Constants ds) = i
 behind i (Define d) = i + 1
 behind i (Assume e) = i
 behind i (Recursive rs) = i
+behind i (Instance m) = i
 behind i Passed = i
 
 -- of these units, before which there are so many definitions, those that are left and those that go, in their order

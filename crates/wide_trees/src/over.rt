@@ -118,6 +118,7 @@ fn is_over(
         Unit::Define(_) => Ok(is_set_at(bad, Some(index))),
         Unit::Assume(tree) => is_bad_assumption(alloc, names, unread, bad, tree),
         Unit::Recursive(operators) => { Ok(declares_bad(names, unread, bad, operators.items())) }
+        Unit::Instance(_) => Ok(false),
         Unit::Passed => Ok(false),
     }
 }
@@ -133,6 +134,7 @@ fn behind(index: usize, unit: &Unit) -> usize
         Unit::Constants(_) => index,
         Unit::Assume(_) => index,
         Unit::Recursive(_) => index,
+        Unit::Instance(_) => index,
         Unit::Passed => index,
     }
 }

@@ -51,6 +51,7 @@ fn add_told(found: &mut Vec<PassedOver>, unit: &Unit) -> Result<(), NoMemory>
         Unit::Variables(_) => Ok(()),
         Unit::Constants(_) => Ok(()),
         Unit::Recursive(_) => Ok(()),
+        Unit::Instance(_) => Ok(()),
         Unit::Passed => Ok(()),
     }
 }

@@ -282,6 +282,14 @@ pub resolve_row-returns-in-Name-clause-fine : goal.resolve_row-returns-in-Name-c
 resolve_row-returns-in-Name-clause-fine t c =
     rows.name_answers c.args.walk.now c.in-Name.name c.tree.inside.at c.args.tree.now c.use_of.result (ap (node_view c.tree.inside.at) (sym c.in-Name.is ∙ c.deref.ensures) ∙ c.tree.view_is) c.use_of.ensures.fine
 
+pub resolve_row-returns-in-Qualified-clause-fine : goal.resolve_row-returns-in-Qualified-clause-fine
+resolve_row-returns-in-Qualified-clause-fine t c =
+    rows.qualified_answers c.args.walk.now c.resolve_call-in-Qualified.new.walk c.tree.inside.at c.in-Qualified.name c.in-Qualified.arguments c.args.tree.now c.resolve_call-in-Qualified.result (ap (node_view c.tree.inside.at) (sym c.in-Qualified.is ∙ c.deref.ensures) ∙ c.tree.view_is) c.resolve_call-in-Qualified.ensures.fine
+
+pub resolve_row-returns-in-Qualified-clause-refused : goal.resolve_row-returns-in-Qualified-clause-refused
+resolve_row-returns-in-Qualified-clause-refused t c =
+    rows.qualified_refused c.args.walk.now c.tree.inside.at c.in-Qualified.name c.in-Qualified.arguments c.args.tree.now c.resolve_call-in-Qualified.result (ap (node_view c.tree.inside.at) (sym c.in-Qualified.is ∙ c.deref.ensures) ∙ c.tree.view_is) c.resolve_call-in-Qualified.ensures.refused
+
 pub resolve_row-returns-in_ok-from_text-in-At-clause-fine : goal.resolve_row-returns-in_ok-from_text-in-At-clause-fine
 resolve_row-returns-in_ok-from_text-in-At-clause-fine t c =
     rows.at_answers c.args.walk.now c.in_ok-from_text-in-At.field-0 c.tree.inside.at c.args.tree.now c.use_of-in-At-2.result (ap (node_view c.tree.inside.at) (sym c.in-At.is ∙ c.deref.ensures) ∙ c.tree.view_is) c.in_ok-from_text-in-At.ensures c.use_of-in-At-2.ensures.fine
