@@ -36,12 +36,12 @@ use Rattle.alike_tables.proofs.Levelled.{meaning_level, term_level}
 use Rattle.alike_tables.proofs.Placed.{meaning_alike, slots_alike, one_bound, one_defined, all_bound, bounds_bound}
 
 -- the definitions that a row itself uses or lists are such
-abbrev Own : (ℕ → Type 0) → Meaning → Type 0
+abbrev pub Own : (ℕ → Type 0) → Meaning → Type 0
 Own Q (term.Use k ts) = Q k
 Own Q (term.Scoped ks e) = All Q ks
 Own Q m = Unit {0}
 
-abbrev Rows : (ℕ → Type 0) → ℕ → Place → Level → Meaning → Type 0
+abbrev pub Rows : (ℕ → Type 0) → ℕ → Place → Level → Meaning → Type 0
 Rows Q i at l m = Own Q m
 
 all_own : (Q : ℕ → Type 0) (ks : List ℕ) → ((k : ℕ) → Contains ks k → Q k) → All Q ks
@@ -80,7 +80,7 @@ own_rows Q i at l (term.Use k ts) h = h k (used at l k ts)
 own_rows Q i at l (term.Scoped ks e) h = all_own Q ks (λ k c. h k (listed_in_let at l ks e k c))
 
 -- each definition that a term mentions is used or listed by some row
-all_rows : (Q : ℕ → Type 0) (i : ℕ) (e : Term) → AreMentioned Q e → Everywhere (Rows Q) i e
+pub all_rows : (Q : ℕ → Type 0) (i : ℕ) (e : Term) → AreMentioned Q e → Everywhere (Rows Q) i e
 all_rows Q i e h =
     throughout (AreMentioned Q) (Rows Q) (λ at l m g p c k w. g k (mentioned_in_part at l m p k c w)) (own_rows Q) i e h
 

@@ -12,7 +12,7 @@ use Rattle.tla_scopes.specs.declared.meant.Named.{Named}
 use Rattle.tla_scopes.specs.Scopes.{among, named}
 use Rattle.tla_scopes.specs.Standing.{IsIn}
 use Rattle.tla_program.specs.InUnits.{definitions_in}
-use Rattle.tla_program.specs.Names.{Numbers, first_of, variable_means, variable_index, constant_means, constant_index, definition_means, definition_index, standard_means, declared_meaning, definition_meant as meant_definition, replacement, meant_or, value_at, numbered, numbered_meant, program_meaning}
+use Rattle.tla_program.specs.Names.{Numbers, first_of, variable_means, variable_named, constant_means, constant_index, definition_means, definition_index, standard_means, declared_meaning, definition_meant as meant_definition, replacement, meant_or, value_at, numbered, numbered_meant, program_meaning}
 use Rattle.tla_program.specs.Standard.{brought}
 use Rattle.tla_program.proofs.NameLemmas.{by_index_is}
 use Rattle.tla_uses.proofs.Meanings.{meant_within}
@@ -51,7 +51,7 @@ module _ (Same : Val → Val → Type 0) where
     both_declared : (n : List ℕ) → BothDeclared (declared_meaning p c values n) (declared_meaning p c others n)
     both_declared n =
         let x : Option Named = first_of (definition_means p c n (definition_index p n)) (standard_means p c n (among (brought p.standard) n)) in
-        behind (variable_means (variable_index p n)) (first_of (constant_means p c values n (constant_index p n)) x) (first_of (constant_means p c others n (constant_index p n)) x)
+        behind (variable_means (variable_named p n)) (first_of (constant_means p c values n (constant_index p n)) x) (first_of (constant_means p c others n (constant_index p n)) x)
         (before (constant_means p c values n (constant_index p n)) (constant_means p c others n (constant_index p n)) x (constant_both n (constant_index p n) refl))
 
     within : (n : List ℕ) (w : Named) → declared_meaning p c values n ≡ Some w → IsIn (length (definitions_in p.units)) w.meant

@@ -8,7 +8,7 @@ use Rattle.alike_terms.specs.Alike.{AlikeBy, AlikeMeaningsBy, AlikeTermsBy, Alik
 
 module _ (Same Other : Val → Val → Type 0) (Stands Turned R S : ℕ → ℕ → Type 0) (turn : (v w : Val) → Same v w → Other w v) (turn_variable : (x y : ℕ) → Stands x y → Turned y x) (turn_number : (k j : ℕ) → R k j → S j k) where
   mutual
-    by_term : (e f : Term) → AlikeBy Same Stands R e f → AlikeBy Other Turned S f e
+    pub by_term : (e f : Term) → AlikeBy Same Stands R e f → AlikeBy Other Turned S f e
     by_term _ _ (placed_alike at l m n h1) = placed_alike at l n m (by_meaning m n h1)
 
     by_meaning : (m n : Meaning) → AlikeMeaningsBy Same Stands R m n → AlikeMeaningsBy Other Turned S n m

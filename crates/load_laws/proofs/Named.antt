@@ -7,6 +7,8 @@ use Rattle.tla_ast.specs.declared.laid.Laid.{Laid}
 use Rattle.tla_ast.specs.declared.laid.Laid.TheVariants.{Plain, ListOpen, ListItem, ListClose}
 use Rattle.tla_ast.specs.declared.module.Declared.{Declared}
 use Rattle.tla_ast.specs.declared.module.DeclaredOperator.{DeclaredOperator}
+use Rattle.tla_ast.specs.declared.module.With.{With}
+use Rattle.tla_ast.specs.declared.module.Made.{Made}
 use Rattle.tla_ast.specs.declared.module.Module.{Module}
 use Rattle.tla_ast.specs.declared.module.Unit.{Unit as ModuleUnit}
 use Rattle.tla_ast.specs.declared.module.Unit.TheVariants.{Variables, Constants, Recursive, Define, Instance, Assume, Passed}
@@ -17,7 +19,7 @@ use Rattle.tla_tokens.specs.declared.token.Symbol.TheVariants as symbols
 use Rattle.tla_tokens.specs.declared.token.Word.TheVariants as words
 use Rattle.tla_ast.specs.Grammar.{Span, ◌⨟◌, either, token, some_token, word, NamesText, Text}
 use Rattle.tla_ast.specs.Laid.{tokens_of}
-use Rattle.tla_ast.specs.Modules.{DeclaredNamesText, PlacesText, MaybePlaces, DeclaredOperatorText, DeclaredOperatorsText, underscore, MaybeTitle, ExtendsText, SomeExpression, UnitText, UnitsText, SpellsModule, variable_word, constant_word, assume_word, theorem_word}
+use Rattle.tla_ast.specs.Modules.{DeclaredNamesText, PlacesText, MaybePlaces, DeclaredOperatorText, DeclaredOperatorsText, underscore, MaybeTitle, ExtendsText, WithText, MoreWithsText, WithsText, InstanceText, SomeExpression, UnitText, UnitsText, SpellsModule, variable_word, constant_word, assume_word, theorem_word}
 use Rattle.tla_ast.specs.Trees.{Tree}
 use Rattle.reader_model.specs.LawsOfExtents.{LocalText, LocalDefinition}
 use Rattle.tla_program.specs.InUnits.{definitions_in}
@@ -25,14 +27,14 @@ use Rattle.tla_program.specs.Names.{names_defined}
 use Rattle.tla_config.proofs.TokensHeld.{Holds, AllHold}
 
 -- what each token among laid ones holds
-abbrev LaidHold : List Laid → Type 0
+abbrev pub LaidHold : List Laid → Type 0
 LaidHold [] = Unit {0}
 LaidHold (Plain t ∷ xs) = Holds t.kind × LaidHold xs
 LaidHold (ListOpen b at ∷ xs) = LaidHold xs
 LaidHold (ListItem b at ∷ xs) = LaidHold xs
 LaidHold (ListClose at ∷ xs) = LaidHold xs
 
-laid_hold : (xs : List Laid) → AllHold (tokens_of xs) → LaidHold xs
+pub laid_hold : (xs : List Laid) → AllHold (tokens_of xs) → LaidHold xs
 laid_hold [] h = tt
 laid_hold (Plain t ∷ xs) h = (h.0, laid_hold xs h.1)
 laid_hold (ListOpen b at ∷ xs) h = laid_hold xs h
@@ -58,10 +60,10 @@ keeps_either : (R S : Span) → Keeps R → Keeps S → Keeps (either R S)
 keeps_either R S f g xs ys (inl h) k = f xs ys h k
 keeps_either R S f g xs ys (inr h) k = g xs ys h k
 
-keeps_token : (at : Place) (kind : Kind) → Keeps (token at kind)
+pub keeps_token : (at : Place) (kind : Kind) → Keeps (token at kind)
 keeps_token at kind xs ys e k = let h : LaidHold (Plain (record { kind = kind; place = at }) ∷ ys) = subst LaidHold e k in h.1
 
-keeps_some : (kind : Kind) → Keeps (some_token kind)
+pub keeps_some : (kind : Kind) → Keeps (some_token kind)
 keeps_some kind xs ys h k = keeps_token h.0 kind xs ys h.1 k
 
 keeps_names : (ns : List (List ℕ)) → Keeps (NamesText ns)
@@ -69,7 +71,7 @@ keeps_names [] xs ys h k = absurd h
 keeps_names (n ∷ []) xs ys h k = keeps_some (kinds.Name n) xs ys h k
 keeps_names (n ∷ m ∷ ns) xs ys h k = keeps_names (m ∷ ns) h.2.0 ys h.2.2 (keeps_some (kinds.Symbol symbols.Comma) h.0 h.2.0 h.2.1 (keeps_some (kinds.Name n) xs h.0 h.1 k))
 
-keeps_extends : (ns : List (List ℕ)) → Keeps (ExtendsText ns)
+pub keeps_extends : (ns : List (List ℕ)) → Keeps (ExtendsText ns)
 keeps_extends [] xs ys e k = subst LaidHold e k
 keeps_extends (n ∷ ns) xs ys h k = keeps_names (n ∷ ns) h.0 ys h.2 (keeps_some (kinds.Word words.Extends) xs h.0 h.1 k)
 
@@ -124,13 +126,36 @@ keeps_text local e xs ys h k = let p = local e xs ys h in behind p.0 ys (subst L
 keeps_expression : LocalText → Keeps SomeExpression
 keeps_expression local xs ys h k = keeps_text local h.0 xs ys h.1.text k
 
-keeps_unit : LocalText → LocalDefinition → (u : ModuleUnit) → Keeps (UnitText u)
+keeps_with : LocalText → (before : List (List ℕ)) (w : With) → Keeps (WithText before w)
+keeps_with local before w xs ys h k =
+    let s = h.1 in
+    keeps_text local w.by s.2.0 ys s.2.2 (keeps_some (kinds.Symbol symbols.LeftArrow) s.0 s.2.0 s.2.1 (keeps_token w.at (kinds.Name w.name) xs s.0 s.1 k))
+
+keeps_more : LocalText → (ws : List With) (before : List (List ℕ)) → Keeps (MoreWithsText before ws)
+keeps_more local [] before xs ys e k = subst LaidHold e k
+keeps_more local (w ∷ ws) before xs ys h k =
+    keeps_more local ws (before ++ w.name ∷ []) h.2.0 ys h.2.2 (keeps_with local before w h.0 h.2.0 h.2.1 (keeps_some (kinds.Symbol symbols.Comma) xs h.0 h.1 k))
+
+keeps_withs : LocalText → (ws : List With) → Keeps (WithsText ws)
+keeps_withs local [] xs ys e k = subst LaidHold e k
+keeps_withs local (w ∷ ws) xs ys h k =
+    keeps_more local ws (w.name ∷ []) h.2.0 ys h.2.2 (keeps_with local [] w h.0 h.2.0 h.2.1 (keeps_some (kinds.Foreign foreign.With) xs h.0 h.1 k))
+
+keeps_instance : LocalText → (m : Made) → Keeps (InstanceText m)
+keeps_instance local m xs ys h k =
+    let s = h.2 in
+    let t = s.2 in
+    let named = t.2 in
+    let behind : LaidHold t.0 = keeps_some (kinds.Foreign foreign.Instance) s.0 t.0 t.1 (keeps_some (kinds.Symbol symbols.Defined) h.0 s.0 s.1 (keeps_token m.at (kinds.Name m.name) xs h.0 h.1 k)) in
+    keeps_withs local m.withs named.0 ys named.2 (keeps_some (kinds.Name m.module_name) t.0 named.0 named.1 behind)
+
+pub keeps_unit : LocalText → LocalDefinition → (u : ModuleUnit) → Keeps (UnitText u)
 keeps_unit local definition (Variables ds) xs ys h k = keeps_declared ds h.0 ys h.2 (keeps_variable xs h.0 h.1 k)
 keeps_unit local definition (Constants ds) xs ys h k = keeps_declared ds h.0 ys h.2 (keeps_constant xs h.0 h.1 k)
 keeps_unit local definition (Recursive ds) xs ys h k = keeps_operators ds h.0 ys h.2 (keeps_some (kinds.Foreign foreign.Recursive) xs h.0 h.1 k)
 keeps_unit local definition (Define d) xs ys h k = let p = definition d.name d.at d.params d.form d.body xs ys h in behind p.0 ys (subst LaidHold p.1 k)
 keeps_unit local definition (Assume e) xs ys h k = keeps_text local e h.2.0 ys h.2.2 (keeps_title h.0 h.2.0 h.2.1 (keeps_assume xs h.0 h.1 k))
-keeps_unit local definition (Instance m) xs ys h k = absurd h
+keeps_unit local definition (Instance m) xs ys h k = keeps_instance local m xs ys h k
 keeps_unit local definition Passed xs ys (inl h) k = keeps_some kinds.Dashes xs ys h k
 keeps_unit local definition Passed xs ys (inr h) k = keeps_expression local h.2.0 ys h.2.2 (keeps_title h.0 h.2.0 h.2.1 (keeps_theorem xs h.0 h.1 k))
 

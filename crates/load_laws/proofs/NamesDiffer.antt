@@ -16,12 +16,12 @@ use Rattle.tla_program.specs.Names.{names_declared, names_defined}
 
 -- ---- lists of names
 
-abbrev NoneIs : List ℕ → List (List ℕ) → Type 0
+abbrev pub NoneIs : List ℕ → List (List ℕ) → Type 0
 NoneIs n [] = Unit {0}
 NoneIs n (m ∷ ms) = (n ≢ m) × NoneIs n ms
 
 -- each differs from those behind it
-abbrev Differ : List (List ℕ) → Type 0
+abbrev pub Differ : List (List ℕ) → Type 0
 Differ [] = Unit {0}
 Differ (n ∷ ns) = NoneIs n ns × Differ ns
 
@@ -39,7 +39,7 @@ pub data IsPart : List (List ℕ) → List (List ℕ) → Type 0 where
   also : (n : List ℕ) (ns ms : List (List ℕ)) → IsPart ns ms → IsPart (n ∷ ns) (n ∷ ms)
   but : (n : List ℕ) (ns ms : List (List ℕ)) → IsPart ns ms → IsPart ns (n ∷ ms)
 
-part_others : (k : List ℕ) (ns ms : List (List ℕ)) → IsPart ns ms → NoneIs k ms → NoneIs k ns
+pub part_others : (k : List ℕ) (ns ms : List (List ℕ)) → IsPart ns ms → NoneIs k ms → NoneIs k ns
 part_others k _ _ nothing_left h = tt
 part_others k _ _ (also n ns ms p) h = (h.0, part_others k ns ms p h.1)
 part_others k _ _ (but n ns ms p) h = part_others k ns ms p h.1
@@ -105,7 +105,7 @@ later_differ standard xs d ys (e ∷ ds) h = (
   later_differ standard xs d (ys ++ e ∷ []) ds (subst (λ (before : List Declared). AreNew standard before ds) (append_assoc xs (d ∷ ys) (e ∷ [])) h.1),
 )
 
-new_differ : (standard : List (List ℕ)) (before ds : List Declared) → AreNew standard before ds → Differ (names_declared ds)
+pub new_differ : (standard : List (List ℕ)) (before ds : List Declared) → AreNew standard before ds → Differ (names_declared ds)
 new_differ standard before [] h = tt
 new_differ standard before (d ∷ ds) h = (later_differ standard before d [] ds h.1, new_differ standard (before ++ d ∷ []) ds h.1)
 

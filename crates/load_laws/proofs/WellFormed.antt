@@ -3,8 +3,8 @@ use Rattle.std.proofs.Common.{List, [], ◌∷◌, ◌++◌, ℕ, true, Option, 
 use Rattle.std.proofs.lemmas.List.Elements.{All-nil}
 use Rattle.trace_base.specs.Device.{File}
 use Rattle.tla_ast.specs.declared.module.Module.{Module}
-use Rattle.tla_ast.specs.declared.module.Program.{Program}
 use Rattle.tla_ast.specs.declared.module.Unit.{Unit as ModuleUnit}
+use Rattle.tla_ast.specs.declared.module.WholeProgram.{WholeProgram}
 use Rattle.tla_modules.specs.Loads.{IsProgramBy}
 use Rattle.tla_modules.specs.declared.notes.Noted.{Noted}
 use Rattle.tla_modules.specs.Readings.{Reading}
@@ -34,8 +34,8 @@ good_append us vs h k = (formed_append us vs h.0 k.0, named_append us vs h.1 k.1
 -- ---- any reading
 
 module _ {N : Type 0} (reading : Reading N) (spells : SpellsFormed reading) where
-  well_formed : (holds : Option (List File)) (folder name : List ℕ) (p : Program) (notes : List (Noted N)) → IsProgramBy reading holds folder name p notes
-      → IsWellFormed p
+  well_formed : (holds : Option (List File)) (folder name : List ℕ) (p : WholeProgram) (notes : List (Noted N)) → IsProgramBy reading holds folder name p notes
+      → IsWellFormed p.program
   well_formed holds folder name p notes i =
       let g =
       of_all reading holds folder IsGood (tt, All-nil _) good_append
@@ -43,8 +43,8 @@ module _ {N : Type 0} (reading : Reading N) (spells : SpellsFormed reading) wher
       let e = sym i.program.units in
       record {
         formed = subst UnitsAreFormed e g.0;
-        variables_differ = subst VariablesDiffer e (variables_differ i.all.standard i.all.units i.names);
-        definitions_differ = subst DefinitionsDiffer e (definitions_differ i.all.standard i.all.units i.names);
+        variables_differ = subst VariablesDiffer e (variables_differ i.all.standard i.all.units i.names.here);
+        definitions_differ = subst DefinitionsDiffer e (definitions_differ i.all.standard i.all.units i.names.here);
         definitions_named = subst AreNamed e g.1;
       }
 

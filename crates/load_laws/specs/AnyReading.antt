@@ -18,8 +18,8 @@ pub record SpellsFormed {N : Type 0} (reading : Reading N) : Type 0 where
 
 abbrev pub LoadedAreWellFormedBy : {N : Type 0} → Reading N → Type 0
 LoadedAreWellFormedBy {N} reading =
-    (holds : Option (List File)) (before now : ℕ) (path : List ℕ) (l : Loaded N) → LoadsBy reading holds before now path (Ok l) → IsWellFormed l.program
+    (holds : Option (List File)) (before now : ℕ) (path : List ℕ) (l : Loaded N) → LoadsBy reading holds before now path (Ok l) → IsWellFormed l.program.program
 
 abbrev pub LoadedHaveFewFilesBy : {N : Type 0} → Reading N → Type 0
 LoadedHaveFewFilesBy {N} reading =
-    (holds : Option (List File)) (before now : ℕ) (path : List ℕ) (l : Loaded N) → LoadsBy reading holds before now path (Ok l) → length l.program.files ≤ 32
+    (holds : Option (List File)) (before now : ℕ) (path : List ℕ) (l : Loaded N) → LoadsBy reading holds before now path (Ok l) → length l.program.program.files ≤ 32

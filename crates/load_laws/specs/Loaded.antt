@@ -2,7 +2,7 @@
 use Rattle.std.specs.Prelude.{◌≤◌, ℕ, Bool, length, List, [], Option, Some, None, Ok, codes}
 use Rattle.trace_base.specs.Device.{File}
 use Rattle.tla_ast.specs.declared.config.Config.{Config}
-use Rattle.tla_ast.specs.declared.module.Program.{Program}
+use Rattle.tla_ast.specs.declared.module.WholeProgram.{WholeProgram}
 use Rattle.wide_config.specs.Wide.{ReadsBy}
 use Rattle.tla_modules.specs.Loads.{Loads}
 use Rattle.resolved_laws.specs.InOrder.{IsWellFormed}
@@ -19,11 +19,11 @@ ConfigurationsHaveOneForm = (wide : Bool) (file : ℕ) (name text : List ℕ) (c
 
 -- a program that is loaded is one as the reader gives it
 abbrev pub LoadedAreWellFormed : Type 0
-LoadedAreWellFormed = (holds : Option (List File)) (before now : ℕ) (path : List ℕ) (p : Program) → Loads holds before now path (Ok p) → IsWellFormed p
+LoadedAreWellFormed = (holds : Option (List File)) (before now : ℕ) (path : List ℕ) (p : WholeProgram) → Loads holds before now path (Ok p) → IsWellFormed p.program
 
 -- it has few files, so that their number, which is that of a configuration that is read, fits any place
 abbrev pub LoadedHaveFewFiles : Type 0
-LoadedHaveFewFiles = (holds : Option (List File)) (before now : ℕ) (path : List ℕ) (p : Program) → Loads holds before now path (Ok p) → length p.files ≤ 32
+LoadedHaveFewFiles = (holds : Option (List File)) (before now : ℕ) (path : List ℕ) (p : WholeProgram) → Loads holds before now path (Ok p) → length p.program.files ≤ 32
 
 -- the configuration INIT Init NEXT Next, which stands where none is read
 abbrev pub plain_configuration : Config

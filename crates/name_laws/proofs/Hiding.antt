@@ -102,5 +102,6 @@ itself_hidden owns.Function g k c n q = name_hidden g k (record { needed = c; is
 -- how a definition uses itself, where its body is above level 0 with either
 pub itself_same : (g g' : Takes) (form : DefinitionForm) (n : List ℕ) (at : Place) (ps : List (List ℕ)) (e : Tree) → rises (without (with_own (told g) n) ps) e ≡ rises (without (with_own (told g') n) ps) e → itself g form n at ps e ≡ itself g' form n at ps e
 itself_same g g' forms.Operator n at ps e q = refl
+itself_same g g' forms.Constant n at ps e q = refl
 itself_same g g' forms.Function n at ps e q =
     ap (λ (b : Bool). if is_one_of n ps then None else (if mentions n e then (if applies n e && not b then None else Some (Recursion n at)) else None)) q

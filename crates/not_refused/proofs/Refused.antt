@@ -1,5 +1,5 @@
 -- Beside an accepted reading nothing is refused, and each file that is sought is there and is not too long.
-use Rattle.std.proofs.Common.{◌≡◌, ◌<◌, ℕ, List, [], ◌∷◌, length, Some, None, Ok, Err, inl, inr, sym, ◌∙◌, subst, arith}
+use Rattle.std.proofs.Common.{Result, ◌≡◌, ◌<◌, ℕ, List, [], ◌∷◌, length, Some, None, Ok, Err, inl, inr, sym, ◌∙◌, subst, arith}
 use Rattle.std.specs.Prelude.{Bool, true}
 use Rattle.trace_base.specs.Device.{File, IsLonger, found}
 use Rattle.trace_base.specs.declared.place.Place.{Place}
@@ -7,10 +7,11 @@ use Rattle.trace_base.specs.declared.reading.ReadFault.{ReadFault}
 use Rattle.trace_base.specs.declared.reading.ReadFault.TheVariants.{Missing, Failed, TooLong}
 use Rattle.tla_ast.specs.declared.config.Config.{Config}
 use Rattle.tla_ast.specs.declared.module.Program.{Program}
+use Rattle.tla_ast.specs.declared.module.WholeProgram.{WholeProgram}
 use Rattle.tla_config.specs.declared.fault.ConfigKind.{ConfigKind}
 use Rattle.wide_config.specs.Wide.{ReadsBy}
 use Rattle.tla_modules.specs.declared.fault.LoadWhy.{LoadWhy}
-use Rattle.tla_modules.specs.declared.fault.LoadWhy.TheVariants.{Read, Lex, Lay, Parse, Cycle, TooMany, Twice, WrongName}
+use Rattle.tla_modules.specs.declared.fault.LoadWhy.TheVariants.{Read, Lex, Lay, Parse, Cycle, TooMany, Twice, WrongName, Nested}
 use Rattle.tla_modules.specs.declared.notes.Noted.{Noted}
 use Rattle.tla_modules.specs.declared.so_far.Gathered.{Gathered}
 use Rattle.tla_modules.specs.Flattened.{FlattenedBy, OutcomeOf}
@@ -22,6 +23,7 @@ use Rattle.wide_modules.specs.Wide.{reading_by}
 use Rattle.tla_terms.specs.declared.spec.Spec.{Spec}
 use Rattle.tla_levels.specs.declared.fault.ResolveFault.{ResolveFault}
 use Rattle.specification_names.specs.Resolving.{ResolvedBy}
+use Rattle.whole_programs.specs.Expansion.{ExpansionBy}
 use Rattle.wide_reading.specs.Answers.{NeedsPiece}
 use Rattle.wide_reading.specs.Passing.{Passes}
 use Rattle.spec_laws.specs.IsSpec.{IsSpec}
@@ -30,8 +32,8 @@ use Rattle.one_program.specs.Laws.{NoConfigurationRefused}
 use Rattle.run_words.specs.declared.job.Job.{Job}
 use Rattle.run_reading.specs.Texts.{HasText, LogsRead, bytes_left, config_limit}
 use Rattle.run_reading.specs.Reaches.{IsNext, Reaches, Stage, config_next, configured, given, loaded, log_next, logged, module_next, resolved}
-use Rattle.run_reading.specs.Refusals.{IsOfText, IsRefusal, Rejects, in_a_log, in_a_module, in_a_piece, in_all_modules, in_forms, in_names, in_the_configuration, is_missing, is_refused, is_too_long}
-use Rattle.one_reading.proofs.OneReading.{Given, Parts, ProgramOf, begun_same, configured_same, form_is_one, given_form, given_same, in_order, passed_there, passing_parts, program_of, resolved_there, same_program}
+use Rattle.run_reading.specs.Refusals.{IsOfText, IsRefusal, Rejects, in_a_log, in_a_module, in_a_piece, in_an_instance, in_all_modules, in_forms, in_names, in_the_configuration, is_missing, is_refused, is_too_long}
+use Rattle.one_reading.proofs.OneReading.{AreGiven, Given, Parts, ProgramOf, begun_same, configured_same, expanded_same, one_expanded, form_is_one, given_form, given_same, in_order, passed_there, passing_parts, program_of, resolved_there, same_program}
 use Rattle.one_reading.proofs.Passing.{no_piece}
 use Rattle.one_reading.proofs.Outcomes.{one_outcome_by}
 use Rattle.one_reading.proofs.SameLogs.{one_text}
@@ -68,6 +70,9 @@ there_of files name limit text h = record {
       omega (arith, long, h.short);
 }
 
+never_both : (fault : ResolveFault) (p : Program) → (let r : Result Program ResolveFault = Err fault in r ≡ Ok p) → ⊥
+never_both fault p e = cc
+
 module _ (known : Known) (files : List File) (job : Job) where
   -- ---- modules
 
@@ -84,6 +89,7 @@ module _ (known : Known) (files : List File) (job : Job) where
   text_accepted folder name all modules (TooMany other) h g t = known.stops job.wide files folder name all modules (TooMany other) h g
   text_accepted folder name all modules (Twice other later earlier) h g t = known.stops job.wide files folder name all modules (Twice other later earlier) h g
   text_accepted folder name all modules (WrongName other at) h g t = known.stops job.wide files folder name all modules (WrongName other at) h g
+  text_accepted folder name all modules (Nested other at) h g t = known.stops job.wide files folder name all modules (Nested other at) h g
 
   module_read : (folder name : List ℕ) (all : Gathered Unread) (modules : List (List ℕ)) (file : List ℕ) (fault : ReadFault) → Flat folder name (Ok all)
       → Flat folder name (Err (modules, Read file Failed)) → IsUnread (Some files) file fault → fault ≡ Failed
@@ -99,19 +105,19 @@ module _ (known : Known) (files : List File) (job : Job) where
 
   -- ---- the configuration
 
-  configuration_there : (p : Program) (c : Config) (name : List ℕ) → Given known.parts files job p c → job.config ≡ Some name → (text : List ℕ) × HasText (Some files) name config_limit text
+  configuration_there : (p : WholeProgram) (c : Config) (name : List ℕ) → Given known.parts files job p c → job.config ≡ Some name → (text : List ℕ) × HasText (Some files) name config_limit text
   configuration_there p c name (inl a) some = absurd (none_is_some name (sym a.0 ∙ some))
   configuration_there p c name (inr a) some =
       (a.1, subst (λ (x : List ℕ). HasText (Some files) x config_limit a.1) (some_is a.0 name (sym a.2 ∙ some)) a.3)
 
-  configuration_accepted : (p : Program) (c : Config) (name text : List ℕ) (kind : ConfigKind) (at : Place) → Given known.parts files job p c → job.config ≡ Some name
-      → HasText (Some files) name config_limit text → ReadsBy job.wide (length p.files) name text (Err (kind, at)) → ⊥
+  configuration_accepted : (p : WholeProgram) (c : Config) (name text : List ℕ) (kind : ConfigKind) (at : Place) → Given known.parts files job p c → job.config ≡ Some name
+      → HasText (Some files) name config_limit text → ReadsBy job.wide (length p.program.files) name text (Err (kind, at)) → ⊥
   configuration_accepted p c name text kind at (inl a) some has reads = none_is_some name (sym a.0 ∙ some)
   configuration_accepted p c name text kind at (inr a) some has reads =
       let named : a.0 ≡ name = some_is a.0 name (sym a.2 ∙ some) in
       let texts : a.1 ≡ text = one_text files a.0 name config_limit config_limit a.1 text named a.3 has in
-      let here : ReadsBy job.wide (length p.files) name a.1 (Ok c) = subst (λ (x : List ℕ). ReadsBy job.wide (length p.files) x a.1 (Ok c)) named a.4 in
-      known.configuration job.wide (length p.files) name text c kind at (subst (λ (x : List ℕ). ReadsBy job.wide (length p.files) name x (Ok c)) texts here) reads
+      let here : ReadsBy job.wide (length p.program.files) name a.1 (Ok c) = subst (λ (x : List ℕ). ReadsBy job.wide (length p.program.files) x a.1 (Ok c)) named a.4 in
+      known.configuration job.wide (length p.program.files) name text c kind at (subst (λ (x : List ℕ). ReadsBy job.wide (length p.program.files) name x (Ok c)) texts here) reads
 
   -- ---- names
 
@@ -132,11 +138,11 @@ module _ (known : Known) (files : List File) (job : Job) where
     by : ConfiguredBy (Some files) job p c
     by = configured_by (Some files) job p c (resolved_by (Some files) job p c s from).0
 
-    is_given : Reaches (Some files) job (loaded by.program by.unread) × Given known.parts files job by.program by.config
-    is_given = given_by (Some files) job by.program by.unread by.config by.reaches
+    is_given : Reaches (Some files) job (loaded by.whole by.unread) × Given known.parts files job by.whole by.config
+    is_given = given_by (Some files) job by.whole by.unread by.config by.reaches
 
-    is_loaded : LoadedBy (Some files) job by.program by.unread
-    is_loaded = loaded_by (Some files) job by.program by.unread is_given.0
+    is_loaded : LoadedBy (Some files) job by.whole by.unread
+    is_loaded = loaded_by (Some files) job by.whole by.unread is_given.0
 
     is_in_order : IsSpec s
     is_in_order = in_order known.parts files job p c s from
@@ -144,21 +150,31 @@ module _ (known : Known) (files : List File) (job : Job) where
     pub alike_to : (q : Program) (d : Config) (t : Spec) → Reaches (Some files) job (resolved q d t) → AreAlike s t
     alike_to q d t reaches = (begun_same known.parts files job p q c d s t from reaches).specs
 
-    is_program : (folder name : List ℕ) → IsPath job.module folder name → ProgramOf known.parts files job folder name by.program by.unread
-    is_program folder name path = program_of known.parts files job folder name by.program by.unread path is_loaded
+    is_program : (folder name : List ℕ) → IsPath job.module folder name → ProgramOf known.parts files job folder name by.whole by.unread
+    is_program folder name path = program_of known.parts files job folder name by.whole by.unread path is_loaded
 
-    one_more_program : (q : Program) (others : List (Noted Unread)) → Reaches (Some files) job (loaded q others) → by.program ≡ q
-    one_more_program q others reaches = (same_program known.parts files job by.program q by.unread others is_loaded (loaded_by (Some files) job q others reaches)).0
+    one_more_program : (q : WholeProgram) (others : List (Noted Unread)) → Reaches (Some files) job (loaded q others) → by.whole ≡ q
+    one_more_program q others reaches = (same_program known.parts files job by.whole q by.unread others is_loaded (loaded_by (Some files) job q others reaches)).0
+
+    -- of the same texts
+    same_given : (q : WholeProgram) (others : List (Noted Unread)) (d : Config) → Reaches (Some files) job (given q others d) → AreGiven known.parts files job q by.whole others by.unread d by.config
+    same_given q others d reaches = given_same known.parts files job q by.whole others by.unread d by.config reaches by.reaches
+
+    -- nothing is wrong with an instance
+    instance_accepted : (q : WholeProgram) (others : List (Noted Unread)) (d : Config) (fault : ResolveFault) → Reaches (Some files) job (given q others d) → ExpansionBy job.wide q (Err fault) → ⊥
+    instance_accepted q others d fault reaches wrong =
+        never_both fault by.program (one_expanded known.parts files job q by.whole others by.unread d by.config (Err fault) (Ok by.program) (same_given q others d reaches) wrong by.expands)
 
     -- no piece is needed that was not read
-    piece_accepted : (q : Program) (others : List (Noted Unread)) (d : Config) (index : ℕ) (root : List ℕ) → Reaches (Some files) job (given q others d) → job.wide ≡ true
-        → NeedsPiece q d job.silent others index root → ⊥
-    piece_accepted q others d index root reaches word needs =
-        let same = given_same known.parts files job q by.program others by.unread d by.config reaches by.reaches in
-        let there : Passes q d job.silent others job.wide p c =
-        passed_there known.parts files job q by.program p others by.unread d by.config c same by.passed in
-        no_piece (passing_parts known.parts) q d job.silent (given_form known.parts files job q others d reaches) others p c index root
-        (subst (λ (w : Bool). Passes q d job.silent others w p c) word there) needs
+    piece_accepted : (q : WholeProgram) (r : Program) (others : List (Noted Unread)) (d : Config) (index : ℕ) (root : List ℕ) → Reaches (Some files) job (given q others d) → ExpansionBy job.wide q (Ok r) → job.wide ≡ true
+        → NeedsPiece r d job.silent others index root → ⊥
+    piece_accepted q r others d index root reaches expands word needs =
+        let same = same_given q others d reaches in
+        let programs : r ≡ by.program = expanded_same known.parts files job q by.whole others by.unread d by.config r by.program same expands by.expands in
+        let there : Passes r d job.silent others job.wide p c =
+        passed_there known.parts files job q by.whole r by.program p others by.unread d by.config c same programs by.passed in
+        no_piece (passing_parts known.parts) r d job.silent (given_form known.parts files job q others d reaches) others p c index root
+        (subst (λ (w : Bool). Passes r d job.silent others w p c) word there) needs
 
     log_text : (q : Program) (d : Config) (t : Spec) (read : LogsRead) (name : List ℕ) (names : List (List ℕ)) → Reaches (Some files) job (logged q d t read (name ∷ names))
         → (text : List ℕ) × HasText (Some files) name (bytes_left read) text
@@ -170,7 +186,7 @@ module _ (known : Known) (files : List File) (job : Job) where
     pub sought_there : (stage : Stage) (name : List ℕ) (limit : ℕ) → Reaches (Some files) job stage → IsNext (Some files) job stage name limit → IsThere files name limit
     sought_there _ _ _ reaches (module_next folder name modules file path flat) = module_there folder name (is_program folder name path).all modules file (is_program folder name path).flattened flat
     sought_there _ _ _ reaches (config_next q others name some) =
-        let has = configuration_there by.program by.config name is_given.1 some in
+        let has = configuration_there by.whole by.config name is_given.1 some in
         there_of files name config_limit has.0 has.1
     sought_there _ _ _ reaches (log_next q d t read name names) = let has = log_text q d t read name names reaches in there_of files name (bytes_left read) has.0 has.1
 
@@ -178,11 +194,12 @@ module _ (known : Known) (files : List File) (job : Job) where
     pub text_not_refused : (stage : Stage) (report : List ℕ) → Reaches (Some files) job stage → Rejects (Some files) job stage report → ⊥
     text_not_refused _ _ reaches (in_a_module folder name modules why path flat text) =
         text_accepted folder name (is_program folder name path).all modules why (is_program folder name path).flattened flat text
-    text_not_refused _ _ reaches (in_all_modules folder name every why path flat twice) = known.repeats job.wide files folder name by.program by.unread every why (is_program folder name path) flat twice
+    text_not_refused _ _ reaches (in_all_modules folder name every why path flat twice) = known.repeats job.wide files folder name by.whole by.unread every why (is_program folder name path) flat twice
     text_not_refused _ _ reaches (in_the_configuration q others name text kind at some has reads) =
-        let same : by.program ≡ q = one_more_program q others reaches in
-        configuration_accepted by.program by.config name text kind at is_given.1 some has (subst (λ (x : Program). ReadsBy job.wide (length x.files) name text (Err (kind, at))) (sym same) reads)
-    text_not_refused _ _ reaches (in_a_piece q others d index root word needs) = piece_accepted q others d index root reaches word needs
+        let same : by.whole ≡ q = one_more_program q others reaches in
+        configuration_accepted by.whole by.config name text kind at is_given.1 some has (subst (λ (x : WholeProgram). ReadsBy job.wide (length x.program.files) name text (Err (kind, at))) (sym same) reads)
+    text_not_refused _ _ reaches (in_an_instance q others d fault wrong) = instance_accepted q others d fault reaches wrong
+    text_not_refused _ _ reaches (in_a_piece q r others d index root expands word needs) = piece_accepted q r others d index root reaches expands word needs
     text_not_refused _ _ reaches (in_names q d fault is) = names_accepted p q c d s fault from reaches is
     text_not_refused _ _ reaches (in_forms q d t fault is) =
         forms_accepted known.forms s t is_in_order (in_order known.parts files job q d t reaches) (alike_to q d t reaches) fault

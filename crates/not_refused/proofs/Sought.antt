@@ -3,10 +3,12 @@ use Rattle.std.proofs.Common.{◌≡◌, ℕ, List, [], ◌∷◌, ◌++◌, len
 use Rattle.trace_base.specs.Device.{File}
 use Rattle.trace_base.specs.declared.reading.ReadFault.{ReadFault}
 use Rattle.trace_base.specs.declared.reading.ReadFault.TheVariants.{Failed}
+use Rattle.tla_ast.specs.declared.module.Made.{Made}
+use Rattle.tla_ast.specs.declared.module.Unit.{Unit as ModuleUnit}
 use Rattle.tla_modules.specs.declared.fault.LoadWhy.{LoadWhy}
-use Rattle.tla_modules.specs.declared.fault.LoadWhy.TheVariants.{Read, Lex, Lay, Parse, Cycle, TooMany, Twice, WrongName}
+use Rattle.tla_modules.specs.declared.fault.LoadWhy.TheVariants.{Read, Lex, Lay, Parse, Cycle, TooMany, Twice, WrongName, Nested}
 use Rattle.tla_modules.specs.declared.so_far.Gathered.{Gathered}
-use Rattle.tla_modules.specs.Flattened.{OutcomeOf, Meets, Follows, Visits, FlattenedBy, closes_cycle, is_listed, was_read, one_too_many, is_visited, all_met, stopped, went_on, is_refused, stopped_below, is_whole, nothing_read, with_module}
+use Rattle.tla_modules.specs.Flattened.{OutcomeOf, Meets, Follows, Visits, Makes, MakesAll, FlattenedBy, closes_cycle, is_listed, was_read, one_too_many, is_visited, all_met, stopped, went_on, is_refused, is_nested, stopped_below, stopped_in_instance, is_whole, all_made, makes_none, not_made, is_made, passed_over, stopped_inside, has_program, begun_of_instance, nothing_read, number_of, with_module, with_name}
 use Rattle.tla_modules.specs.Paths.{file_of}
 use Rattle.tla_modules.specs.Readings.{Reading}
 use Rattle.tla_modules.specs.Refusals.{IsUnread, Refuses, RefusesBytes, misnamed, misspelled, not_good, not_read}
@@ -21,6 +23,7 @@ IsOfRead (Cycle names) = ⊥
 IsOfRead (TooMany name) = ⊥
 IsOfRead (Twice name later earlier) = ⊥
 IsOfRead (WrongName name at) = ⊥
+IsOfRead (Nested name at) = ⊥
 
 abbrev EndsAtRead : {N : Type 0} → OutcomeOf N → Type 0
 EndsAtRead (Ok a) = ⊥
@@ -71,12 +74,29 @@ module _ {N : Type 0} (reading : Reading N) (holds : Option (List File)) (folder
     visits_so : (path : List (List ℕ)) (so : Gathered N) (name : List ℕ) (o : OutcomeOf N) → Visits reading holds folder path so name o → (modules : List (List ℕ)) → o ≡ fails modules
         → Visits reading holds folder path so name (stops modules)
     visits_so _ _ _ _ (is_refused path so name why r) modules e =
-        let same : (so.modules ++ name ∷ [], why) ≡ (modules, Read file Failed) = err_same _ _ _ _ refl refl e in
+        let same : (with_name so.modules name, why) ≡ (modules, Read file Failed) = err_same _ _ _ _ refl refl e in
         subst (λ (ms : List (List ℕ)). Visits reading holds folder path so name (stops ms)) (ap (λ x. x.0) same)
-        (is_refused path so name (Read file fault) (refuses_so (length so.modules) name why r (ap (λ x. x.1) same)))
-    visits_so _ _ _ _ (stopped_below path so name m notes d i f) modules e =
-        stopped_below path so name m notes (modules, Read file fault) i (follows_so (path ++ name ∷ []) (with_module so name) m.extends (Err d) f modules e)
-    visits_so _ _ _ _ (is_whole path so below name m notes i f) modules e = absurd (no_end _ modules e (λ x. x))
+        (is_refused path so name (Read file fault) (refuses_so (number_of name so.modules) name why r (ap (λ x. x.1) same)))
+    visits_so _ _ _ _ (is_nested path so name m notes made i r t f) modules e = absurd (no_end _ modules e (λ x. x))
+    visits_so _ _ _ _ (stopped_below path so name m notes d i a f) modules e =
+        stopped_below path so name m notes (modules, Read file fault) i a (follows_so (path ++ name ∷ []) (with_module so name) m.extends (Err d) f modules e)
+    visits_so _ _ _ _ (stopped_in_instance path so below name m notes d i a f g) modules e =
+        stopped_in_instance path so below name m notes (modules, Read file fault) i a f (all_so (path ++ name ∷ []) below m.units (Err d) g modules e)
+    visits_so _ _ _ _ (is_whole path so below all name m notes i a f g) modules e = absurd (no_end _ modules e (λ x. x))
+
+    all_so : (path : List (List ℕ)) (so : Gathered N) (units : List ModuleUnit) (o : OutcomeOf N) → MakesAll reading holds folder path so units o → (modules : List (List ℕ)) → o ≡ fails modules
+        → MakesAll reading holds folder path so units (stops modules)
+    all_so _ _ _ _ (all_made path so) modules e = absurd (no_end _ modules e (λ x. x))
+    all_so _ _ _ _ (makes_none path so u us o none g) modules e = makes_none path so u us (stops modules) none (all_so path so us o g modules e)
+    all_so _ _ _ _ (not_made path so u us made d is m) modules e = not_made path so u us made (modules, Read file fault) is (makes_so path so made (Err d) m modules e)
+    all_so _ _ _ _ (is_made path so next u us made o is m g) modules e = is_made path so next u us made (stops modules) is m (all_so path next us o g modules e)
+
+    makes_so : (path : List (List ℕ)) (so : Gathered N) (made : Made) (o : OutcomeOf N) → Makes reading holds folder path so made o → (modules : List (List ℕ)) → o ≡ fails modules
+        → Makes reading holds folder path so made (stops modules)
+    makes_so _ _ _ _ (passed_over path so made t) modules e = absurd (no_end _ modules e (λ x. x))
+    makes_so _ _ _ _ (stopped_inside path so made d t m) modules e =
+        stopped_inside path so made (modules, Read file fault) t (meets_so path (begun_of_instance so.modules) made.module_name (Err d) m modules e)
+    makes_so _ _ _ _ (has_program path so inner made t m) modules e = absurd (no_end _ modules e (λ x. x))
 
   pub flattening_so : (name : List ℕ) (modules : List (List ℕ)) → FlattenedBy reading holds folder name (fails modules) → FlattenedBy reading holds folder name (stops modules)
   flattening_so name modules h = visits_so [] nothing_read name (fails modules) h modules refl

@@ -5,18 +5,20 @@ use Rattle.std.proofs.lemmas.Option.{slice_get_within}
 use Rattle.tla_ast.specs.Trees.{Tree}
 use Rattle.tla_ast.specs.declared.config.Config.{Config}
 use Rattle.tla_ast.specs.declared.expr.Definition.{Definition}
+use Rattle.tla_ast.specs.declared.form.DefinitionForm.{DefinitionForm}
+use Rattle.tla_ast.specs.declared.form.DefinitionForm.TheVariants as forms
 use Rattle.tla_ast.specs.declared.module.Program.{Program}
 use Rattle.tla_ast.specs.declared.module.Unit.{Unit as ModuleUnit}
 use Rattle.tla_ast.specs.declared.module.Unit.TheVariants.{Variables, Constants, Recursive, Define, Instance, Assume, Passed}
 use Rattle.tla_terms.specs.declared.operator.Operator.{Operator}
 use Rattle.tla_terms.specs.Terms.{Term}
 use Rattle.term_parts.specs.declared.fault.LevelFault.{LevelFault}
-use Rattle.term_levels.specs.Faults.{IsFault, IsFirst}
+use Rattle.term_levels.specs.Faults.{IsFirst}
 use Rattle.tla_program.specs.InUnits.{assumptions_in, definitions_in}
 use Rattle.tla_tables.specs.NameFaults.{definitions_before}
 use Rattle.tla_tables.specs.Tables.{IsTabled, unit_operator}
-use Rattle.tla_levels.specs.UnitLevels.{IsUnitFault, IsBodyFault, IsAssumedFault, IsLevelFaultAt, IsFirstLevelFault, HasFineLevels, assumptions_before}
-use Rattle.alike_terms.specs.Laws.{AlikeTellSame, AreAny}
+use Rattle.tla_levels.specs.UnitLevels.{IsUnitFault, IsBodyFault, IsFormFault, IsAssumedFault, IsLevelFaultAt, IsFirstLevelFault, HasFineLevels, assumptions_before}
+use Rattle.alike_terms.specs.Laws.{AlikeTellSame, AreAny, TellSame}
 use Rattle.alike_terms.proofs.FirstOne.{first_is_one}
 use Rattle.one_outcome.proofs.Early.{neither_below, some_one}
 use Rattle.one_outcome.proofs.Sides.{Side, there_shaped}
@@ -51,14 +53,25 @@ assumed_there (Instance m ∷ us) (suc k) t e = assumed_there us k t e
 assumed_there (Passed ∷ us) (suc k) t e = assumed_there us k t e
 
 module _ (laws : AlikeTellSame AreAny) (p : Program) (c : Config) where
-  body_fault : (a b : Side p c) (i : ℕ) (d : Definition) (f : LevelFault) → slice_get (definitions_in p.units) i ≡ Some d → IsBodyFault a.number a.ops i f → IsBodyFault b.number b.ops i f
+  form_fault : (form : DefinitionForm) (ops all : List Operator) (e t : Term) (f : LevelFault) → TellSame AreAny ops all e t → IsFormFault form ops e f → IsFormFault form all t f
+  form_fault forms.Operator ops all e t f same h = same.fault f h
+  form_fault forms.Function ops all e t f same h = same.fault f h
+  form_fault forms.Constant ops all e t f same h = same.assumption_fault f h
+
+  body_fault : (a b : Side p c) (i : ℕ) (d : Definition) (f : LevelFault) → slice_get (definitions_in p.units) i ≡ Some d → IsBodyFault a.number a.ops d.form i f → IsBodyFault b.number b.ops d.form i f
   body_fault a b i d f at h =
       let x : IsTabled p c a.values a.number a.ops i d = a.is.table.definitions i d at in
       let y : IsTabled p c b.values b.number b.ops i d = b.is.table.definitions i d at in
       let row : h.row ≡ x.row = some_one (a.number i) h.row x.row h.numbered x.numbered in
       let op : h.operator ≡ unit_operator d x.own x.body = some_one (slice_get a.ops x.row) h.operator (unit_operator d x.own x.body) (ap (slice_get a.ops) (sym row) ∙ h.stands) x.stands in
-      let wrong : IsFault a.ops x.body f = subst (λ (o : Operator). IsFault a.ops o.body f) op h.wrong in
-      record { row = y.row; operator = unit_operator d y.own y.body; numbered = y.numbered; stands = y.stands; wrong = (laws a.ops b.ops x.body y.body (there_shaped p c a b d.params d.body x.body y.body x.means y.means)).fault f wrong }
+      let wrong : IsFormFault d.form a.ops x.body f = subst (λ (o : Operator). IsFormFault d.form a.ops o.body f) op h.wrong in
+      record {
+        row = y.row;
+        operator = unit_operator d y.own y.body;
+        numbered = y.numbered;
+        stands = y.stands;
+        wrong = form_fault d.form a.ops b.ops x.body y.body f (laws a.ops b.ops x.body y.body (there_shaped p c a b d.params d.body x.body y.body x.means y.means)) wrong;
+      }
 
   assumed_fault : (a b : Side p c) (j : ℕ) (t : Tree) (f : LevelFault) → slice_get (assumptions_in p.units) j ≡ Some t → IsAssumedFault a.ops a.assumes j f → IsAssumedFault b.ops b.assumes j f
   assumed_fault a b j t f at h =

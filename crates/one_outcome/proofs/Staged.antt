@@ -16,7 +16,7 @@ use Rattle.tla_levels.specs.declared.fault.ResolveFault.{ResolveFault}
 use Rattle.tla_levels.specs.declared.fault.ResolveFault.TheVariants.{TooManyVariables, NoValue, NoOperator, NotTheShape}
 use Rattle.tla_levels.specs.Configured.{HasNoShape, first_too_high, first_without_operator}
 use Rattle.tla_levels.specs.Givens.{first_given_fault}
-use Rattle.tla_levels.specs.Refusals.{of_name, of_level}
+use Rattle.tla_levels.specs.Refusals.{instance_names, of_name, of_level}
 use Rattle.tla_levels.specs.Resolved.{HasFewVariables, IsOneForm, IsSpecOf, Resolved, accepted, no_operator, no_shape, no_value, too_high, too_many_variables, wrong_given, wrong_level, wrong_name}
 use Rattle.tla_levels.specs.UnitLevels.{HasFineLevels, IsFirstLevelFault}
 use Rattle.alike_terms.specs.Laws.{AlikeTellSame, AreAny, AreOne}
@@ -88,7 +88,7 @@ module _ (p : Program) (c : Config) (silent : Option (List ℕ)) where
   Values r = Chain Valueless (HasAllValues p c) Tables r
 
   abbrev Misnamed : ResolveFault → Type 0
-  Misnamed f = (n : NameFault) × IsFirstNameFault p c n × (f ≡ of_name n)
+  Misnamed f = (n : NameFault) × IsFirstNameFault p c n × (f ≡ of_name (instance_names p.units) n)
 
   abbrev Named : Result Spec ResolveFault → Type 0
   Named r = Chain Misnamed (HasFineNames p c) Values r
@@ -105,7 +105,7 @@ module _ (p : Program) (c : Config) (silent : Option (List ℕ)) where
 
   staged : IsOneForm c → (r : Result Spec ResolveFault) → Resolved p c silent r → Staged r
   staged form _ (too_many_variables d e) = stops (TooManyVariables d.at) (d, e, refl)
-  staged form _ (wrong_name f few is) = passes (Err (of_name f)) few (stops (of_name f) (f, is, refl))
+  staged form _ (wrong_name f few is) = passes (Err (of_name (instance_names p.units) f)) few (stops (of_name (instance_names p.units) f) (f, is, refl))
   staged form _ (no_value d few fine is) = passes (Err (NoValue d.name d.at)) few (passes (Err (NoValue d.name d.at)) fine (stops (NoValue d.name d.at) (d, is, refl)))
   staged form _ (wrong_given values number ops assumes f is e) =
       let a : Side p c = record { values = values; number = number; ops = ops; assumes = assumes; is = is } in
@@ -168,7 +168,7 @@ module _ (p : Program) (c : Config) (silent : Option (List ℕ)) where
 
     names_agree : Agrees Misnamed Misnamed (HasFineNames p c) (HasFineNames p c)
     names_agree = record {
-      one = λ f g x y. x.2 ∙ ap of_name (name_fault_one p c x.0 y.0 x.1 y.1) ∙ sym y.2;
+      one = λ f g x y. x.2 ∙ ap (of_name (instance_names p.units)) (name_fault_one p c x.0 y.0 x.1 y.1) ∙ sym y.2;
       left = λ f x y. y x.1.index x.0 x.1.is;
       right = λ g x y. x y.1.index y.0 y.1.is;
     }

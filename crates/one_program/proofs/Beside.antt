@@ -2,15 +2,17 @@
 use Rattle.std.proofs.Common.{◌≡◌, ◌∙◌, ℕ, List, [], ◌∷◌, ◌++◌, append_assoc, append-nil, Some, None, Ok, Err, sym, subst}
 use Rattle.trace_base.specs.Device.{File}
 use Rattle.tla_ast.specs.declared.module.Declared.{Declared}
-use Rattle.tla_ast.specs.declared.module.Program.{Program}
+use Rattle.tla_ast.specs.declared.module.Instance.{Instance}
+use Rattle.tla_ast.specs.declared.module.Unit.{Unit as ModuleUnit}
+use Rattle.tla_ast.specs.declared.module.WholeProgram.{WholeProgram}
 use Rattle.tla_modules.specs.declared.fault.LoadWhy.{LoadWhy}
-use Rattle.tla_modules.specs.declared.fault.LoadWhy.TheVariants.{Read, Lex, Lay, Parse, Cycle, TooMany, Twice, WrongName}
+use Rattle.tla_modules.specs.declared.fault.LoadWhy.TheVariants.{Read, Lex, Lay, Parse, Cycle, TooMany, Twice, WrongName, Nested}
 use Rattle.tla_modules.specs.declared.notes.Noted.{Noted}
 use Rattle.tla_modules.specs.declared.so_far.Gathered.{Gathered}
 use Rattle.tla_modules.specs.Loads.{IsProgram, IsProgramBy, IsRefusedBy, in_a_module, in_the_whole}
 use Rattle.tla_modules.specs.Readings.{Reading}
 use Rattle.tla_modules.specs.Refusals.{strict}
-use Rattle.tla_modules.specs.Twice.{AreNew, Repeats, declared_as, declared_in, stands}
+use Rattle.tla_modules.specs.Twice.{AllAreNew, AreNew, AreNewInside, OneRepeats, Repeats, RepeatsInside, declared_as, declared_in, in_instance, in_program, in_this, behind_it, stands}
 use Rattle.wide_config.specs.Laws as read
 use Rattle.one_program.specs.AnyReading.{FlatteningMayStopBy, LoadingMayStopBy, NothingRepeatsBy}
 use Rattle.one_program.specs.Laws.{FlatteningMayStop, LoadingMayStop, MayStop, NoConfigurationRefused, NothingRepeats}
@@ -39,6 +41,15 @@ no_repeat standard declared (Parse fault) n r = r
 no_repeat standard declared (Cycle names) n r = r
 no_repeat standard declared (TooMany name) n r = r
 no_repeat standard declared (WrongName name at) n r = r
+no_repeat standard declared (Nested name at) n r = r
+
+none_inside : (is : List Instance) (why : LoadWhy) → AreNewInside is → RepeatsInside is why → ⊥
+none_inside _ _ n (in_this i is why r) = no_repeat i.program.standard (declared_in i.program.units) why n.0 r
+none_inside _ _ n (behind_it i is why new r) = none_inside is why n.1 r
+
+none_repeats : (standard : List (List ℕ)) (units : List ModuleUnit) (is : List Instance) (why : LoadWhy) → AllAreNew standard units is → OneRepeats standard units is why → ⊥
+none_repeats standard units is _ n (in_program why r) = no_repeat standard (declared_in units) why n.here r
+none_repeats standard units is _ n (in_instance why new r) = none_inside is why n.inside r
 
 -- ---- any reading
 
@@ -50,9 +61,9 @@ module _ {N : Type 0} (reading : Reading N) (is : IsReading reading) where
   pub nothing_repeats_by : NothingRepeatsBy reading
   nothing_repeats_by files folder name p notes all why h g r =
       let same : h.all ≡ all = one_flattening_by reading is files folder name h.all all h.flattened g in
-      no_repeat all.standard (declared_in all.units) why (subst (λ (v : Gathered N). AreNew v.standard [] (declared_in v.units)) same h.names) r
+      none_repeats all.standard all.units all.instances why (subst (λ (v : Gathered N). AllAreNew v.standard v.units v.instances) same h.names) r
 
-  refused_stops : (files : List File) (earlier later : ℕ) (folder name : List ℕ) (p : Program) (notes : List (Noted N)) (named : List (List ℕ)) (why : LoadWhy)
+  refused_stops : (files : List File) (earlier later : ℕ) (folder name : List ℕ) (p : WholeProgram) (notes : List (Noted N)) (named : List (List ℕ)) (why : LoadWhy)
       → IsProgramBy reading (Some files) folder name p notes → IsRefusedBy reading (Some files) earlier later folder name named why → MayStop why
   refused_stops files earlier later folder name p notes _ _ h (in_a_module modules why flat caused) =
       flattening_may_stop_by files folder name h.all modules why h.flattened flat

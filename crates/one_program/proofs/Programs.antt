@@ -1,7 +1,9 @@
 -- Files that tell give one program, and a text one configuration.
 use Rattle.std.proofs.Common.{◌≡◌, ◌∙◌, ℕ, List, [], Some, Ok, refl, sym, ap, subst}
+use Rattle.tla_ast.specs.declared.module.Instance.{Instance}
 use Rattle.tla_ast.specs.declared.module.Program.{Program}
 use Rattle.tla_ast.specs.declared.module.Unit.{Unit as ModuleUnit}
+use Rattle.tla_ast.specs.declared.module.WholeProgram.{WholeProgram}
 use Rattle.tla_modules.specs.declared.so_far.Gathered.{Gathered}
 use Rattle.tla_modules.specs.Loads.{IsProgram, IsProgramBy, IsProgramOf}
 use Rattle.tla_modules.specs.Readings.{Reading}
@@ -14,19 +16,26 @@ use Rattle.one_program.proofs.Flattenings.{flattening_same}
 use Rattle.tla_modules.proofs.PathLaws.{path_same}
 use Rattle.one_program.proofs.Spelling.{module_same, ok_same}
 
-same_program : (p q : Program) → p.files ≡ q.files → p.units ≡ q.units → p.standard ≡ q.standard → p ≡ q
-same_program p q files units standard =
+same_alone : (p q : Program) → p.files ≡ q.files → p.units ≡ q.units → p.standard ≡ q.standard → p ≡ q
+same_alone p q files units standard =
     let filed : List (List ℕ) → Program = λ v. record { files = v; units = p.units; standard = p.standard } in
     let whole : List ModuleUnit → Program = λ v. record { files = q.files; units = v; standard = p.standard } in
     let extending : List (List ℕ) → Program = λ v. record { files = q.files; units = q.units; standard = v } in
     ap filed files ∙ ap whole units ∙ ap extending standard
 
+same_program : (p q : WholeProgram) → p.program ≡ q.program → p.instances ≡ q.instances → p ≡ q
+same_program p q alone instances =
+    let having : Program → WholeProgram = λ v. record { program = v; instances = p.instances } in
+    let made : List Instance → WholeProgram = λ v. record { program = q.program; instances = v } in
+    ap having alone ∙ ap made instances
+
 module _ {N : Type 0} (reading : Reading N) (is : IsReading reading) where
   pub one_flattening_by : OneFlatteningBy reading
   one_flattening_by files folder name a b h g = flattening_same reading (Some files) folder (module_same reading is.one files folder) name a b h g
 
-  of_same : (folder : List ℕ) (all : Gathered N) (p q : Program) → IsProgramOf folder all p → IsProgramOf folder all q → p ≡ q
-  of_same folder all p q h g = same_program p q (h.files ∙ sym g.files) (h.units ∙ sym g.units) (h.standard ∙ sym g.standard)
+  of_same : (folder : List ℕ) (all : Gathered N) (p q : WholeProgram) → IsProgramOf folder all p → IsProgramOf folder all q → p ≡ q
+  of_same folder all p q h g =
+      same_program p q (same_alone p.program q.program (h.files ∙ sym g.files) (h.units ∙ sym g.units) (h.standard ∙ sym g.standard)) (h.instances ∙ sym g.instances)
 
   pub one_program_by : OneProgramBy reading
   one_program_by files folder name p q notes others h g =

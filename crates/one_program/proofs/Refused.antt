@@ -8,7 +8,7 @@ use Rattle.tla_ast.specs.Laid.{IsLaid, NeverBoth, OneLaid}
 use Rattle.tla_ast.specs.Modules.{SpellsModule}
 use Rattle.tla_tokens.specs.Tokens.{OneOutcome}
 use Rattle.tla_modules.specs.declared.fault.LoadWhy.{LoadWhy}
-use Rattle.tla_modules.specs.declared.fault.LoadWhy.TheVariants.{Read, Lex, Lay, Parse, Cycle, TooMany, Twice, WrongName}
+use Rattle.tla_modules.specs.declared.fault.LoadWhy.TheVariants.{Read, Lex, Lay, Parse, Cycle, TooMany, Twice, WrongName, Nested}
 use Rattle.tla_modules.specs.Paths.{file_of}
 use Rattle.tla_modules.specs.Readings.{Reading}
 use Rattle.tla_modules.specs.Refusals.{IsModule, IsText, IsUnread, LaidAs, Misspells, Refuses, RefusesBytes, SpelledBy, misnamed, misspelled, module_limit, not_good, not_read, strict}
@@ -53,6 +53,7 @@ module _ (outcome : OneOutcome) (laid : OneLaid) (never : NeverBoth) (deep : Sha
   spelled_never number bytes m (TooMany name) s w = w
   spelled_never number bytes m (Twice name later earlier) s w = w
   spelled_never number bytes m (WrongName name at) s w = w
+  spelled_never number bytes m (Nested name at) s w = w
 
 pub strict_is_reading : OneOutcome → OneLaid → NeverBoth → OneModule → ShallowNotRefused → IsReading strict
 strict_is_reading outcome laid never one deep = record {

@@ -1,19 +1,19 @@
 -- What a reading gives, it gives too where its notes are seen through a function.
-use Rattle.std.proofs.Common.{◌≡◌, ◌∙◌, ℕ, Bool, true, false, cond, List, [], ◌∷◌, ◌++◌, length, map, Option, Some, Ok, Err, refl, sym, ap, subst}
+use Rattle.std.proofs.Common.{◌≡◌, ◌∙◌, ℕ, List, [], ◌∷◌, ◌++◌, map, Option, Some, Ok, Err, refl, sym, ap, subst}
 use Rattle.trace_base.specs.Device.{File}
+use Rattle.tla_ast.specs.declared.module.Made.{Made}
 use Rattle.tla_ast.specs.declared.module.Module.{Module}
-use Rattle.tla_ast.specs.declared.module.Program.{Program}
+use Rattle.tla_ast.specs.declared.module.Unit.{Unit as ModuleUnit}
+use Rattle.tla_ast.specs.declared.module.WholeProgram.{WholeProgram}
 use Rattle.tla_modules.specs.declared.fault.LoadFault.TheVariants.{Refused}
 use Rattle.tla_modules.specs.declared.fault.LoadWhy.{LoadWhy}
 use Rattle.tla_modules.specs.declared.loading.Loaded.{Loaded}
 use Rattle.tla_modules.specs.declared.notes.Noted.{Noted}
 use Rattle.tla_modules.specs.declared.so_far.Gathered.{Gathered}
-use Rattle.tla_modules.specs.Flattened.{OutcomeOf, Meets, Follows, Visits, closes_cycle, is_listed, was_read, one_too_many, is_visited, all_met, stopped, went_on, is_refused, stopped_below, is_whole, noted, nothing_read, with_module, with_read, with_standard}
+use Rattle.tla_modules.specs.Flattened.{OutcomeOf, Meets, Follows, Visits, Makes, MakesAll, closes_cycle, is_listed, was_read, one_too_many, is_visited, all_met, stopped, went_on, is_refused, is_nested, stopped_below, stopped_in_instance, is_whole, all_made, makes_none, not_made, is_made, passed_over, stopped_inside, has_program, begun_of_instance, noted, nothing_read, number_of, with_module, with_read}
 use Rattle.tla_modules.specs.Loads.{IsProgramBy, IsRefusedBy, LoadsBy, in_a_module, in_the_whole}
 use Rattle.tla_modules.specs.Readings.{Reading}
 use Rattle.tla_modules.specs.Refusals.{IsModule, Refuses, RefusesBytes, misnamed, misspelled, not_good, not_read}
-use Rattle.tla_modules.specs.Standard.{is_among}
-use Rattle.tla_modules.specs.Twice.{Repeats, declared_in}
 use Rattle.one_program.specs.AnyReading.{FlatteningMayStopBy, LoadingMayStopBy, NothingRepeatsBy, OneLoadingSeenBy, OneProgramSeenBy}
 use Rattle.one_program.specs.Readings.{IsReading, noted_by, seen_by}
 use Rattle.one_program.proofs.Beside.{flattening_may_stop_by, loading_may_stop_by, nothing_repeats_by}
@@ -27,26 +27,33 @@ noted_seen : {N A : Type 0} (f : N → A) (file : ℕ) (notes : List N) → map 
 noted_seen f file [] = refl
 noted_seen f file (n ∷ notes) = ap (λ v. record { file = file; note = f n } ∷ v) (noted_seen f file notes)
 
-picked : {A B : Type 0} (g : A → B) (b : Bool) (x y : A) → cond b (g x) (g y) ≡ g (cond b x y)
-picked g true x y = refl
-picked g false x y = refl
-
 abbrev so_seen : {N A : Type 0} → (N → A) → Gathered N → Gathered A
-so_seen f so = record { modules = so.modules; units = so.units; standard = so.standard; notes = map (noted_by f) so.notes }
+so_seen f so = record {
+  of_instance = so.of_instance;
+  modules = so.modules;
+  own = so.own;
+  units = so.units;
+  standard = so.standard;
+  notes = map (noted_by f) so.notes;
+  instances = so.instances;
+}
 
 abbrev outcome_seen : {N A : Type 0} → (N → A) → OutcomeOf N → OutcomeOf A
 outcome_seen f (Ok so) = Ok (so_seen f so)
 outcome_seen f (Err e) = Err e
 
-standard_seen : {N A : Type 0} (f : N → A) (so : Gathered N) (name : List ℕ) → with_standard (so_seen f so) name ≡ so_seen f (with_standard so name)
-standard_seen f so name =
-    picked (so_seen f) (is_among name so.standard) so
-    (record { modules = so.modules; units = so.units; standard = so.standard ++ name ∷ []; notes = so.notes })
-
 read_seen : {N A : Type 0} (f : N → A) (so : Gathered N) (number : ℕ) (m : Module) (notes : List N)
     → with_read (so_seen f so) number m (map f notes) ≡ so_seen f (with_read so number m notes)
 read_seen {A = A} f so number m notes =
-    ap (λ (v : List (Noted A)). record { modules = so.modules; units = so.units ++ m.units; standard = so.standard; notes = v })
+    ap (λ (v : List (Noted A)). record {
+      of_instance = so.of_instance;
+      modules = so.modules;
+      own = so.own;
+      units = so.units ++ m.units;
+      standard = so.standard;
+      notes = v;
+      instances = so.instances;
+    })
     (ap (λ (v : List (Noted A)). map (noted_by f) so.notes ++ v) (sym (noted_seen f number notes))
     ∙ sym (map_append (noted_by f) so.notes (noted number notes)))
 
@@ -67,9 +74,7 @@ module _ {N A : Type 0} (f : N → A) (reading : Reading N) (holds : Option (Lis
     meets_seen : (path : List (List ℕ)) (so : Gathered N) (name : List ℕ) (o : OutcomeOf N) → Meets reading holds folder path so name o
         → Meets (seen_by f reading) holds folder path (so_seen f so) name (outcome_seen f o)
     meets_seen _ _ _ _ (closes_cycle path so name names c) = closes_cycle path (so_seen f so) name names c
-    meets_seen _ _ _ _ (is_listed path so name a s) =
-        subst (λ (v : Gathered A). Meets (seen_by f reading) holds folder path (so_seen f so) name (Ok v)) (standard_seen f so name)
-        (is_listed path (so_seen f so) name a s)
+    meets_seen _ _ _ _ (is_listed path so name a s) = is_listed path (so_seen f so) name a s
     meets_seen _ _ _ _ (was_read path so name a s r) = was_read path (so_seen f so) name a s r
     meets_seen _ _ _ _ (one_too_many path so name a s r l) = one_too_many path (so_seen f so) name a s r l
     meets_seen _ _ _ _ (is_visited path so name o a s r l v) = is_visited path (so_seen f so) name (outcome_seen f o) a s r l (visits_seen path so name o v)
@@ -83,21 +88,42 @@ module _ {N A : Type 0} (f : N → A) (reading : Reading N) (holds : Option (Lis
 
     visits_seen : (path : List (List ℕ)) (so : Gathered N) (name : List ℕ) (o : OutcomeOf N) → Visits reading holds folder path so name o
         → Visits (seen_by f reading) holds folder path (so_seen f so) name (outcome_seen f o)
-    visits_seen _ _ _ _ (is_refused path so name why r) = is_refused path (so_seen f so) name why (refuses_seen (length so.modules) name why r)
-    visits_seen _ _ _ _ (stopped_below path so name m notes e i g) =
-        stopped_below path (so_seen f so) name m (map f notes) e (module_seen (length so.modules) name m notes i)
+    visits_seen _ _ _ _ (is_refused path so name why r) = is_refused path (so_seen f so) name why (refuses_seen (number_of name so.modules) name why r)
+    visits_seen _ _ _ _ (is_nested path so name m notes made i r t g) =
+        is_nested path (so_seen f so) name m (map f notes) made (module_seen (number_of name so.modules) name m notes i) r t g
+    visits_seen _ _ _ _ (stopped_below path so name m notes e i a g) =
+        stopped_below path (so_seen f so) name m (map f notes) e (module_seen (number_of name so.modules) name m notes i) a
         (follows_seen (path ++ name ∷ []) (with_module so name) m.extends (Err e) g)
-    visits_seen _ _ _ _ (is_whole path so below name m notes i g) =
-        subst (λ (v : Gathered A). Visits (seen_by f reading) holds folder path (so_seen f so) name (Ok v)) (read_seen f below (length so.modules) m notes)
-        (is_whole path (so_seen f so) (so_seen f below) name m (map f notes) (module_seen (length so.modules) name m notes i)
-        (follows_seen (path ++ name ∷ []) (with_module so name) m.extends (Ok below) g))
+    visits_seen _ _ _ _ (stopped_in_instance path so below name m notes e i a g k) =
+        stopped_in_instance path (so_seen f so) (so_seen f below) name m (map f notes) e (module_seen (number_of name so.modules) name m notes i) a
+        (follows_seen (path ++ name ∷ []) (with_module so name) m.extends (Ok below) g) (all_seen (path ++ name ∷ []) below m.units (Err e) k)
+    visits_seen _ _ _ _ (is_whole path so below all name m notes i a g k) =
+        subst (λ (v : Gathered A). Visits (seen_by f reading) holds folder path (so_seen f so) name (Ok v)) (read_seen f all (number_of name so.modules) m notes)
+        (is_whole path (so_seen f so) (so_seen f below) (so_seen f all) name m (map f notes) (module_seen (number_of name so.modules) name m notes i) a
+        (follows_seen (path ++ name ∷ []) (with_module so name) m.extends (Ok below) g) (all_seen (path ++ name ∷ []) below m.units (Ok all) k))
 
-  pub program_seen : (name : List ℕ) (p : Program) (notes : List (Noted N)) → IsProgramBy reading holds folder name p notes
+    all_seen : (path : List (List ℕ)) (so : Gathered N) (units : List ModuleUnit) (o : OutcomeOf N) → MakesAll reading holds folder path so units o
+        → MakesAll (seen_by f reading) holds folder path (so_seen f so) units (outcome_seen f o)
+    all_seen _ _ _ _ (all_made path so) = all_made path (so_seen f so)
+    all_seen _ _ _ _ (makes_none path so u us o n g) = makes_none path (so_seen f so) u us (outcome_seen f o) n (all_seen path so us o g)
+    all_seen _ _ _ _ (not_made path so u us made e n m) = not_made path (so_seen f so) u us made e n (makes_seen path so made (Err e) m)
+    all_seen _ _ _ _ (is_made path so next u us made o n m g) =
+        is_made path (so_seen f so) (so_seen f next) u us made (outcome_seen f o) n (makes_seen path so made (Ok next) m) (all_seen path next us o g)
+
+    makes_seen : (path : List (List ℕ)) (so : Gathered N) (made : Made) (o : OutcomeOf N) → Makes reading holds folder path so made o
+        → Makes (seen_by f reading) holds folder path (so_seen f so) made (outcome_seen f o)
+    makes_seen _ _ _ _ (passed_over path so made t) = passed_over path (so_seen f so) made t
+    makes_seen _ _ _ _ (stopped_inside path so made e t m) =
+        stopped_inside path (so_seen f so) made e t (meets_seen path (begun_of_instance so.modules) made.module_name (Err e) m)
+    makes_seen _ _ _ _ (has_program path so inner made t m) =
+        has_program path (so_seen f so) (so_seen f inner) made t (meets_seen path (begun_of_instance so.modules) made.module_name (Ok inner) m)
+
+  pub program_seen : (name : List ℕ) (p : WholeProgram) (notes : List (Noted N)) → IsProgramBy reading holds folder name p notes
       → IsProgramBy (seen_by f reading) holds folder name p (map (noted_by f) notes)
   program_seen name p notes i = record {
     all = so_seen f i.all;
     flattened = visits_seen [] nothing_read name (Ok i.all) i.flattened;
-    program = record { files = i.program.files; units = i.program.units; standard = i.program.standard };
+    program = record { files = i.program.files; units = i.program.units; standard = i.program.standard; instances = i.program.instances };
     noted = ap (λ (v : List (Noted N)). map (noted_by f) v) i.noted;
     names = i.names;
   }

@@ -1,7 +1,7 @@
 -- What is read is one, and what may be refused beside it, for any reading of the text of a module. It is said of files that tell.
 use Rattle.std.specs.Prelude.{◌≡◌, ℕ, List, map, Some, Ok, Err}
 use Rattle.trace_base.specs.Device.{File}
-use Rattle.tla_ast.specs.declared.module.Program.{Program}
+use Rattle.tla_ast.specs.declared.module.WholeProgram.{WholeProgram}
 use Rattle.tla_modules.specs.declared.fault.LoadFault.TheVariants.{Refused}
 use Rattle.tla_modules.specs.declared.fault.LoadWhy.{LoadWhy}
 use Rattle.tla_modules.specs.declared.loading.Loaded.{Loaded}
@@ -10,7 +10,7 @@ use Rattle.tla_modules.specs.declared.so_far.Gathered.{Gathered}
 use Rattle.tla_modules.specs.Flattened.{FlattenedBy}
 use Rattle.tla_modules.specs.Loads.{IsProgramBy, LoadsBy}
 use Rattle.tla_modules.specs.Readings.{Reading}
-use Rattle.tla_modules.specs.Twice.{declared_in, Repeats}
+use Rattle.tla_modules.specs.Twice.{OneRepeats}
 use Rattle.one_program.specs.Laws.{MayStop}
 use Rattle.one_program.specs.Readings.{noted_by}
 
@@ -23,7 +23,7 @@ OneFlatteningBy {N} reading =
 -- a main module has one program, and its modules have the same notes
 abbrev pub OneProgramBy : {N : Type 0} → Reading N → Type 0
 OneProgramBy {N} reading =
-    (files : List File) (folder name : List ℕ) (p q : Program) (notes others : List (Noted N)) → IsProgramBy reading (Some files) folder name p notes
+    (files : List File) (folder name : List ℕ) (p q : WholeProgram) (notes others : List (Noted N)) → IsProgramBy reading (Some files) folder name p notes
     → IsProgramBy reading (Some files) folder name q others → (p ≡ q) × (notes ≡ others)
 
 -- so a path gives one program and the same notes, whatever the counts of faults are
@@ -35,7 +35,7 @@ OneLoadingBy {N} reading =
 -- the same, where of each note is told what the function gives
 abbrev pub OneProgramSeenBy : {N A : Type 0} → (N → A) → Reading N → Type 0
 OneProgramSeenBy {N} f reading =
-    (files : List File) (folder name : List ℕ) (p q : Program) (notes others : List (Noted N)) → IsProgramBy reading (Some files) folder name p notes
+    (files : List File) (folder name : List ℕ) (p q : WholeProgram) (notes others : List (Noted N)) → IsProgramBy reading (Some files) folder name p notes
     → IsProgramBy reading (Some files) folder name q others → (p ≡ q) × (map (noted_by f) notes ≡ map (noted_by f) others)
 
 abbrev pub OneLoadingSeenBy : {N A : Type 0} → (N → A) → Reading N → Type 0
@@ -53,9 +53,9 @@ FlatteningMayStopBy {N} reading =
 -- no name of a program is declared twice
 abbrev pub NothingRepeatsBy : {N : Type 0} → Reading N → Type 0
 NothingRepeatsBy {N} reading =
-    (files : List File) (folder name : List ℕ) (p : Program) (notes : List (Noted N)) (all : Gathered N) (why : LoadWhy)
+    (files : List File) (folder name : List ℕ) (p : WholeProgram) (notes : List (Noted N)) (all : Gathered N) (why : LoadWhy)
     → IsProgramBy reading (Some files) folder name p notes → FlattenedBy reading (Some files) folder name (Ok all)
-    → Repeats all.standard (declared_in all.units) why → ⊥
+    → OneRepeats all.standard all.units all.instances why → ⊥
 
 abbrev pub LoadingMayStopBy : {N : Type 0} → Reading N → Type 0
 LoadingMayStopBy {N} reading =

@@ -4,16 +4,16 @@ use Rattle.trace_base.specs.Device.{File, IsWhole}
 use Rattle.trace_base.specs.declared.place.Place.{Place}
 use Rattle.trace_base.specs.declared.reading.ReadFault.TheVariants.{Failed}
 use Rattle.tla_ast.specs.declared.config.Config.{Config}
-use Rattle.tla_ast.specs.declared.module.Program.{Program}
+use Rattle.tla_ast.specs.declared.module.WholeProgram.{WholeProgram}
 use Rattle.tla_config.specs.declared.fault.ConfigKind.{ConfigKind}
 use Rattle.wide_config.specs.Wide.{ReadsBy}
 use Rattle.tla_modules.specs.declared.fault.LoadFault.TheVariants.{Refused}
 use Rattle.tla_modules.specs.declared.fault.LoadWhy.{LoadWhy}
-use Rattle.tla_modules.specs.declared.fault.LoadWhy.TheVariants.{Read, Lex, Lay, Parse, Cycle, TooMany, Twice, WrongName}
+use Rattle.tla_modules.specs.declared.fault.LoadWhy.TheVariants.{Read, Lex, Lay, Parse, Cycle, TooMany, Twice, WrongName, Nested}
 use Rattle.tla_modules.specs.Flattened.{Flattened, SoFar}
 use Rattle.tla_modules.specs.Loads.{IsProgram, Loads}
 use Rattle.tla_modules.specs.Paths.{IsPath}
-use Rattle.tla_modules.specs.Twice.{declared_in, Repeats}
+use Rattle.tla_modules.specs.Twice.{OneRepeats}
 
 -- ---- what is read
 
@@ -33,12 +33,12 @@ OneFlattening =
 -- a main module has one program
 abbrev pub OneProgram : Type 0
 OneProgram =
-    (files : List File) (folder name : List ℕ) (p q : Program) → IsProgram (Some files) folder name p → IsProgram (Some files) folder name q → p ≡ q
+    (files : List File) (folder name : List ℕ) (p q : WholeProgram) → IsProgram (Some files) folder name p → IsProgram (Some files) folder name q → p ≡ q
 
 -- a path gives one program, whatever the counts of faults are
 abbrev pub OneLoading : Type 0
 OneLoading =
-    (files : List File) (before now earlier later : ℕ) (path : List ℕ) (p q : Program) → Loads (Some files) before now path (Ok p)
+    (files : List File) (before now earlier later : ℕ) (path : List ℕ) (p q : WholeProgram) → Loads (Some files) before now path (Ok p)
     → Loads (Some files) earlier later path (Ok q) → p ≡ q
 
 -- a text gives one configuration, with `--wide` and without it
@@ -57,6 +57,7 @@ MayStop (Cycle names) = ⊥
 MayStop (TooMany name) = ⊥
 MayStop (Twice name later earlier) = ⊥
 MayStop (WrongName name at) = ⊥
+MayStop (Nested name at) = ⊥
 
 abbrev pub FlatteningMayStop : Type 0
 FlatteningMayStop =
@@ -66,12 +67,12 @@ FlatteningMayStop =
 -- no name of a program is declared twice
 abbrev pub NothingRepeats : Type 0
 NothingRepeats =
-    (files : List File) (folder name : List ℕ) (p : Program) (all : SoFar) (why : LoadWhy) → IsProgram (Some files) folder name p
-    → Flattened (Some files) folder name (Ok all) → Repeats all.standard (declared_in all.units) why → ⊥
+    (files : List File) (folder name : List ℕ) (p : WholeProgram) (all : SoFar) (why : LoadWhy) → IsProgram (Some files) folder name p
+    → Flattened (Some files) folder name (Ok all) → OneRepeats all.standard all.units all.instances why → ⊥
 
 abbrev pub LoadingMayStop : Type 0
 LoadingMayStop =
-    (files : List File) (before now earlier later : ℕ) (path : List ℕ) (p : Program) (named : List (List ℕ)) (why : LoadWhy)
+    (files : List File) (before now earlier later : ℕ) (path : List ℕ) (p : WholeProgram) (named : List (List ℕ)) (why : LoadWhy)
     → Loads (Some files) before now path (Ok p) → Loads (Some files) earlier later path (Err (Refused named why)) → MayStop why
 
 -- a text that gives a configuration is not refused

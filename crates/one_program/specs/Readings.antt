@@ -27,6 +27,7 @@ seen_by {N} f reading = record {
   Spells = λ number bytes m notes. (all : List N) × reading.Spells number bytes m all × (notes ≡ map f all);
   Misspells = reading.Misspells;
   of_text = reading.of_text;
+  refuses_nested = reading.refuses_nested;
 }
 
 abbrev pub noted_by : {N A : Type 0} → (N → A) → Noted N → Noted A

@@ -4,6 +4,7 @@ use Rattle.std.specs.Prelude.{drop}
 use Rattle.trace_base.specs.Device.{File}
 use Rattle.tla_ast.specs.declared.config.Config.{Config}
 use Rattle.tla_ast.specs.declared.module.Program.{Program}
+use Rattle.tla_ast.specs.declared.module.WholeProgram.{WholeProgram}
 use Rattle.tla_modules.specs.declared.notes.Noted.{Noted}
 use Rattle.tla_modules.specs.Loads.{IsProgramBy}
 use Rattle.tla_modules.specs.Paths.{IsPath}
@@ -12,6 +13,7 @@ use Rattle.wide_modules.specs.declared.unread.Unread.{Unread}
 use Rattle.wide_modules.specs.Wide.{reading_by}
 use Rattle.tla_terms.specs.declared.spec.Spec.{Spec}
 use Rattle.specification_names.specs.Resolving.{ResolvedBy}
+use Rattle.whole_programs.specs.Expansion.{ExpansionBy}
 use Rattle.wide_reading.specs.Passing.{Passes}
 use Rattle.log_lines.specs.declared.file.FileLines.{FileLines}
 use Rattle.run_words.specs.declared.job.Job.{Job}
@@ -43,32 +45,34 @@ pub one_longer : (fs : List FileLines) (f : FileLines) → length (fs ++ f ∷ [
 one_longer fs f = omega (arith, length-append fs (f ∷ []))
 
 module _ (holds : Option (List File)) (job : Job) where
-  abbrev pub LoadedBy : Program → List (Noted Unread) → Type 0
-  LoadedBy p unread = (folder : List ℕ) × (name : List ℕ) × IsPath job.module folder name × IsProgramBy (reading_by job.wide) holds folder name p unread
+  abbrev pub LoadedBy : WholeProgram → List (Noted Unread) → Type 0
+  LoadedBy whole unread = (folder : List ℕ) × (name : List ℕ) × IsPath job.module folder name × IsProgramBy (reading_by job.wide) holds folder name whole unread
 
-  pub loaded_by : (p : Program) (unread : List (Noted Unread)) → Reaches holds job (loaded p unread) → LoadedBy p unread
-  loaded_by _ _ (loads folder name p unread path is) = (folder, name, path, is)
+  pub loaded_by : (whole : WholeProgram) (unread : List (Noted Unread)) → Reaches holds job (loaded whole unread) → LoadedBy whole unread
+  loaded_by _ _ (loads folder name whole unread path is) = (folder, name, path, is)
 
   abbrev pub WithoutText : Config → Type 0
   WithoutText c = (job.config ≡ None) × (c ≡ without_file)
 
-  abbrev pub WithText : Program → Config → Type 0
-  WithText p c = (name : List ℕ) × (text : List ℕ) × (job.config ≡ Some name) × HasText holds name config_limit text × ReadsBy job.wide (length p.files) name text (Ok c)
+  abbrev pub WithText : WholeProgram → Config → Type 0
+  WithText w c = (name : List ℕ) × (text : List ℕ) × (job.config ≡ Some name) × HasText holds name config_limit text × ReadsBy job.wide (length w.program.files) name text (Ok c)
 
-  pub given_by : (p : Program) (unread : List (Noted Unread)) (c : Config) → Reaches holds job (given p unread c) → Reaches holds job (loaded p unread) × (WithoutText c ⊎ WithText p c)
+  pub given_by : (w : WholeProgram) (unread : List (Noted Unread)) (c : Config) → Reaches holds job (given w unread c) → Reaches holds job (loaded w unread) × (WithoutText c ⊎ WithText w c)
   given_by _ _ _ (needs_no_configuration p unread reaches none) = (reaches, inl (none, refl))
   given_by _ _ _ (reads_configuration p unread name text c reaches some has reads) = (reaches, inr (name, text, some, has, reads))
 
   -- the texts of which it is what is left
   pub record ConfiguredBy (q : Program) (d : Config) : Type 0 where
+    pub whole : WholeProgram
     pub program : Program
     pub unread : List (Noted Unread)
     pub config : Config
-    pub reaches : Reaches holds job (given program unread config)
+    pub reaches : Reaches holds job (given whole unread config)
+    pub expands : ExpansionBy job.wide whole (Ok program)
     pub passed : Passes program config job.silent unread job.wide q d
 
   pub configured_by : (q : Program) (d : Config) → Reaches holds job (configured q d) → ConfiguredBy q d
-  configured_by _ _ (passes p q unread c d reaches is) = record { program = p; unread = unread; config = c; reaches = reaches; passed = is }
+  configured_by _ _ (passes w p q unread c d reaches expands is) = record { whole = w; program = p; unread = unread; config = c; reaches = reaches; expands = expands; passed = is }
 
   pub resolved_by : (p : Program) (c : Config) (s : Spec) → Reaches holds job (resolved p c s) → Reaches holds job (configured p c) × ResolvedBy job.wide p c job.silent (Ok s)
   resolved_by _ _ _ (resolves p c s reaches is) = (reaches, is)

@@ -2,11 +2,13 @@ ghost use Rattle.one_reading.specs.Laws.{GivenIsOne, GivenStaysWide, ReadingIsOn
 
 use alike_lined::alike_lined_laws;
 use alike_logs::alike_logs_laws;
+use expanded_laws::expanded_laws;
 use load_laws::configuration_laws;
 use one_outcome::outcome_laws;
 use one_program::one_program_laws;
 use resolved_laws::resolved_laws;
 use state_files::state_laws;
+use whole_programs::expansion_laws;
 use wide_config::one_configuration_by;
 use wide_load_laws::wide_load_laws;
 use wide_modules::wide_program_laws;
@@ -22,6 +24,8 @@ pub fn reading_laws()
     one_program_laws();
     wide_program_laws();
     wide_load_laws();
+    expanded_laws();
+    expansion_laws();
     configuration_laws();
     pruning_laws();
     passing_laws();
@@ -40,5 +44,6 @@ pub fn strict_stays_wide()
     ensures only { WideIsStrict }
 {
     one_configuration_by();
+    expansion_laws();
     reading_laws();
 }

@@ -1,16 +1,17 @@
 -- Two refusals of one run are one: no reading goes on behind a stage at which another does not, and at one stage all say the same.
 use Rattle.std.proofs.Common.{◌≡◌, ◌∙◌, ◌<◌, ◌++◌, ℕ, List, [], ◌∷◌, length, Some, Result, Ok, Err, arith, inl, inr, refl, subst, sym}
 use Rattle.std.proofs.lemmas.Bool.{cases_lt}
-use Rattle.std.specs.Prelude.{Bool}
+use Rattle.std.specs.Prelude.{◌⊎◌, Bool}
 use Rattle.trace_base.specs.Device.{File}
 use Rattle.trace_base.specs.declared.place.Place.{Place}
 use Rattle.trace_base.specs.declared.reading.ReadFault.{ReadFault}
 use Rattle.trace_base.specs.declared.reading.ReadFault.TheVariants.{Failed, Missing, TooLong}
 use Rattle.tla_ast.specs.declared.config.Config.{Config}
 use Rattle.tla_ast.specs.declared.module.Program.{Program}
+use Rattle.tla_ast.specs.declared.module.WholeProgram.{WholeProgram}
 use Rattle.tla_config.specs.declared.fault.ConfigKind.{ConfigKind}
 use Rattle.tla_modules.specs.declared.fault.LoadWhy.{LoadWhy}
-use Rattle.tla_modules.specs.declared.fault.LoadWhy.TheVariants.{Cycle, Lay, Lex, Parse, Read, TooMany, Twice, WrongName}
+use Rattle.tla_modules.specs.declared.fault.LoadWhy.TheVariants.{Cycle, Lay, Lex, Nested, Parse, Read, TooMany, Twice, WrongName}
 use Rattle.tla_modules.specs.declared.notes.Noted.{Noted}
 use Rattle.tla_modules.specs.declared.so_far.Gathered.{Gathered}
 use Rattle.tla_modules.specs.Flattened.{FlattenedBy}
@@ -36,18 +37,18 @@ use Rattle.run_reading.specs.Texts.{HasText, LogsRead, config_limit}
 use Rattle.run_reading.specs.Reaches.{Reaches, Stage, begun, configured, given, loaded, logged, resolved}
 use Rattle.run_reading.specs.Refusals.{IsOfText, IsRefusal, all_files, is_missing, is_refused, is_too_long}
 use Rattle.one_program.specs.Laws.{NoConfigurationRefused}
-use Rattle.one_reading.proofs.OneReading.{Given, Parts, begun_same, configured_same, form_is_one, given_form, given_same, in_order, passed_there, passing_parts, program_of, resolved_there, same_program}
+use Rattle.one_reading.proofs.OneReading.{Given, Parts, begun_same, configured_same, expanded_same, one_expanded, form_is_one, given_form, given_same, in_order, passed_there, passing_parts, program_of, resolved_there, same_program}
 use Rattle.one_reading.proofs.Outcomes.{one_outcome_by}
 use Rattle.one_reading.proofs.Passing.{no_piece}
 use Rattle.one_reading.proofs.Stages.{ConfiguredBy, LoadedBy, configured_by, given_by, loaded_by, logged_from, none_is_some, resolved_by, some_is}
 use Rattle.not_refused.proofs.Forms.{FormsKnown, forms_accepted}
 use Rattle.not_refused.proofs.LogsBeside.{whole_forms}
 use Rattle.not_refused.proofs.Sought.{flattening_so}
-use Rattle.one_refusal.specs.Laws.{Halts, ModulesHaltOnce, PiecesHaltOnce, RefusalIsOne, at_long, at_missing, at_text}
+use Rattle.one_refusal.specs.Laws.{Halts, IsMade, ModulesHaltOnce, PiecesHaltOnce, RefusalIsOne, at_long, at_missing, at_text}
 use Rattle.one_refusal.proofs.FileHalts.{FileHalts, no_halt, one_halt}
 use Rattle.one_refusal.proofs.FirstFaults.{one_first}
 use Rattle.one_refusal.proofs.LogHalts.{LogHalts, log_alone, log_never}
-use Rattle.one_refusal.proofs.Views.{ConfigRefused, ModulesHalt, PieceHalts, View, halts_long, halts_missing, halts_text, halts_twice, view_of}
+use Rattle.one_refusal.proofs.Views.{ConfigRefused, InstanceHalts, ModulesHalt, PieceHalts, View, halts_long, halts_missing, halts_text, halts_twice, view_of}
 
 -- What is known of the parts of reading, and of what is refused beside them.
 pub record Known : Type 0 where
@@ -67,6 +68,15 @@ long_no_fail e = cc
 pair_is : (x y : ConfigKind × Place) (r q : Result Config (ConfigKind × Place)) → r ≡ Err x → q ≡ Err y → r ≡ q → x ≡ y
 pair_is x y r q a b e = let there : Err x ≡ Err y = sym a ∙ e ∙ b in cc
 
+never_both : (fault : ResolveFault) (p : Program) → (let r : Result Program ResolveFault = Err fault in r ≡ Ok p) → ⊥
+never_both fault p e = cc
+
+never_either : (p : Program) (fault : ResolveFault) → (let r : Result Program ResolveFault = Ok p in r ≡ Err fault) → ⊥
+never_either p fault e = cc
+
+fault_is : (f g : ResolveFault) → (let r : Result Program ResolveFault = Err f in r ≡ Err g) → f ≡ g
+fault_is f g e = cc
+
 module _ (known : Known) (files : List File) (job : Job) where
   abbrev Flat : List ℕ → List ℕ → Gathered Unread → Type 0
   Flat folder main all = FlattenedBy (reading_by job.wide) (Some files) folder main (Ok all)
@@ -83,13 +93,14 @@ module _ (known : Known) (files : List File) (job : Job) where
   text_accepted folder main all modules (TooMany other) h g t = known.stops job.wide files folder main all modules (TooMany other) h g
   text_accepted folder main all modules (Twice other later earlier) h g t = known.stops job.wide files folder main all modules (Twice other later earlier) h g
   text_accepted folder main all modules (WrongName other at) h g t = known.stops job.wide files folder main all modules (WrongName other at) h g
+  text_accepted folder main all modules (Nested other at) h g t = known.stops job.wide files folder main all modules (Nested other at) h g
 
   file_accepted : (folder main : List ℕ) (all : Gathered Unread) (modules : List (List ℕ)) (file : List ℕ) (fault : ReadFault) → Flat folder main all
       → FlattenedBy (reading_by job.wide) (Some files) folder main (Err (modules, Read file Failed)) → IsUnread (Some files) file fault → fault ≡ Failed
   file_accepted folder main all modules file fault h g u =
       known.stops job.wide files folder main all modules (Read file fault) h (flattening_so (reading_by job.wide) (Some files) folder file fault u main modules g)
 
-  never_begun : (p : Program) (unread : List (Noted Unread)) → LoadedBy (Some files) job p unread → ModulesHalt files job → ⊥
+  never_begun : (p : WholeProgram) (unread : List (Noted Unread)) → LoadedBy (Some files) job p unread → ModulesHalt files job → ⊥
   never_begun p unread by (halts_missing folder main modules file path fails none) =
       let is = program_of known.parts files job folder main p unread path by in
       missing_no_fail (file_accepted folder main is.all modules file Missing is.flattened fails none)
@@ -104,37 +115,37 @@ module _ (known : Known) (files : List File) (job : Job) where
 
   -- ---- behind the configuration
 
-  one_program : (p q : Program) (unread others : List (Noted Unread)) → Reaches (Some files) job (loaded p unread) → Reaches (Some files) job (loaded q others) → p ≡ q
+  one_program : (p q : WholeProgram) (unread others : List (Noted Unread)) → Reaches (Some files) job (loaded p unread) → Reaches (Some files) job (loaded q others) → p ≡ q
   one_program p q unread others a b = (same_program known.parts files job p q unread others (loaded_by (Some files) job p unread a) (loaded_by (Some files) job q others b)).0
 
-  abbrev ConfigView : Program → List ℕ → Type 0
+  abbrev ConfigView : WholeProgram → List ℕ → Type 0
   ConfigView q report = (name : List ℕ) × (job.config ≡ Some name) × FileHalts files name config_limit (ConfigRefused files job q name) report
 
-  config_never : (p q : Program) (c : Config) (report : List ℕ) → p ≡ q → Given known.parts files job p c → ConfigView q report → ⊥
+  config_never : (p q : WholeProgram) (c : Config) (report : List ℕ) → p ≡ q → Given known.parts files job p c → ConfigView q report → ⊥
   config_never p q c report same (inl a) view = none_is_some view.0 (sym a.0 ∙ view.1)
   config_never p q c report same (inr a) view =
       let named : a.0 ≡ view.0 = some_is a.0 view.0 (sym a.2 ∙ view.1) in
       let has : HasText (Some files) view.0 config_limit a.1 = subst (λ (x : List ℕ). HasText (Some files) x config_limit a.1) named a.3 in
-      let here : ReadsBy job.wide (length p.files) view.0 a.1 (Ok c) = subst (λ (x : List ℕ). ReadsBy job.wide (length p.files) x a.1 (Ok c)) named a.4 in
-      let reads : ReadsBy job.wide (length q.files) view.0 a.1 (Ok c) = subst (λ (x : Program). ReadsBy job.wide (length x.files) view.0 a.1 (Ok c)) same here in
+      let here : ReadsBy job.wide (length p.program.files) view.0 a.1 (Ok c) = subst (λ (x : List ℕ). ReadsBy job.wide (length p.program.files) x a.1 (Ok c)) named a.4 in
+      let reads : ReadsBy job.wide (length q.program.files) view.0 a.1 (Ok c) = subst (λ (x : WholeProgram). ReadsBy job.wide (length x.program.files) view.0 a.1 (Ok c)) same here in
       no_halt files view.0 config_limit (ConfigRefused files job q view.0) a.1 has
-      (λ r bad. known.configuration job.wide (length q.files) view.0 a.1 c bad.0 bad.1 reads bad.2) report view.2
+      (λ r bad. known.configuration job.wide (length q.program.files) view.0 a.1 c bad.0 bad.1 reads bad.2) report view.2
 
-  never_loaded : (p q : Program) (unread others : List (Noted Unread)) (c : Config) (report : List ℕ) → Reaches (Some files) job (given p unread c) → Reaches (Some files) job (loaded q others)
+  never_loaded : (p q : WholeProgram) (unread others : List (Noted Unread)) (c : Config) (report : List ℕ) → Reaches (Some files) job (given p unread c) → Reaches (Some files) job (loaded q others)
       → View files job (loaded q others) report → ⊥
   never_loaded p q unread others c report a b view =
       let by = given_by (Some files) job p unread c a in
       config_never p q c report (one_program p q unread others by.0 b) by.1 view
 
-  config_alone : (p q : Program) (name : List ℕ) → p ≡ q → (text r k : List ℕ) → ConfigRefused files job p name text r → ConfigRefused files job q name text k → r ≡ k
+  config_alone : (p q : WholeProgram) (name : List ℕ) → p ≡ q → (text r k : List ℕ) → ConfigRefused files job p name text r → ConfigRefused files job q name text k → r ≡ k
   config_alone p q name programs text r k bad worse =
       let one : ConfigKind × Place = (bad.0, bad.1) in
       let two : ConfigKind × Place = (worse.0, worse.1) in
-      let reads : ReadsBy job.wide (length p.files) name text (Err two) = subst (λ (x : Program). ReadsBy job.wide (length x.files) name text (Err two)) (sym programs) worse.2 in
-      let same : one ≡ two = pair_is one two (Err one) (Err two) refl refl (known.one_configuration job.wide (length p.files) name text (Err one) (Err two) bad.2 reads) in
-      bad.3 ∙ ((λ i. config_refusal ((programs i).files ++ name ∷ []) (same i).0 (same i).1) ∙ sym worse.3)
+      let reads : ReadsBy job.wide (length p.program.files) name text (Err two) = subst (λ (x : WholeProgram). ReadsBy job.wide (length x.program.files) name text (Err two)) (sym programs) worse.2 in
+      let same : one ≡ two = pair_is one two (Err one) (Err two) refl refl (known.one_configuration job.wide (length p.program.files) name text (Err one) (Err two) bad.2 reads) in
+      bad.3 ∙ ((λ i. config_refusal ((programs i).program.files ++ name ∷ []) (same i).0 (same i).1) ∙ sym worse.3)
 
-  one_loaded : (p q : Program) (unread others : List (Noted Unread)) (r k : List ℕ) → Reaches (Some files) job (loaded p unread) → Reaches (Some files) job (loaded q others)
+  one_loaded : (p q : WholeProgram) (unread others : List (Noted Unread)) (r k : List ℕ) → Reaches (Some files) job (loaded p unread) → Reaches (Some files) job (loaded q others)
       → View files job (loaded p unread) r → View files job (loaded q others) k → r ≡ k
   one_loaded p q unread others r k a b here there =
       let named : here.0 ≡ there.0 = some_is here.0 there.0 (sym here.1 ∙ there.1) in
@@ -145,14 +156,37 @@ module _ (known : Known) (files : List File) (job : Job) where
 
   -- ---- behind what is passed over
 
-  never_given : (p q : Program) (c d : Config) (others : List (Noted Unread)) → Reaches (Some files) job (configured p c) → Reaches (Some files) job (given q others d)
-      → PieceHalts files job q others d → ⊥
-  never_given p q c d others a b halts =
+  -- what is made of the same texts
+  never_given : (p : Program) (q : WholeProgram) (c d : Config) (others : List (Noted Unread)) (report : List ℕ) → Reaches (Some files) job (configured p c) → Reaches (Some files) job (given q others d)
+      → InstanceHalts files job q d report ⊎ PieceHalts files job q others d → ⊥
+  never_given p q c d others report a b halts =
       let by : ConfiguredBy (Some files) job p c = configured_by (Some files) job p c a in
-      let same = given_same known.parts files job q by.program others by.unread d by.config b by.reaches in
-      let there : Passes q d job.silent others job.wide p c = passed_there known.parts files job q by.program p others by.unread d by.config c same by.passed in
-      no_piece (passing_parts known.parts) q d job.silent (given_form known.parts files job q others d b) others p c halts.1.0 halts.1.1
-      (subst (λ (w : Bool). Passes q d job.silent others w p c) halts.0 there) halts.1.2
+      let same = given_same known.parts files job q by.whole others by.unread d by.config b by.reaches in
+      elim halts [
+        | inl wrong ↦ never_both wrong.0 by.program (one_expanded known.parts files job q by.whole others by.unread d by.config (Err wrong.0) (Ok by.program) same wrong.1 by.expands)
+        | inr piece ↦
+            let programs : piece.0 ≡ by.program = expanded_same known.parts files job q by.whole others by.unread d by.config piece.0 by.program same piece.1 by.expands in
+            let there : Passes piece.0 d job.silent others job.wide p c = passed_there known.parts files job q by.whole piece.0 by.program p others by.unread d by.config c same programs by.passed in
+            no_piece (passing_parts known.parts) piece.0 d job.silent (given_form known.parts files job q others d b) others p c piece.3.0 piece.3.1
+            (subst (λ (w : Bool). Passes piece.0 d job.silent others w p c) piece.2 there) piece.3.2
+      ]
+
+  one_given : (p q : WholeProgram) (unread others : List (Noted Unread)) (c d : Config) (r k : List ℕ) → Reaches (Some files) job (given p unread c) → Reaches (Some files) job (given q others d)
+      → InstanceHalts files job p c r ⊎ PieceHalts files job p unread c → InstanceHalts files job q d k ⊎ PieceHalts files job q others d → (IsMade job p → IsMade job q → r ≡ k) → r ≡ k
+  one_given p q unread others c d r k a b here there pieces =
+      let same = given_same known.parts files job p q unread others c d a b in
+      elim here [
+        | inl wrong ↦ elim there [
+          | inl worse ↦
+              let one : wrong.0 ≡ worse.0 = fault_is wrong.0 worse.0 (one_expanded known.parts files job p q unread others c d (Err wrong.0) (Err worse.0) same wrong.1 worse.1) in
+              wrong.2 ∙ ((λ i. names_refusal (all_files (same.programs i).program (same.configurations i)) (one i)) ∙ sym worse.2)
+          | inr piece ↦ absurd (never_both wrong.0 piece.0 (one_expanded known.parts files job p q unread others c d (Err wrong.0) (Ok piece.0) same wrong.1 piece.1))
+        ]
+        | inr piece ↦ elim there [
+          | inl worse ↦ absurd (never_either piece.0 worse.0 (one_expanded known.parts files job p q unread others c d (Ok piece.0) (Err worse.0) same piece.1 worse.1))
+          | inr other ↦ pieces (piece.0, piece.1) (other.0, other.1)
+        ]
+      ]
 
   -- ---- behind names
 
@@ -234,7 +268,7 @@ module _ (known : Known) (files : List File) (job : Job) where
 
   -- ---- what stands behind what
 
-  loaded_under : (p : Program) (unread : List (Noted Unread)) (c : Config) → Reaches (Some files) job (given p unread c) → LoadedBy (Some files) job p unread
+  loaded_under : (p : WholeProgram) (unread : List (Noted Unread)) (c : Config) → Reaches (Some files) job (given p unread c) → LoadedBy (Some files) job p unread
   loaded_under p unread c a = loaded_by (Some files) job p unread (given_by (Some files) job p unread c a).0
 
   by : (p : Program) (c : Config) → Reaches (Some files) job (configured p c) → ConfiguredBy (Some files) job p c
@@ -248,7 +282,7 @@ module _ (known : Known) (files : List File) (job : Job) where
 
   -- no reading is behind the modules
   configured_never : (p : Program) (c : Config) → Reaches (Some files) job (configured p c) → ModulesHalt files job → ⊥
-  configured_never p c a halts = never_begun (by p c a).program (by p c a).unread (loaded_under (by p c a).program (by p c a).unread (by p c a).config (by p c a).reaches) halts
+  configured_never p c a halts = never_begun (by p c a).whole (by p c a).unread (loaded_under (by p c a).whole (by p c a).unread (by p c a).config (by p c a).reaches) halts
 
   begun_never : (stage : Stage) → Reaches (Some files) job stage → ModulesHalt files job → (stage ≡ begun → ⊥) → ⊥
   begun_never begun a halts other = other refl
@@ -259,7 +293,7 @@ module _ (known : Known) (files : List File) (job : Job) where
   begun_never (logged p c s read names) a halts other = configured_never p c (under p c s (from p c s read names a)) halts
 
   -- what is behind the configuration
-  given_under : (p : Program) (c : Config) → (a : Reaches (Some files) job (configured p c)) → Reaches (Some files) job (given (by p c a).program (by p c a).unread (by p c a).config)
+  given_under : (p : Program) (c : Config) → (a : Reaches (Some files) job (configured p c)) → Reaches (Some files) job (given (by p c a).whole (by p c a).unread (by p c a).config)
   given_under p c a = (by p c a).reaches
 
   module _ (modules : ModulesHaltOnce files job) (pieces : PiecesHaltOnce files job) where
@@ -272,29 +306,30 @@ module _ (known : Known) (files : List File) (job : Job) where
     at_begun (resolved p c s) r k b h g = absurd (begun_never (resolved p c s) b (view_of files job begun r h) (λ e. cc))
     at_begun (logged p c s read names) r k b h g = absurd (begun_never (logged p c s read names) b (view_of files job begun r h) (λ e. cc))
 
-    at_loaded : (p : Program) (unread : List (Noted Unread)) (stage : Stage) (r k : List ℕ) → Reaches (Some files) job (loaded p unread) → Reaches (Some files) job stage
+    at_loaded : (p : WholeProgram) (unread : List (Noted Unread)) (stage : Stage) (r k : List ℕ) → Reaches (Some files) job (loaded p unread) → Reaches (Some files) job stage
         → Halts files job (loaded p unread) r → Halts files job stage k → r ≡ k
     at_loaded p unread begun r k a b h g = sym (at_begun (loaded p unread) k r a g h)
     at_loaded p unread (loaded q others) r k a b h g = one_loaded p q unread others r k a b (view_of files job (loaded p unread) r h) (view_of files job (loaded q others) k g)
     at_loaded p unread (given q others d) r k a b h g = absurd (never_loaded q p others unread d r b a (view_of files job (loaded p unread) r h))
     at_loaded p unread (configured q d) r k a b h g =
-        absurd (never_loaded (by q d b).program p (by q d b).unread unread (by q d b).config r (given_under q d b) a (view_of files job (loaded p unread) r h))
+        absurd (never_loaded (by q d b).whole p (by q d b).unread unread (by q d b).config r (given_under q d b) a (view_of files job (loaded p unread) r h))
     at_loaded p unread (resolved q d t) r k a b h g =
         let u = under q d t b in
-        absurd (never_loaded (by q d u).program p (by q d u).unread unread (by q d u).config r (given_under q d u) a (view_of files job (loaded p unread) r h))
+        absurd (never_loaded (by q d u).whole p (by q d u).unread unread (by q d u).config r (given_under q d u) a (view_of files job (loaded p unread) r h))
     at_loaded p unread (logged q d t read names) r k a b h g =
         let u = under q d t (from q d t read names b) in
-        absurd (never_loaded (by q d u).program p (by q d u).unread unread (by q d u).config r (given_under q d u) a (view_of files job (loaded p unread) r h))
+        absurd (never_loaded (by q d u).whole p (by q d u).unread unread (by q d u).config r (given_under q d u) a (view_of files job (loaded p unread) r h))
 
-    at_given : (p : Program) (unread : List (Noted Unread)) (c : Config) (stage : Stage) (r k : List ℕ) → Reaches (Some files) job (given p unread c) → Reaches (Some files) job stage
+    at_given : (p : WholeProgram) (unread : List (Noted Unread)) (c : Config) (stage : Stage) (r k : List ℕ) → Reaches (Some files) job (given p unread c) → Reaches (Some files) job stage
         → Halts files job (given p unread c) r → Halts files job stage k → r ≡ k
     at_given p unread c begun r k a b h g = sym (at_begun (given p unread c) k r a g h)
     at_given p unread c (loaded q others) r k a b h g = sym (at_loaded q others (given p unread c) k r b a g h)
-    at_given p unread c (given q others d) r k a b h g = pieces p q unread others c d r k a b h g
-    at_given p unread c (configured q d) r k a b h g = absurd (never_given q p d c unread b a (view_of files job (given p unread c) r h))
-    at_given p unread c (resolved q d t) r k a b h g = absurd (never_given q p d c unread (under q d t b) a (view_of files job (given p unread c) r h))
+    at_given p unread c (given q others d) r k a b h g =
+        one_given p q unread others c d r k a b (view_of files job (given p unread c) r h) (view_of files job (given q others d) k g) (λ x y. pieces p q unread others c d r k x y a b h g)
+    at_given p unread c (configured q d) r k a b h g = absurd (never_given q p d c unread r b a (view_of files job (given p unread c) r h))
+    at_given p unread c (resolved q d t) r k a b h g = absurd (never_given q p d c unread r (under q d t b) a (view_of files job (given p unread c) r h))
     at_given p unread c (logged q d t read names) r k a b h g =
-        absurd (never_given q p d c unread (under q d t (from q d t read names b)) a (view_of files job (given p unread c) r h))
+        absurd (never_given q p d c unread r (under q d t (from q d t read names b)) a (view_of files job (given p unread c) r h))
 
     at_configured : (p : Program) (c : Config) (stage : Stage) (r k : List ℕ) → Reaches (Some files) job (configured p c) → Reaches (Some files) job stage
         → Halts files job (configured p c) r → Halts files job stage k → r ≡ k

@@ -1,10 +1,12 @@
 -- Two refusals of one run are one, at whatever counts of faults. It is said of files that tell what they hold, where two refusals of the modules are one, and two for a
 -- piece that is needed and was not read.
-use Rattle.std.specs.Prelude.{◌≡◌, ℕ, List, None, Some}
+use Rattle.std.specs.Prelude.{◌≡◌, ℕ, List, None, Some, Ok}
 use Rattle.trace_base.specs.Device.{File, IsLonger, found}
 use Rattle.tla_ast.specs.declared.config.Config.{Config}
 use Rattle.tla_ast.specs.declared.module.Program.{Program}
+use Rattle.tla_ast.specs.declared.module.WholeProgram.{WholeProgram}
 use Rattle.tla_modules.specs.declared.notes.Noted.{Noted}
+use Rattle.whole_programs.specs.Expansion.{ExpansionBy}
 use Rattle.wide_modules.specs.declared.unread.Unread.{Unread}
 use Rattle.run_words.specs.declared.job.Job.{Job}
 use Rattle.run_texts.specs.Files.{missing_text, too_long_text}
@@ -21,10 +23,14 @@ pub data Halts (files : List File) (job : Job) (stage : Stage) : List ℕ → Ty
 abbrev pub ModulesHaltOnce : List File → Job → Type 0
 ModulesHaltOnce files job = (r q : List ℕ) → Halts files job begun r → Halts files job begun q → r ≡ q
 
+-- nothing is wrong with an instance of the program
+abbrev pub IsMade : Job → WholeProgram → Type 0
+IsMade job w = (p : Program) × ExpansionBy job.wide w (Ok p)
+
 -- and so are two for a piece that is needed and was not read
 abbrev pub PiecesHaltOnce : List File → Job → Type 0
 PiecesHaltOnce files job =
-    (p q : Program) (unread others : List (Noted Unread)) (c d : Config) (r s : List ℕ) → Reaches (Some files) job (given p unread c) → Reaches (Some files) job (given q others d)
+    (p q : WholeProgram) (unread others : List (Noted Unread)) (c d : Config) (r s : List ℕ) → IsMade job p → IsMade job q → Reaches (Some files) job (given p unread c) → Reaches (Some files) job (given q others d)
     → Halts files job (given p unread c) r → Halts files job (given q others d) s → r ≡ s
 
 abbrev pub RefusalIsOne : Type 0

@@ -190,6 +190,7 @@ rest_passes n p ns definition_forms.Operator e xs h =
     subst Passes (sym (operator_begins n p ns xs h.0 h.2.0 h.1 h.2.1))
     (body_passes (frame.DefinitionBody scopes.Unit n p (forms.Operator ns)) (body_waits n p p (forms.Operator ns)) e h.2.0 h.2.2)
 rest_passes n p ns definition_forms.Function e xs h = function_passes n p e xs h.1
+rest_passes n p ns definition_forms.Constant e xs h = absurd h
 
 pub definition_passes : (n : List ℕ) (p : Place) (ns : List (List ℕ)) (form : DefinitionForm) (e : Tree) (xs : List Laid) → DefinitionText n p ns form e xs [] → Passes (run_definition xs)
 definition_passes n p ns form e xs h = subst (λ v. Passes (run_definition v)) (sym h.1) (rest_passes n p ns form e h.0 h.2)

@@ -151,6 +151,7 @@ body_of ns forms.Operator e xs ys h =
     let q : body_from xs ≡ h.2.0 = operator_from ns xs h.0 h.2.0 h.1 h.2.1 in
     record { tree = e; text = subst (λ v. Text e v ys) (sym q) h.2.2 }
 body_of ns forms.Function e xs ys h = function_body e xs ys h.1
+body_of ns forms.Constant e xs ys h = absurd h
 
 same_tail : (x y : Laid) (xs ys zs : List Laid) → zs ≡ x ∷ xs → zs ≡ y ∷ ys → ys ≡ xs
 same_tail x y xs ys zs p q = cc

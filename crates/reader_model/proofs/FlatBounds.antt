@@ -218,6 +218,7 @@ definition_goes : {x : Laid} (ns : List (List ℕ)) (form : DefinitionForm) (e :
     → flat.run xs fs flat.DefinitionNamed ≡ flat.after (flat.behind x (flat.Definition ∷ fs)) (x ∷ vs) (flat.run vs)
 definition_goes ns forms.Operator e g f fs xs us vs h u c k = operator_begins ns fs xs h.0 h.2.0 h.1 h.2.1 ∙ part _ _ e (flat.Definition ∷ fs) g tt h.2.2 u c k
 definition_goes ns forms.Function e g f fs xs us vs h u c k = function_goes e f fs xs us vs h.1 u c k
+definition_goes ns forms.Constant e g f fs xs us vs h u c k = absurd h
 
 -- up to behind the name of a definition
 definitions_go : (ds : Definitions) → DefinitionsGood ds → (m : List ℕ) (q : Place) (fs : List flat.Row) (xs ys zs : List Laid) → DefinitionsText ds xs ys → token q (kinds.Name m) ys zs

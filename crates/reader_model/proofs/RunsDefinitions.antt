@@ -82,6 +82,7 @@ module _ (reader : Runner) where
   pub definition_reads : {x : Laid} {s : Scope} {n : List ℕ} {p : Place} {fs : List Frame} {next : List (List ℕ) → DefinitionForm → Tree → Stepped} → Ends x s n p fs next → (ns : List (List ℕ)) (form : DefinitionForm) (e : Tree) → Runs reader e → FunctionGood reader e → (xs us vs : List Laid)
       → DefinitionRest ns form e xs us → us ≡ x ∷ vs → run reader xs fs (mode.DefinitionNamed s n p) ≡ after reader (next ns form e) (x ∷ vs) (run reader vs)
   definition_reads d ns definition_forms.Operator e r g xs us vs h u = operator_reads d ns e r xs h.0 h.2.0 us vs h.1 h.2.1 h.2.2 u
+  definition_reads d ns definition_forms.Constant e r g xs us vs h u = absurd h
   definition_reads {x} {next = next} d ns definition_forms.Function e r g xs us vs h u =
       function_reads d e g xs us vs h.1 u ∙ ap (λ ms. after reader (next ms definition_forms.Function e) (x ∷ vs) (run reader vs)) (sym h.0)
 

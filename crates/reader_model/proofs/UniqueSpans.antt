@@ -96,6 +96,7 @@ qualified_local at q xs ys h =
 pub either_form_local : (form : DefinitionForm) (R S : Span) → Local R → Local S → Local (by_form form R S)
 either_form_local forms.Operator R S f g = f
 either_form_local forms.Function R S f g = g
+either_form_local forms.Constant R S f g = never_local
 
 mutual
   pub tree_local : (e : Tree) → Local (Text e)

@@ -10,6 +10,7 @@ use Rattle.tla_ast.specs.declared.config.Given.{Given}
 use Rattle.tla_ast.specs.declared.config.Given.TheVariants.{Constant, Replaced}
 use Rattle.tla_ast.specs.declared.config.GivenAt.{GivenAt}
 use Rattle.tla_ast.specs.declared.expr.Definition.{Definition}
+use Rattle.tla_ast.specs.declared.module.Declared.{Declared}
 use Rattle.tla_ast.specs.declared.module.Program.{Program}
 use Rattle.tla_terms.specs.declared.ids.DefId.{DefId}
 use Rattle.tla_terms.specs.declared.operator.Operator.{Operator}
@@ -19,7 +20,7 @@ use Rattle.tla_scopes.specs.declared.meant.Named.{Named}
 use Rattle.tla_scopes.specs.Mentions.{is_one_of}
 use Rattle.tla_scopes.specs.Scopes.{among, named}
 use Rattle.tla_program.specs.InUnits.{definitions_in, variables_in}
-use Rattle.tla_program.specs.Names.{Numbers, constant_index, constant_means, declared_meaning, definition_index, definition_means, definition_meant, first_of, fitting, fitting_index, given_for, index_among, meant_or, names_declared, names_defined, numbered, numbered_meant, params_at, program_meaning, put_for, replacement, replacement_among, standard_means, value_at, variable_index, variable_means}
+use Rattle.tla_program.specs.Names.{Numbers, constant_index, constant_means, declared_meaning, definition_index, definition_means, definition_meant, first_of, fitting, fitting_index, given_for, index_among, meant_or, names_declared, names_defined, names_marked, numbered, numbered_meant, params_at, program_meaning, put_for, replacement, replacement_among, standard_means, value_at, variable_among, variable_means, variable_named}
 use Rattle.tla_program.specs.Standard.{StandardName, brought, brought_from, entry, is_brought, replaceable, standard_names}
 use Rattle.tla_tables.specs.Tables.{IsTable, IsTabled}
 use Rattle.spec_laws.specs.IsSpec.{needed_by}
@@ -78,6 +79,19 @@ above (m ∷ ms) n = one (bytes_eq m n) (index_among ms n) (above ms n)
     one true o h = omega arith
     one false None h = tt
     one false (Some i) h = omega arith
+
+marked_as_many : (ds : List Declared) → length (names_marked ds) ≡ length (names_declared ds)
+marked_as_many [] = refl
+marked_as_many (d ∷ ds) = ap suc (marked_as_many ds)
+
+variable_above : (ds : List Declared) (n : List ℕ) → IfSome (variable_among ds n) (λ i. i < length (names_declared ds))
+variable_above ds n =
+    earlier (index_among (names_declared ds) n) (index_among (names_marked ds) n) (above (names_declared ds) n)
+    (subst (λ (k : ℕ). IfSome (index_among (names_marked ds) n) (λ i. i < k)) (marked_as_many ds) (above (names_marked ds) n))
+  where
+    earlier : (a b : Option ℕ) → IfSome a (λ i. i < length (names_declared ds)) → IfSome b (λ i. i < length (names_declared ds)) → IfSome (first_of a b) (λ i. i < length (names_declared ds))
+    earlier None b h k = k
+    earlier (Some i) b h k = h
 
 as_many : (ds : List Definition) → length (names_defined ds) ≡ length ds
 as_many [] = refl
@@ -140,7 +154,7 @@ declared_fits p c values n =
     let x : Option Named = standard_means p c n (among (brought p.standard) n) in
     let y : Option Named = definition_means p c n (definition_index p n) in
     let z : Option Named = constant_means p c values n (constant_index p n) in
-    either v ds (variable_means (variable_index p n)) (first_of z (first_of y x)) (variable_fits v ds (variable_index p n) (above (names_declared (variables_in p.units)) n)) (either v ds z (first_of y x) (constant_fits v p c values n (constant_index p n)) (either v ds y x (definition_fits v p c n (definition_index p n) (above (names_defined ds) n)) (standard_fits v p c n (among (brought p.standard) n) (brought_fits v ds p.standard standard_names n (all_rows v ds)))))
+    either v ds (variable_means (variable_named p n)) (first_of z (first_of y x)) (variable_fits v ds (variable_named p n) (variable_above (variables_in p.units) n)) (either v ds z (first_of y x) (constant_fits v p c values n (constant_index p n)) (either v ds y x (definition_fits v p c n (definition_index p n) (above (names_defined ds) n)) (standard_fits v p c n (among (brought p.standard) n) (brought_fits v ds p.standard standard_names n (all_rows v ds)))))
 
 -- a definition under its number
 under : (p : Program) (c : Config) (values : List Val) (number : Numbers) (ops : List Operator) → IsTable p c values number ops → (needed i : ℕ) → Takes (definitions_in p.units) needed i → (k : ℕ) → number i ≡ Some k → IsDefined ops k needed 0

@@ -25,6 +25,7 @@ use Rattle.tla_tables.proofs.ProgramTakes.{numbered_taken, taken_here}
 use Rattle.tla_tables.proofs.UnitPlaces.{DefinedAt, defined_at, fine_definition}
 use Rattle.tla_levels.specs.Resolved.{IsLevelled}
 use Rattle.tla_levels.specs.UnitLevels.{IsBodyFault}
+use Rattle.tla_levels.proofs.Levels.{in_form}
 use Rattle.spec_laws.specs.Faultless.{HasNoFault, IsFaultless, NamesAreFaultless}
 use Rattle.spec_laws.specs.Formed.{IsFormed, UnitsAreFormed}
 use Rattle.spec_laws.specs.IsSpec.{IsTerm}
@@ -73,8 +74,8 @@ module _ (p : Program) (c : Config) (values : List Val) (number : Numbers) (ops 
   pub body_fine : Ready p c values number ops assumes → (i : ℕ) (d : Definition) → slice_get (definitions_in p.units) i ≡ Some d → (r : IsTabled p c values number ops i d) → HasNoFault ops r.body
   body_fine g i d e r f x =
       let a : DefinedAt p.units i d = defined_at p.units i d e in
-      let b : IsBodyFault number ops i f = record { row = r.row; operator = unit_operator d r.own r.body; numbered = r.numbered; stands = r.stands; wrong = x } in
-      g.levelled.levels a.place f (record { unit = Define d; stands = a.stands; wrong = subst (λ (j : ℕ). IsBodyFault number ops j f) (sym a.before) b })
+      let b : IsBodyFault number ops d.form i f = record { row = r.row; operator = unit_operator d r.own r.body; numbered = r.numbered; stands = r.stands; wrong = in_form d.form ops r.body f x } in
+      g.levelled.levels a.place f (record { unit = Define d; stands = a.stands; wrong = subst (λ (j : ℕ). IsBodyFault number ops d.form j f) (sym a.before) b })
 
   -- a definition has a meaning, with which nothing is wrong
   pub record Good (k : ℕ) : Type 0 where

@@ -5,6 +5,7 @@ use Rattle.std.proofs.lemmas.List.Elements.{All-nil}
 use Rattle.trace_base.specs.Device.{File}
 use Rattle.tla_ast.specs.declared.config.Config.{Config}
 use Rattle.tla_ast.specs.declared.module.Program.{Program}
+use Rattle.tla_ast.specs.declared.module.WholeProgram.{WholeProgram}
 use Rattle.tla_modules.specs.declared.notes.Noted.{Noted}
 use Rattle.wide_modules.specs.declared.unread.Unread.{Unread}
 use Rattle.tla_terms.specs.declared.spec.Spec.{Spec}
@@ -55,12 +56,12 @@ pub record Valid : Type 0 where
 -- ---- each thing that is not checked is one line
 
 module _ (known : Valid) (holds : Option (List File)) (job : Job) where
-  given_lines : (p : Program) (unread : List (Noted Unread)) (c : Config) → Reaches holds job (given p unread c) → All HasNoFeed c.unchecked
+  given_lines : (p : WholeProgram) (unread : List (Noted Unread)) (c : Config) → Reaches holds job (given p unread c) → All HasNoFeed c.unchecked
   given_lines _ _ _ (needs_no_configuration p unread reaches none) = All-nil HasNoFeed
-  given_lines _ _ _ (reads_configuration p unread name text c reaches some has reads) = known.unchecked job.wide (length p.files) name text c reads
+  given_lines _ _ _ (reads_configuration p unread name text c reaches some has reads) = known.unchecked job.wide (length p.program.files) name text c reads
 
   configured_lines : (p : Program) (c : Config) → Reaches holds job (configured p c) → All HasNoFeed c.unchecked
-  configured_lines _ _ (passes p q unread c d reaches is) = known.passed job.wide p q c d job.silent unread is (given_lines p unread c reaches)
+  configured_lines _ _ (passes w p q unread c d reaches expands is) = known.passed job.wide p q c d job.silent unread is (given_lines w unread c reaches)
 
   same_unchecked : (p : Program) (c : Config) (silent : Option (List ℕ)) (s : Spec) → Resolved p c silent (Ok s) → s.unchecked ≡ c.unchecked
   same_unchecked p c silent _ (accepted values number ops assumes s conf low is) = is.unchecked

@@ -4,13 +4,15 @@ use Rattle.std.specs.Prelude.{Option, Ok, Err}
 use Rattle.trace_base.specs.Device.{File}
 use Rattle.trace_base.specs.declared.reading.ReadFault.{ReadFault}
 use Rattle.trace_base.specs.declared.reading.ReadFault.TheVariants.{Failed}
+use Rattle.tla_ast.specs.declared.module.Made.{Made}
 use Rattle.tla_ast.specs.declared.module.Module.{Module}
+use Rattle.tla_ast.specs.declared.module.Unit.{Unit as ModuleUnit}
 use Rattle.tla_modules.specs.declared.fault.LoadWhy.{LoadWhy}
 use Rattle.tla_modules.specs.declared.fault.LoadWhy.TheVariants.{Read}
 use Rattle.tla_modules.specs.declared.so_far.Gathered.{Gathered}
 use Rattle.tla_modules.specs.Readings.{Reading}
 use Rattle.tla_modules.specs.Refusals.{IsUnread, RefusesBytes, Refuses, misspelled, not_good, not_read}
-use Rattle.tla_modules.specs.Flattened.{OutcomeOf, Meets, Follows, Visits, is_visited, stopped, went_on, is_refused, stopped_below, nothing_read, FlattenedBy}
+use Rattle.tla_modules.specs.Flattened.{OutcomeOf, Meets, Follows, Visits, Makes, MakesAll, is_visited, stopped, went_on, is_refused, stopped_below, stopped_in_instance, makes_none, not_made, is_made, stopped_inside, begun_of_instance, nothing_read, FlattenedBy}
 
 module _ {N : Type 0} (reading : Reading N) (holds : Option (List File)) (folder : List ℕ) where
   no_bytes : (number : ℕ) (bytes name file : List ℕ) (fault : ReadFault) → RefusesBytes reading number bytes name (Read file fault) → ⊥
@@ -39,8 +41,22 @@ module _ {N : Type 0} (reading : Reading N) (holds : Option (List File)) (folder
     visits_read : (path : List (List ℕ)) (so : Gathered N) (name : List ℕ) (ms : List (List ℕ)) (file : List ℕ) (fault : ReadFault)
         → Visits reading holds folder path so name (Err (ms, Read file fault)) → Visits reading holds folder path so name (Err (ms, Read file Failed))
     visits_read path so name ms file fault (is_refused _ _ _ why told) = is_refused path so name (Read file Failed) (refuses_read _ name file fault told)
-    visits_read path so name ms file fault (stopped_below _ _ _ m notes e is f) =
-        stopped_below path so name m notes (ms, Read file Failed) is (follows_read _ _ m.extends ms file fault f)
+    visits_read path so name ms file fault (stopped_below _ _ _ m notes e is a f) =
+        stopped_below path so name m notes (ms, Read file Failed) is a (follows_read _ _ m.extends ms file fault f)
+    visits_read path so name ms file fault (stopped_in_instance _ _ below _ m notes e is a f g) =
+        stopped_in_instance path so below name m notes (ms, Read file Failed) is a f (all_read _ below m.units ms file fault g)
+
+    all_read : (path : List (List ℕ)) (so : Gathered N) (units : List ModuleUnit) (ms : List (List ℕ)) (file : List ℕ) (fault : ReadFault)
+        → MakesAll reading holds folder path so units (Err (ms, Read file fault)) → MakesAll reading holds folder path so units (Err (ms, Read file Failed))
+    all_read path so units ms file fault (makes_none _ _ u us o none g) = makes_none path so u us (Err (ms, Read file Failed)) none (all_read path so us ms file fault g)
+    all_read path so units ms file fault (not_made _ _ u us made e is m) = not_made path so u us made (ms, Read file Failed) is (makes_read path so made ms file fault m)
+    all_read path so units ms file fault (is_made _ _ next u us made o is m g) =
+        is_made path so next u us made (Err (ms, Read file Failed)) is m (all_read path next us ms file fault g)
+
+    makes_read : (path : List (List ℕ)) (so : Gathered N) (made : Made) (ms : List (List ℕ)) (file : List ℕ) (fault : ReadFault)
+        → Makes reading holds folder path so made (Err (ms, Read file fault)) → Makes reading holds folder path so made (Err (ms, Read file Failed))
+    makes_read path so made ms file fault (stopped_inside _ _ _ e t m) =
+        stopped_inside path so made (ms, Read file Failed) t (meets_read path (begun_of_instance so.modules) made.module_name ms file fault m)
 
   pub wants_read : (name : List ℕ) (ms : List (List ℕ)) (file : List ℕ) (fault : ReadFault) → FlattenedBy reading holds folder name (Err (ms, Read file fault))
       → FlattenedBy reading holds folder name (Err (ms, Read file Failed))
@@ -59,7 +75,18 @@ module _ {N : Type 0} (reading : Reading N) (holds : Option (List File)) (folder
     visits_cause : (path : List (List ℕ)) (so : Gathered N) (name : List ℕ) (ms : List (List ℕ)) (file : List ℕ) (fault : ReadFault)
         → Visits reading holds folder path so name (Err (ms, Read file fault)) → IsUnread holds file fault
     visits_cause path so name ms file fault (is_refused _ _ _ why told) = refuses_cause _ name file fault told
-    visits_cause path so name ms file fault (stopped_below _ _ _ m notes e is f) = follows_cause _ _ m.extends ms file fault f
+    visits_cause path so name ms file fault (stopped_below _ _ _ m notes e is a f) = follows_cause _ _ m.extends ms file fault f
+    visits_cause path so name ms file fault (stopped_in_instance _ _ below _ m notes e is a f g) = all_cause _ below m.units ms file fault g
+
+    all_cause : (path : List (List ℕ)) (so : Gathered N) (units : List ModuleUnit) (ms : List (List ℕ)) (file : List ℕ) (fault : ReadFault)
+        → MakesAll reading holds folder path so units (Err (ms, Read file fault)) → IsUnread holds file fault
+    all_cause path so units ms file fault (makes_none _ _ u us o none g) = all_cause path so us ms file fault g
+    all_cause path so units ms file fault (not_made _ _ u us made e is m) = makes_cause path so made ms file fault m
+    all_cause path so units ms file fault (is_made _ _ next u us made o is m g) = all_cause path next us ms file fault g
+
+    makes_cause : (path : List (List ℕ)) (so : Gathered N) (made : Made) (ms : List (List ℕ)) (file : List ℕ) (fault : ReadFault)
+        → Makes reading holds folder path so made (Err (ms, Read file fault)) → IsUnread holds file fault
+    makes_cause path so made ms file fault (stopped_inside _ _ _ e t m) = meets_cause path (begun_of_instance so.modules) made.module_name ms file fault m
 
   pub unread_cause : (name : List ℕ) (ms : List (List ℕ)) (file : List ℕ) (fault : ReadFault) → FlattenedBy reading holds folder name (Err (ms, Read file fault)) → IsUnread holds file fault
   unread_cause name ms file fault f = visits_cause [] nothing_read name ms file fault f

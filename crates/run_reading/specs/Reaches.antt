@@ -1,11 +1,12 @@
 -- How far reading comes. The module and those that it extends are read first, then the configuration; with the word `--wide` what no step needs is
--- passed over. Then names and levels are resolved and the forms of Init, Next and the silent operator tested; then the logs are read in the order of the words, each
+-- passed over, and what the instances among the units make stands among them. Then names and levels are resolved and the forms of Init, Next and the silent operator tested; then the logs are read in the order of the words, each
 -- tested whole before the next is opened.
 use Rattle.std.specs.Prelude.{◌≡◌, ◌+◌, ℕ, List, [], ◌∷◌, length, Option, Some, None, Result, Ok, Err}
 use Rattle.trace_base.specs.Device.{File}
 use Rattle.trace_base.specs.declared.reading.ReadFault.TheVariants.{Failed}
 use Rattle.tla_ast.specs.declared.config.Config.{Config}
 use Rattle.tla_ast.specs.declared.module.Program.{Program}
+use Rattle.tla_ast.specs.declared.module.WholeProgram.{WholeProgram}
 use Rattle.tla_modules.specs.declared.fault.LoadWhy.TheVariants.{Read}
 use Rattle.tla_modules.specs.declared.notes.Noted.{Noted}
 use Rattle.tla_modules.specs.Flattened.{FlattenedBy}
@@ -17,6 +18,7 @@ use Rattle.wide_modules.specs.declared.unread.Unread.{Unread}
 use Rattle.wide_modules.specs.Wide.{reading_by}
 use Rattle.tla_terms.specs.declared.spec.Spec.{Spec}
 use Rattle.specification_names.specs.Resolving.{ResolvedBy}
+use Rattle.whole_programs.specs.Expansion.{ExpansionBy}
 use Rattle.wide_reading.specs.Passing.{Passes}
 use Rattle.spec_forms.specs.Forms.{AreWhole}
 use Rattle.log_lines.specs.Files.{FileSays, first_line}
@@ -32,10 +34,10 @@ use Rattle.run_reading.specs.Texts.{HasText, LogsRead, are_several, bytes_left, 
 pub data Stage : Type 0 where
   begun : Stage
   -- with the pieces of modules that were not read
-  loaded : Program → List (Noted Unread) → Stage
+  loaded : WholeProgram → List (Noted Unread) → Stage
   -- all texts of the specification are read
-  given : Program → List (Noted Unread) → Config → Stage
-  -- what no step needs is passed over: these are resolved
+  given : WholeProgram → List (Noted Unread) → Config → Stage
+  -- instances have made their units, and what no step needs is passed over: these are resolved
   configured : Program → Config → Stage
   resolved : Program → Config → Spec → Stage
   -- with what the logs before say, and the names of those that are still to be read
@@ -52,14 +54,14 @@ LogSays job s read text r = FileSays (names_of s) (first_line (1 + length read.f
 -- it comes so far, and nothing before is refused
 pub data Reaches (holds : Option (List File)) (job : Job) : Stage → Type 0 where
   begins : Reaches holds job begun
-  loads : (folder name : List ℕ) (p : Program) (unread : List (Noted Unread)) → IsPath job.module folder name
-      → IsProgramBy (reading_by job.wide) holds folder name p unread → Reaches holds job (loaded p unread)
-  needs_no_configuration : (p : Program) (unread : List (Noted Unread)) → Reaches holds job (loaded p unread) → job.config ≡ None
-      → Reaches holds job (given p unread without_file)
-  reads_configuration : (p : Program) (unread : List (Noted Unread)) (name text : List ℕ) (c : Config) → Reaches holds job (loaded p unread)
-      → job.config ≡ Some name → HasText holds name config_limit text → ReadsBy job.wide (length p.files) name text (Ok c)
-      → Reaches holds job (given p unread c)
-  passes : (p q : Program) (unread : List (Noted Unread)) (c d : Config) → Reaches holds job (given p unread c)
+  loads : (folder name : List ℕ) (whole : WholeProgram) (unread : List (Noted Unread)) → IsPath job.module folder name
+      → IsProgramBy (reading_by job.wide) holds folder name whole unread → Reaches holds job (loaded whole unread)
+  needs_no_configuration : (whole : WholeProgram) (unread : List (Noted Unread)) → Reaches holds job (loaded whole unread) → job.config ≡ None
+      → Reaches holds job (given whole unread without_file)
+  reads_configuration : (whole : WholeProgram) (unread : List (Noted Unread)) (name text : List ℕ) (c : Config) → Reaches holds job (loaded whole unread)
+      → job.config ≡ Some name → HasText holds name config_limit text → ReadsBy job.wide (length whole.program.files) name text (Ok c)
+      → Reaches holds job (given whole unread c)
+  passes : (whole : WholeProgram) (p q : Program) (unread : List (Noted Unread)) (c d : Config) → Reaches holds job (given whole unread c) → ExpansionBy job.wide whole (Ok p)
       → Passes p c job.silent unread job.wide q d → Reaches holds job (configured q d)
   resolves : (p : Program) (c : Config) (s : Spec) → Reaches holds job (configured p c) → ResolvedBy job.wide p c job.silent (Ok s) → Reaches holds job (resolved p c s)
   has_forms : (p : Program) (c : Config) (s : Spec) → Reaches holds job (resolved p c s) → AreWhole s → Reaches holds job (logged p c s no_logs job.logs)
@@ -72,7 +74,7 @@ pub data Reaches (holds : Option (List File)) (job : Job) : Stage → Type 0 whe
 pub data IsNext (holds : Option (List File)) (job : Job) : Stage → List ℕ → ℕ → Type 0 where
   module_next : (folder name : List ℕ) (modules : List (List ℕ)) (file : List ℕ) → IsPath job.module folder name
       → FlattenedBy (reading_by job.wide) holds folder name (Err (modules, Read file Failed)) → IsNext holds job begun file module_limit
-  config_next : (p : Program) (unread : List (Noted Unread)) (name : List ℕ) → job.config ≡ Some name → IsNext holds job (loaded p unread) name config_limit
+  config_next : (whole : WholeProgram) (unread : List (Noted Unread)) (name : List ℕ) → job.config ≡ Some name → IsNext holds job (loaded whole unread) name config_limit
   log_next : (p : Program) (c : Config) (s : Spec) (read : LogsRead) (name : List ℕ) (names : List (List ℕ))
       → IsNext holds job (logged p c s read (name ∷ names)) name (bytes_left read)
 

@@ -4,14 +4,15 @@ use Rattle.trace_base.specs.Device.{File, IsLonger, Lacks}
 use Rattle.trace_base.specs.declared.place.Place.{Place}
 use Rattle.tla_ast.specs.declared.config.Config.{Config}
 use Rattle.tla_ast.specs.declared.module.Program.{Program}
+use Rattle.tla_ast.specs.declared.module.WholeProgram.{WholeProgram}
 use Rattle.tla_modules.specs.declared.fault.LoadWhy.{LoadWhy}
-use Rattle.tla_modules.specs.declared.fault.LoadWhy.TheVariants.{Read, Lex, Lay, Parse, Cycle, TooMany, Twice, WrongName}
+use Rattle.tla_modules.specs.declared.fault.LoadWhy.TheVariants.{Read, Lex, Lay, Parse, Cycle, TooMany, Twice, WrongName, Nested}
 use Rattle.tla_modules.specs.declared.notes.Noted.{Noted}
 use Rattle.tla_modules.specs.declared.so_far.Gathered.{Gathered}
 use Rattle.tla_modules.specs.Flattened.{FlattenedBy}
 use Rattle.tla_modules.specs.Loads.{files_of}
 use Rattle.tla_modules.specs.Paths.{IsPath}
-use Rattle.tla_modules.specs.Twice.{Repeats, declared_in}
+use Rattle.tla_modules.specs.Twice.{OneRepeats}
 use Rattle.tla_config.specs.declared.fault.ConfigKind.{ConfigKind}
 use Rattle.wide_config.specs.Wide.{ReadsBy}
 use Rattle.wide_modules.specs.declared.unread.Unread.{Unread}
@@ -19,6 +20,7 @@ use Rattle.wide_modules.specs.Wide.{reading_by}
 use Rattle.tla_terms.specs.declared.spec.Spec.{Spec}
 use Rattle.tla_levels.specs.declared.fault.ResolveFault.{ResolveFault}
 use Rattle.specification_names.specs.Resolving.{ResolvedBy}
+use Rattle.whole_programs.specs.Expansion.{ExpansionBy}
 use Rattle.wide_reading.specs.Answers.{NeedsPiece}
 use Rattle.tla_actions.specs.declared.fault.FormFault.{FormFault}
 use Rattle.spec_forms.specs.Forms.{IsFirstFault}
@@ -43,6 +45,7 @@ IsOfText (Cycle names) = Unit {0}
 IsOfText (TooMany name) = Unit {0}
 IsOfText (Twice name later earlier) = Unit {0}
 IsOfText (WrongName name at) = Unit {0}
+IsOfText (Nested name at) = Unit {0}
 
 -- the files that places speak of: those of the modules, and behind them that of the configuration
 abbrev pub all_files : Program → Config → List (List ℕ)
@@ -54,11 +57,14 @@ pub data Rejects (holds : Option (List File)) (job : Job) : Stage → List ℕ �
       → FlattenedBy (reading_by job.wide) holds folder name (Err (modules, why)) → IsOfText why → Rejects holds job begun (module_refusal (files_of folder modules) why)
   in_all_modules : (folder name : List ℕ) (all : Gathered Unread) (why : LoadWhy) → IsPath job.module folder name
       → FlattenedBy (reading_by job.wide) holds folder name (Ok all)
-      → Repeats all.standard (declared_in all.units) why → Rejects holds job begun (module_refusal (files_of folder all.modules) why)
-  in_the_configuration : (p : Program) (unread : List (Noted Unread)) (name text : List ℕ) (kind : ConfigKind) (at : Place) → job.config ≡ Some name → HasText holds name config_limit text
-      → ReadsBy job.wide (length p.files) name text (Err (kind, at)) → Rejects holds job (loaded p unread) (config_refusal (p.files ++ name ∷ []) kind at)
-  in_a_piece : (p : Program) (unread : List (Noted Unread)) (c : Config) (index : ℕ) (root : List ℕ) → job.wide ≡ true
-      → (n : NeedsPiece p c job.silent unread index root) → Rejects holds job (given p unread c) (piece_refusal p.files n.piece.note.why root)
+      → OneRepeats all.standard all.units all.instances why → Rejects holds job begun (module_refusal (files_of folder all.modules) why)
+  in_the_configuration : (whole : WholeProgram) (unread : List (Noted Unread)) (name text : List ℕ) (kind : ConfigKind) (at : Place) → job.config ≡ Some name → HasText holds name config_limit text
+      → ReadsBy job.wide (length whole.program.files) name text (Err (kind, at)) → Rejects holds job (loaded whole unread) (config_refusal (whole.program.files ++ name ∷ []) kind at)
+  -- of the program before names are resolved: it has too many variables, or something is wrong with an instance
+  in_an_instance : (whole : WholeProgram) (unread : List (Noted Unread)) (c : Config) (fault : ResolveFault) → ExpansionBy job.wide whole (Err fault)
+      → Rejects holds job (given whole unread c) (names_refusal (all_files whole.program c) fault)
+  in_a_piece : (whole : WholeProgram) (p : Program) (unread : List (Noted Unread)) (c : Config) (index : ℕ) (root : List ℕ) → ExpansionBy job.wide whole (Ok p) → job.wide ≡ true
+      → (n : NeedsPiece p c job.silent unread index root) → Rejects holds job (given whole unread c) (piece_refusal p.files n.piece.note.why root)
   in_names : (p : Program) (c : Config) (fault : ResolveFault) → ResolvedBy job.wide p c job.silent (Err fault)
       → Rejects holds job (configured p c) (names_refusal (all_files p c) fault)
   in_forms : (p : Program) (c : Config) (s : Spec) (fault : FormFault) → IsFirstFault s fault

@@ -5,16 +5,19 @@ use Rattle.std.proofs.lemmas.List.Elements.{All-nil, All-push}
 use Rattle.trace_base.specs.Device.{File}
 use Rattle.tla_ast.specs.declared.config.Config.{Config}
 use Rattle.tla_ast.specs.declared.module.Program.{Program}
+use Rattle.tla_ast.specs.declared.module.WholeProgram.{WholeProgram}
 use Rattle.tla_modules.specs.declared.notes.Noted.{Noted}
 use Rattle.tla_terms.specs.declared.spec.Spec.{Spec}
 use Rattle.tla_tables.specs.Values.{AreSpelled}
 use Rattle.tla_levels.specs.Resolved.{IsOneForm}
 use Rattle.specification_names.proofs.Readings.{resolved_with}
 use Rattle.resolved_laws.specs.InOrder.{IsWellFormed, ResolvedAreInOrder}
-use Rattle.load_laws.specs.AnyReading.{LoadedAreWellFormedBy, LoadedHaveFewFilesBy}
+use Rattle.expanded_laws.specs.Laws.{ExpandedAreWellFormed}
+use Rattle.load_laws.specs.AnyReading.{LoadedHaveFewFilesBy}
 use Rattle.load_laws.specs.Loaded.{ConfigurationsAreSpelled, ConfigurationsHaveOneForm, PlainHasOneForm, PlainIsSpelled}
 use Rattle.wide_modules.specs.declared.unread.Unread.{Unread}
 use Rattle.wide_modules.specs.Wide.{reading_by}
+use Rattle.whole_programs.specs.Expansion.{ExpansionBy}
 use Rattle.wide_reading.specs.Answers.{IsResolution}
 use Rattle.wide_reading.specs.declared.resolution.Resolution.{Resolution}
 use Rattle.wide_reading.specs.Laws.{PassedAreWellFormed}
@@ -29,41 +32,42 @@ use Rattle.run_words.specs.declared.job.Job.{Job}
 use Rattle.run_reading.specs.Texts.{LogsRead, are_several, steps_left}
 use Rattle.run_reading.specs.Reaches.{Reaches, configured, given, has_forms, loaded, loads, logged, needs_no_configuration, passes, reads_configuration, reads_log, resolved, resolves}
 
-pub loaded_few : (holds : Option (List File)) (job : Job) (p : Program) (unread : List (Noted Unread)) → ((word : Bool) → LoadedHaveFewFilesBy (reading_by word))
-    → Reaches holds job (loaded p unread) → length p.files ≤ 32
-loaded_few holds job p unread law (loads folder name _ _ path is) = law job.wide holds 0 0 job.module (record { program = p; notes = unread }) (folder, name, path, is)
+pub loaded_few : (holds : Option (List File)) (job : Job) (whole : WholeProgram) (unread : List (Noted Unread)) → ((word : Bool) → LoadedHaveFewFilesBy (reading_by word))
+    → Reaches holds job (loaded whole unread) → length whole.program.files ≤ 32
+loaded_few holds job _ unread law (loads folder name whole _ path is) = law job.wide holds 0 0 job.module (record { program = whole; notes = unread }) (folder, name, path, is)
 
-loaded_formed : (holds : Option (List File)) (job : Job) (p : Program) (unread : List (Noted Unread)) → ((word : Bool) → LoadedAreWellFormedBy (reading_by word))
-    → Reaches holds job (loaded p unread) → IsWellFormed p
-loaded_formed holds job p unread law (loads folder name _ _ path is) = law job.wide holds 0 0 job.module (record { program = p; notes = unread }) (folder, name, path, is)
+-- a program with what its instances make
+expanded_formed : (holds : Option (List File)) (job : Job) (whole : WholeProgram) (unread : List (Noted Unread)) → ExpandedAreWellFormed
+    → Reaches holds job (loaded whole unread) → (p : Program) → ExpansionBy job.wide whole (Ok p) → IsWellFormed p
+expanded_formed holds job _ unread law (loads folder name whole _ path is) p expands = law job.wide holds 0 0 job.module (record { program = whole; notes = unread }) (folder, name, path, is) p expands
 
-formed : (holds : Option (List File)) (job : Job) (p : Program) (unread : List (Noted Unread)) (c : Config) → ((word : Bool) → LoadedAreWellFormedBy (reading_by word))
-    → Reaches holds job (given p unread c) → IsWellFormed p
-formed holds job p unread c law (needs_no_configuration _ _ reaches none) = loaded_formed holds job p unread law reaches
-formed holds job p unread c law (reads_configuration _ _ name text _ reaches some has reads) = loaded_formed holds job p unread law reaches
+formed : (holds : Option (List File)) (job : Job) (whole : WholeProgram) (unread : List (Noted Unread)) (c : Config) → ExpandedAreWellFormed
+    → Reaches holds job (given whole unread c) → (p : Program) → ExpansionBy job.wide whole (Ok p) → IsWellFormed p
+formed holds job whole unread c law (needs_no_configuration _ _ reaches none) p expands = expanded_formed holds job whole unread law reaches p expands
+formed holds job whole unread c law (reads_configuration _ _ name text _ reaches some has reads) p expands = expanded_formed holds job whole unread law reaches p expands
 
-pub spelled : (holds : Option (List File)) (job : Job) (p : Program) (unread : List (Noted Unread)) (c : Config) → ConfigurationsAreSpelled → PlainIsSpelled
-    → Reaches holds job (given p unread c) → AreSpelled c.givens
-spelled holds job p unread c law plain (needs_no_configuration _ _ reaches none) = plain
-spelled holds job p unread c law plain (reads_configuration _ _ name text _ reaches some has reads) = law job.wide (length p.files) name text c reads
+pub spelled : (holds : Option (List File)) (job : Job) (whole : WholeProgram) (unread : List (Noted Unread)) (c : Config) → ConfigurationsAreSpelled → PlainIsSpelled
+    → Reaches holds job (given whole unread c) → AreSpelled c.givens
+spelled holds job whole unread c law plain (needs_no_configuration _ _ reaches none) = plain
+spelled holds job whole unread c law plain (reads_configuration _ _ name text _ reaches some has reads) = law job.wide (length whole.program.files) name text c reads
 
-pub one_form : (holds : Option (List File)) (job : Job) (p : Program) (unread : List (Noted Unread)) (c : Config) → ConfigurationsHaveOneForm → PlainHasOneForm
-    → Reaches holds job (given p unread c) → IsOneForm c
-one_form holds job p unread c law plain (needs_no_configuration _ _ reaches none) = plain
-one_form holds job p unread c law plain (reads_configuration _ _ name text _ reaches some has reads) = law job.wide (length p.files) name text c reads
+pub one_form : (holds : Option (List File)) (job : Job) (whole : WholeProgram) (unread : List (Noted Unread)) (c : Config) → ConfigurationsHaveOneForm → PlainHasOneForm
+    → Reaches holds job (given whole unread c) → IsOneForm c
+one_form holds job whole unread c law plain (needs_no_configuration _ _ reaches none) = plain
+one_form holds job whole unread c law plain (reads_configuration _ _ name text _ reaches some has reads) = law job.wide (length whole.program.files) name text c reads
 
 -- what is resolved is reached, and its specification is in order
-pub resolution_reached : (holds : Option (List File)) (job : Job) (p : Program) (unread : List (Noted Unread)) (c : Config) (r : Resolution) → Reaches holds job (given p unread c)
-    → IsResolution job.wide p c job.silent unread r → Reaches holds job (resolved r.program r.config r.spec)
-resolution_reached holds job p unread c r reaches is = resolves r.program r.config r.spec (passes p r.program unread c r.config reaches is.passes) is.resolved
+pub resolution_reached : (holds : Option (List File)) (job : Job) (whole : WholeProgram) (p : Program) (unread : List (Noted Unread)) (c : Config) (r : Resolution) → Reaches holds job (given whole unread c)
+    → ExpansionBy job.wide whole (Ok p) → IsResolution job.wide p c job.silent unread r → Reaches holds job (resolved r.program r.config r.spec)
+resolution_reached holds job whole p unread c r reaches expands is = resolves r.program r.config r.spec (passes whole p r.program unread c r.config reaches expands is.passes) is.resolved
 
-pub resolution_in_order : (holds : Option (List File)) (job : Job) (p : Program) (unread : List (Noted Unread)) (c : Config) (r : Resolution)
-    → ((word : Bool) → LoadedAreWellFormedBy (reading_by word)) → PassedAreWellFormed → ResolvedAreInOrder → Reaches holds job (given p unread c)
+pub resolution_in_order : (holds : Option (List File)) (job : Job) (whole : WholeProgram) (p : Program) (unread : List (Noted Unread)) (c : Config) (r : Resolution)
+    → ExpandedAreWellFormed → PassedAreWellFormed → ResolvedAreInOrder → Reaches holds job (given whole unread c) → ExpansionBy job.wide whole (Ok p)
     → IsResolution job.wide p c job.silent unread r → IsSpec r.spec
-resolution_in_order holds job p unread c r well passed order reaches is =
+resolution_in_order holds job whole p unread c r well passed order reaches expands is =
     let with = resolved_with job.wide r.program r.config job.silent r.spec is.resolved in
     order r.program with.config job.silent r.spec
-    (passed job.wide p r.program c r.config job.silent unread is.passes (formed holds job p unread c well reaches)) with.is
+    (passed job.wide p r.program c r.config job.silent unread is.passes (formed holds job whole unread c well reaches p expands)) with.is
 
 -- what the logs say can be asked of the specification
 pub files_ready : (holds : Option (List File)) (job : Job) (p : Program) (c : Config) (s : Spec) (read : LogsRead) (names : List (List ℕ)) → FilesAreReady → IsSpec s

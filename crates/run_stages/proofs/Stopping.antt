@@ -5,19 +5,26 @@ use Rattle.trace_base.specs.declared.place.Place.{Place}
 use Rattle.trace_base.specs.declared.reading.ReadFault.{ReadFault}
 use Rattle.trace_base.specs.declared.reading.ReadFault.TheVariants as fault
 use Rattle.tla_ast.specs.declared.config.Config.{Config}
+use Rattle.tla_ast.specs.declared.module.Declared.{Declared}
+use Rattle.tla_ast.specs.declared.module.Instance.{Instance as ModuleInstance}
 use Rattle.tla_ast.specs.declared.module.Program.{Program}
+use Rattle.tla_ast.specs.declared.module.WholeProgram.{WholeProgram}
+use Rattle.tla_ast.specs.declared.module.Unit.{Unit as ModuleUnit}
 use Rattle.tla_modules.specs.declared.fault.LoadFault.TheVariants as loads
 use Rattle.tla_modules.specs.declared.fault.LoadWhy.{LoadWhy}
-use Rattle.tla_modules.specs.declared.fault.LoadWhy.TheVariants.{Read, Lex, Lay, Parse, Cycle, TooMany, Twice, WrongName}
+use Rattle.tla_modules.specs.declared.fault.LoadWhy.TheVariants.{Read, Lex, Lay, Parse, Cycle, TooMany, Twice, WrongName, Nested}
 use Rattle.tla_modules.specs.declared.notes.Noted.{Noted}
 use Rattle.tla_modules.specs.Flattened.{FlattenedBy}
 use Rattle.tla_modules.specs.Loads.{IsRefusedBy, LoadsBy, files_of, in_a_module, in_the_whole}
 use Rattle.tla_modules.specs.Paths.{IsPath}
 use Rattle.tla_modules.specs.Refusals.{IsCaused, module_limit}
+use Rattle.tla_modules.specs.Twice.{OneRepeats, Repeats, RepeatsInside, behind_it, in_instance, in_program, in_this}
 use Rattle.wide_modules.specs.declared.unread.Unread.{Unread}
 use Rattle.wide_modules.specs.Wide.{reading_by}
 use Rattle.tla_config.specs.declared.fault.ConfigKind.{ConfigKind}
 use Rattle.wide_config.specs.Wide.{ReadsBy}
+use Rattle.tla_levels.specs.declared.fault.ResolveFault.{ResolveFault}
+use Rattle.whole_programs.specs.Expansion.{ExpansionBy}
 use Rattle.tla_terms.specs.declared.spec.Spec.{Spec}
 use Rattle.tla_actions.specs.declared.fault.FormFault.{FormFault}
 use Rattle.spec_forms.specs.Forms.{IsFirstFault}
@@ -44,6 +51,37 @@ pub later_stop : (holds : Option (List File)) (a b n : ℕ) (job : Job) (stop : 
 later_stop holds a b n job (Refused report) le h = later_refusal holds a b n job (string_bytes report) le h
 later_stop holds a b n job (Device name) le h = (later_rose a b n le h.0, h.1)
 later_stop holds a b n job NoMemory le h = tt
+
+-- a refusal behind all modules is that of a name that is declared twice
+abbrev IsOfTwice : LoadWhy → Type 0
+IsOfTwice (Twice name later earlier) = Unit {0}
+IsOfTwice (Read file f) = ⊥
+IsOfTwice (Lex why at) = ⊥
+IsOfTwice (Lay at) = ⊥
+IsOfTwice (Parse f) = ⊥
+IsOfTwice (Cycle names) = ⊥
+IsOfTwice (TooMany name) = ⊥
+IsOfTwice (WrongName name at) = ⊥
+IsOfTwice (Nested name at) = ⊥
+
+repeats_twice : (standard : List (List ℕ)) (ds : List Declared) (why : LoadWhy) → Repeats standard ds why → IsOfTwice why
+repeats_twice standard ds (Twice name later earlier) r = tt
+repeats_twice standard ds (Read file f) r = r
+repeats_twice standard ds (Lex why at) r = r
+repeats_twice standard ds (Lay at) r = r
+repeats_twice standard ds (Parse f) r = r
+repeats_twice standard ds (Cycle names) r = r
+repeats_twice standard ds (TooMany name) r = r
+repeats_twice standard ds (WrongName name at) r = r
+repeats_twice standard ds (Nested name at) r = r
+
+inside_twice : (is : List ModuleInstance) (why : LoadWhy) → RepeatsInside is why → IsOfTwice why
+inside_twice _ _ (in_this i is why r) = repeats_twice _ _ why r
+inside_twice _ _ (behind_it i is why new r) = inside_twice is why r
+
+one_twice : (standard : List (List ℕ)) (units : List ModuleUnit) (is : List ModuleInstance) (why : LoadWhy) → OneRepeats standard units is why → IsOfTwice why
+one_twice standard units is _ (in_program why r) = repeats_twice _ _ why r
+one_twice standard units is _ (in_instance why new r) = inside_twice is why r
 
 module _ (holds : Option (List File)) (before now : ℕ) (job : Job) where
   pub refused_with : (P : List ℕ → Type 0) → ((report : List ℕ) → P report → IsRefusal holds before now job report) → (stop : Stop) → RefusedWith P stop → StopsBy holds before now job stop
@@ -99,6 +137,7 @@ module _ (holds : Option (List File)) (before now : ℕ) (job : Job) where
   in_module folder name modules (TooMany file) stop path flat caused h = of_text folder name modules (TooMany file) stop path flat tt h
   in_module folder name modules (Twice file later earlier) stop path flat caused h = of_text folder name modules (Twice file later earlier) stop path flat tt h
   in_module folder name modules (WrongName file at) stop path flat caused h = of_text folder name modules (WrongName file at) stop path flat tt h
+  in_module folder name modules (Nested file at) stop path flat caused h = of_text folder name modules (Nested file at) stop path flat tt h
 
   by_refused : (folder name : List ℕ) (files : List (List ℕ)) (why : LoadWhy) (stop : Stop) → IsPath job.module folder name → IsRefusedBy (reading_by job.wide) holds before now folder name files why
       → IsModuleStop files why stop → StopsBy holds before now job stop
@@ -107,37 +146,45 @@ module _ (holds : Option (List File)) (before now : ℕ) (job : Job) where
       refused_with (λ r. r ≡ module_refusal (files_of folder all.modules) (Twice file later earlier))
       (λ report e. as_report report (module_refusal (files_of folder all.modules) (Twice file later earlier)) e (is_refused begun (module_refusal (files_of folder all.modules) (Twice file later earlier)) begins
       (rejects.in_all_modules folder name all (Twice file later earlier) path flat repeats))) stop h
-  by_refused folder name _ _ stop path (in_the_whole all (Read file f) flat repeats) h = absurd repeats
-  by_refused folder name _ _ stop path (in_the_whole all (Lex why at) flat repeats) h = absurd repeats
-  by_refused folder name _ _ stop path (in_the_whole all (Lay at) flat repeats) h = absurd repeats
-  by_refused folder name _ _ stop path (in_the_whole all (Parse f) flat repeats) h = absurd repeats
-  by_refused folder name _ _ stop path (in_the_whole all (Cycle names) flat repeats) h = absurd repeats
-  by_refused folder name _ _ stop path (in_the_whole all (TooMany file) flat repeats) h = absurd repeats
-  by_refused folder name _ _ stop path (in_the_whole all (WrongName file at) flat repeats) h = absurd repeats
+  by_refused folder name _ _ stop path (in_the_whole all (Read file f) flat repeats) h = absurd (one_twice all.standard all.units all.instances _ repeats)
+  by_refused folder name _ _ stop path (in_the_whole all (Lex why at) flat repeats) h = absurd (one_twice all.standard all.units all.instances _ repeats)
+  by_refused folder name _ _ stop path (in_the_whole all (Lay at) flat repeats) h = absurd (one_twice all.standard all.units all.instances _ repeats)
+  by_refused folder name _ _ stop path (in_the_whole all (Parse f) flat repeats) h = absurd (one_twice all.standard all.units all.instances _ repeats)
+  by_refused folder name _ _ stop path (in_the_whole all (Cycle names) flat repeats) h = absurd (one_twice all.standard all.units all.instances _ repeats)
+  by_refused folder name _ _ stop path (in_the_whole all (TooMany file) flat repeats) h = absurd (one_twice all.standard all.units all.instances _ repeats)
+  by_refused folder name _ _ stop path (in_the_whole all (WrongName file at) flat repeats) h = absurd (one_twice all.standard all.units all.instances _ repeats)
+  by_refused folder name _ _ stop path (in_the_whole all (Nested file at) flat repeats) h = absurd (one_twice all.standard all.units all.instances _ repeats)
 
   pub module_stop : (files : List (List ℕ)) (why : LoadWhy) (stop : Stop) → LoadsBy (reading_by job.wide) holds before now job.module (Err (loads.Refused files why)) → IsModuleStop files why stop
       → StopsBy holds before now job stop
   module_stop files why stop h s = by_refused h.0 h.1 files why stop h.2 h.3 s
 
-  pub config_stop : (p : Program) (unread : List (Noted Unread)) (name text : List ℕ) (stop : Stop) → Reaches holds job (loaded p unread) → job.config ≡ Some name → HasText holds name config_limit text
-      → RefusedWith (λ report. (kind : ConfigKind) × (at : Place) × ReadsBy job.wide (length p.files) name text (Err (kind, at)) × (report ≡ config_refusal (p.files ++ name ∷ []) kind at)) stop
+  pub config_stop : (whole : WholeProgram) (unread : List (Noted Unread)) (name text : List ℕ) (stop : Stop) → Reaches holds job (loaded whole unread) → job.config ≡ Some name → HasText holds name config_limit text
+      → RefusedWith (λ report. (kind : ConfigKind) × (at : Place) × ReadsBy job.wide (length whole.program.files) name text (Err (kind, at)) × (report ≡ config_refusal (whole.program.files ++ name ∷ []) kind at)) stop
       → StopsBy holds before now job stop
-  config_stop p unread name text stop reaches e has h =
-      refused_with (λ report. (kind : ConfigKind) × (at : Place) × ReadsBy job.wide (length p.files) name text (Err (kind, at)) × (report ≡ config_refusal (p.files ++ name ∷ []) kind at))
-      (λ report r. as_report report (config_refusal (p.files ++ name ∷ []) r.0 r.1) r.3 (is_refused (loaded p unread) (config_refusal (p.files ++ name ∷ []) r.0 r.1) reaches
-      (rejects.in_the_configuration p unread name text r.0 r.1 e has r.2))) stop h
+  config_stop whole unread name text stop reaches e has h =
+      refused_with (λ report. (kind : ConfigKind) × (at : Place) × ReadsBy job.wide (length whole.program.files) name text (Err (kind, at)) × (report ≡ config_refusal (whole.program.files ++ name ∷ []) kind at))
+      (λ report r. as_report report (config_refusal (whole.program.files ++ name ∷ []) r.0 r.1) r.3 (is_refused (loaded whole unread) (config_refusal (whole.program.files ++ name ∷ []) r.0 r.1) reaches
+      (rejects.in_the_configuration whole unread name text r.0 r.1 e has r.2))) stop h
 
-  unresolved : (p : Program) (unread : List (Noted Unread)) (c : Config) (report : List ℕ) → Reaches holds job (given p unread c)
+  pub expanding_stop : (whole : WholeProgram) (unread : List (Noted Unread)) (c : Config) (stop : Stop) → Reaches holds job (given whole unread c)
+      → RefusedWith (λ report. (f : ResolveFault) × ExpansionBy job.wide whole (Err f) × (report ≡ names_refusal (all_files whole.program c) f)) stop → StopsBy holds before now job stop
+  expanding_stop whole unread c stop reaches h =
+      refused_with (λ report. (f : ResolveFault) × ExpansionBy job.wide whole (Err f) × (report ≡ names_refusal (all_files whole.program c) f))
+      (λ report r. as_report report (names_refusal (all_files whole.program c) r.0) r.2 (is_refused (given whole unread c) (names_refusal (all_files whole.program c) r.0) reaches
+      (rejects.in_an_instance whole unread c r.0 r.1))) stop h
+
+  unresolved : (whole : WholeProgram) (p : Program) (unread : List (Noted Unread)) (c : Config) (report : List ℕ) → Reaches holds job (given whole unread c) → ExpansionBy job.wide whole (Ok p)
       → IsUnresolved job.wide p c job.silent unread report → IsRefusal holds before now job report
-  unresolved p unread c _ reaches (by_names q d f passed is) =
-      is_refused (configured q d) (names_refusal (all_files q d) f) (passes p q unread c d reaches passed) (rejects.in_names q d f is)
-  unresolved p unread c _ reaches (by_a_piece index root wide n) =
-      is_refused (given p unread c) (piece_refusal p.files n.piece.note.why root) reaches (rejects.in_a_piece p unread c index root wide n)
+  unresolved whole p unread c _ reaches expands (by_names q d f passed is) =
+      is_refused (configured q d) (names_refusal (all_files q d) f) (passes whole p q unread c d reaches expands passed) (rejects.in_names q d f is)
+  unresolved whole p unread c _ reaches expands (by_a_piece index root wide n) =
+      is_refused (given whole unread c) (piece_refusal p.files n.piece.note.why root) reaches (rejects.in_a_piece whole p unread c index root expands wide n)
 
-  pub unresolved_stop : (p : Program) (unread : List (Noted Unread)) (c : Config) (stop : Stop) → Reaches holds job (given p unread c)
+  pub unresolved_stop : (whole : WholeProgram) (p : Program) (unread : List (Noted Unread)) (c : Config) (stop : Stop) → Reaches holds job (given whole unread c) → ExpansionBy job.wide whole (Ok p)
       → RefusedWith (IsUnresolved job.wide p c job.silent unread) stop → StopsBy holds before now job stop
-  unresolved_stop p unread c stop reaches h =
-      refused_with (IsUnresolved job.wide p c job.silent unread) (λ report r. unresolved p unread c report reaches r) stop h
+  unresolved_stop whole p unread c stop reaches expands h =
+      refused_with (IsUnresolved job.wide p c job.silent unread) (λ report r. unresolved whole p unread c report reaches expands r) stop h
 
   pub forms_stop : (p : Program) (c : Config) (s : Spec) (stop : Stop) → Reaches holds job (resolved p c s)
       → RefusedWith (λ report. (f : FormFault) × IsFirstFault s f × (report ≡ form_refusal (all_files p c) s.variables f)) stop → StopsBy holds before now job stop
@@ -152,16 +199,16 @@ module _ (holds : Option (List File)) (before now : ℕ) (job : Job) where
       as_report report (log_refusal name r) e (is_refused (logged p c s read (name ∷ names)) (log_refusal name r) reaches (rejects.in_a_log p c s read name names text r is says))
 
   -- what a configuration's text gives
-  pub config_accepted : (p : Program) (unread : List (Noted Unread)) (name text : List ℕ) (r : Result Config Stop) → Reaches holds job (loaded p unread) → job.config ≡ Some name → HasText holds name config_limit text
-      → IfOk r (λ c. ReadsBy job.wide (length p.files) name text (Ok c)) → IfOk r (λ c. Reaches holds job (given p unread c))
-  config_accepted p unread name text (Ok c) reaches e has h = reads_configuration p unread name text c reaches e has h
-  config_accepted p unread name text (Err stop) reaches e has h = tt
+  pub config_accepted : (whole : WholeProgram) (unread : List (Noted Unread)) (name text : List ℕ) (r : Result Config Stop) → Reaches holds job (loaded whole unread) → job.config ≡ Some name → HasText holds name config_limit text
+      → IfOk r (λ c. ReadsBy job.wide (length whole.program.files) name text (Ok c)) → IfOk r (λ c. Reaches holds job (given whole unread c))
+  config_accepted whole unread name text (Ok c) reaches e has h = reads_configuration whole unread name text c reaches e has h
+  config_accepted whole unread name text (Err stop) reaches e has h = tt
 
-  pub config_refused : (p : Program) (unread : List (Noted Unread)) (name text : List ℕ) (r : Result Config Stop) → Reaches holds job (loaded p unread) → job.config ≡ Some name → HasText holds name config_limit text
-      → IfErr r (RefusedWith (λ report. (kind : ConfigKind) × (at : Place) × ReadsBy job.wide (length p.files) name text (Err (kind, at)) × (report ≡ config_refusal (p.files ++ name ∷ []) kind at)))
+  pub config_refused : (whole : WholeProgram) (unread : List (Noted Unread)) (name text : List ℕ) (r : Result Config Stop) → Reaches holds job (loaded whole unread) → job.config ≡ Some name → HasText holds name config_limit text
+      → IfErr r (RefusedWith (λ report. (kind : ConfigKind) × (at : Place) × ReadsBy job.wide (length whole.program.files) name text (Err (kind, at)) × (report ≡ config_refusal (whole.program.files ++ name ∷ []) kind at)))
       → IfErr r (StopsBy holds before now job)
-  config_refused p unread name text (Ok c) reaches e has h = tt
-  config_refused p unread name text (Err stop) reaches e has h = config_stop p unread name text stop reaches e has h
+  config_refused whole unread name text (Ok c) reaches e has h = tt
+  config_refused whole unread name text (Err stop) reaches e has h = config_stop whole unread name text stop reaches e has h
 
 -- through a result
 pub err_later : {X : Type 0} (holds other : Option (List File)) (a b n : ℕ) (job : Job) (r : Result X Stop) → other ≡ holds → a ≤ b → IfErr r (StopsBy other b n job)

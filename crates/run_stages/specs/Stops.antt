@@ -7,7 +7,7 @@ use Rattle.trace_base.specs.declared.reading.ReadFault.TheVariants as fault
 use Rattle.tla_ast.specs.declared.config.Config.{Config}
 use Rattle.tla_ast.specs.declared.module.Program.{Program}
 use Rattle.tla_modules.specs.declared.fault.LoadWhy.{LoadWhy}
-use Rattle.tla_modules.specs.declared.fault.LoadWhy.TheVariants.{Read, Lex, Lay, Parse, Cycle, TooMany, Twice, WrongName}
+use Rattle.tla_modules.specs.declared.fault.LoadWhy.TheVariants.{Read, Lex, Lay, Parse, Cycle, TooMany, Twice, WrongName, Nested}
 use Rattle.run_words.specs.declared.job.Job.{Job}
 use Rattle.run_texts.specs.Files.{missing_text, too_long_text}
 use Rattle.run_texts.specs.Modules.{module_refusal}
@@ -51,3 +51,4 @@ IsModuleStop files (Cycle names) = RefusedWith (λ report. report ≡ module_ref
 IsModuleStop files (TooMany name) = RefusedWith (λ report. report ≡ module_refusal files (TooMany name))
 IsModuleStop files (Twice name later earlier) = RefusedWith (λ report. report ≡ module_refusal files (Twice name later earlier))
 IsModuleStop files (WrongName name at) = RefusedWith (λ report. report ≡ module_refusal files (WrongName name at))
+IsModuleStop files (Nested name at) = RefusedWith (λ report. report ≡ module_refusal files (Nested name at))

@@ -8,6 +8,7 @@ ghost use Rattle.run_reading.specs.Reaches.{Reaches, given, loaded};
 ghost use Rattle.run_stages.specs.Stops.{RefusedWith, StopsBy};
 
 use crate::files::with_file;
+use crate::modules::LoadedModules;
 use crate::stop::Stop;
 use crate::wanted::read_wanted;
 use run_texts::config_refusal;
@@ -15,11 +16,9 @@ use run_words::Job;
 use std::alloc::Global;
 use tla_ast::{Config, Givens, Program};
 use tla_config::ConfigFault;
-use tla_modules::Loaded;
 use trace_base::{Files, Names, NoMemory, Text};
 use wide_config::config_by;
 use wide_load_laws::wide_load_laws;
-use wide_modules::Unread;
 
 /// How many bytes a configuration's file may have.
 const CONFIG_LIMIT: usize = 65_536;
@@ -28,7 +27,7 @@ const CONFIG_LIMIT: usize = 65_536;
 pub(crate) fn read_config<F: Files>(
     alloc: Global,
     job: &Job,
-    modules: &Loaded<Unread>,
+    modules: &LoadedModules,
     files: &mut F,
 ) -> Result<Config, Stop>
     requires reaches { Reaches (F.holds files.now) job.now (loaded modules.now.program modules.now.notes) }
@@ -42,7 +41,7 @@ pub(crate) fn read_config<F: Files>(
         None => Ok(without_file(alloc)?),
         Some(name) => {
             let text = read_wanted(alloc, job, files, name, CONFIG_LIMIT)?;
-            config_of(alloc, job, &modules.program, name, text.as_slice())
+            config_of(alloc, job, &modules.program.program, name, text.as_slice())
         }
     }
 }

@@ -2,6 +2,7 @@
 #![tactic(auto)]
 
 mod configs;
+mod expanding;
 mod files;
 mod forms;
 mod given;

@@ -7,16 +7,24 @@ use crate::stop::{Stop, unread};
 use run_texts::module_refusal;
 use run_words::Job;
 use std::alloc::Global;
-use tla_modules::{LoadFault, LoadWhy, Loaded};
+use tla_ast::WholeProgram;
+use tla_modules::{LoadFault, LoadWhy, Notes};
 use trace_base::{Files, Names, NoMemory};
 use wide_modules::{Unread, load_modules};
+
+/// A program of modules with its instances, and what was not read of them.
+#[derive(Drop)]
+pub struct LoadedModules {
+    pub program: WholeProgram,
+    pub notes: Notes<Unread>,
+}
 
 /// The program of the job's module and of those that it extends, and what was not read of them.
 pub(crate) fn load_program<F: Files>(
     alloc: Global,
     job: &Job,
     files: &mut F,
-) -> Result<Loaded<Unread>, Stop>
+) -> Result<LoadedModules, Stop>
     requires { IsModule job.now.module }
     ensures accepted { IfOk result (λ l. Reaches (F.holds files.old) job.now (loaded l.program l.notes)) }
     ensures stopped { IfErr result (StopsBy (F.holds files.old) (F.faults files.old) (F.faults files.new) job.now) }
@@ -24,7 +32,10 @@ pub(crate) fn load_program<F: Files>(
     ensures later { F.faults files.old ≤ F.faults files.new }
 {
     match load_modules(alloc, job.wide, files, job.module.as_str()) {
-        Ok(modules) => Ok(modules),
+        Ok(modules) => Ok(LoadedModules {
+            program: modules.program,
+            notes: modules.notes,
+        }),
         Err(LoadFault::Refused(sought, why)) => Err(refused(alloc, &sought, &why)?),
         Err(LoadFault::NoMemory) => Err(Stop::NoMemory),
     }

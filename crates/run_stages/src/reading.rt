@@ -5,11 +5,13 @@ ghost use Rattle.run_reading.specs.Reaches.{AllRead};
 ghost use Rattle.run_stages.specs.Stops.{StopsBy};
 
 use crate::configs::read_config;
+use crate::expanding::expand_program;
 use crate::forms::test_forms;
 use crate::logs::{Course, read_logs};
-use crate::modules::load_program;
+use crate::modules::{LoadedModules, load_program};
 use crate::resolving::resolve_spec;
 use crate::stop::Stop;
+use expanded_laws::expanded_laws;
 use load_laws::configuration_laws;
 use ready_lines::{known_values_over, logs_are_ready};
 use resolved_laws::resolved_laws;
@@ -33,7 +35,7 @@ pub struct Accepted {
 }
 
 /// Reads the texts of a job in their order: the module and those that it extends, the configuration, then the logs, after names, levels and forms are
-/// tested. With the word `--wide` what no step needs is passed over behind the configuration. The first refusal ends the reading; nothing is read behind
+/// tested and what instances make stands in the program. With the word `--wide` what no step needs is passed over behind the configuration. The first refusal ends the reading; nothing is read behind
 /// it.
 pub fn read_all<F: Files>(alloc: Global, job: &Job, files: &mut F) -> Result<Accepted, Stop>
     requires { JobMeets job.now }
@@ -48,9 +50,12 @@ pub fn read_all<F: Files>(alloc: Global, job: &Job, files: &mut F) -> Result<Acc
     configuration_laws();
     passing_laws();
     resolved_laws();
+    expanded_laws();
     let modules = load_program(alloc, job, files)?;
     let config = read_config(alloc, job, &modules, files)?;
-    let resolved = resolve_spec(alloc, job, modules, config)?;
+    let LoadedModules { program, notes } = modules;
+    let expanded = expand_program(alloc, job, program, &config)?;
+    let resolved = resolve_spec(alloc, job, expanded, notes, config)?;
     let Resolution {
         program,
         config,

@@ -10,8 +10,8 @@ use crate::stop::Stop;
 use run_texts::{names_refusal, piece_refusal};
 use run_words::Job;
 use std::alloc::Global;
-use tla_ast::Config;
-use tla_modules::Loaded;
+use tla_ast::{Config, Program};
+use tla_modules::Notes;
 use wide_modules::Unread;
 use wide_reading::{Resolution, ResolutionFault, resolve_read};
 
@@ -20,15 +20,15 @@ use wide_reading::{Resolution, ResolutionFault, resolve_read};
 pub(crate) fn resolve_spec(
     alloc: Global,
     job: &Job,
-    modules: Loaded<Unread>,
+    program: Program,
+    notes: Notes<Unread>,
     config: Config,
 ) -> Result<Resolution, Stop>
     requires spelled { AreSpelled config.givens }
     requires form { IsOneForm config }
-    ensures accepted { IfOk result (IsResolution job.now.wide modules.program config job.now.silent modules.notes) }
-    ensures refused { IfErr result (RefusedWith (IsUnresolved job.now.wide modules.program config job.now.silent modules.notes)) }
+    ensures accepted { IfOk result (IsResolution job.now.wide program config job.now.silent notes) }
+    ensures refused { IfErr result (RefusedWith (IsUnresolved job.now.wide program config job.now.silent notes)) }
 {
-    let Loaded { program, notes } = modules;
     let files = copy_names(alloc, &program.files)?;
     let silent = job.silent.as_ref();
     match resolve_read(alloc, job.wide, silent, program, config, &notes) {

@@ -52,6 +52,8 @@ module_refusal files (load.Twice name at earlier) =
     refused (load_code (load.Twice name at earlier)) (detail name ++ at_place files at ++ earlier_text files earlier)
 module_refusal files (load.WrongName name at) =
     refused (load_code (load.WrongName name at)) (detail name ++ at_place files at)
+module_refusal files (load.Nested name at) =
+    refused (load_code (load.Nested name at)) (detail name ++ at_place files at)
 
 -- a piece of a module is refused that is needed, and by which name
 abbrev pub piece_refusal : List (List ℕ) → LoadWhy → List ℕ → List ℕ

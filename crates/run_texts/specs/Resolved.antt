@@ -35,4 +35,8 @@ names_refusal files (resolve.Recursion name at) =
 names_refusal files (resolve.TooManyVariables at) =
     refused (resolve_code (resolve.TooManyVariables at)) (at_place files at)
 names_refusal files (resolve.NoOperator name) = refused (resolve_code (resolve.NoOperator name)) (detail name)
+names_refusal files (resolve.NotAVariable name at) =
+    refused (resolve_code (resolve.NotAVariable name at)) (detail name ++ at_place files at)
+names_refusal files (resolve.NoSubstitute name at) =
+    refused (resolve_code (resolve.NoSubstitute name at)) (detail name ++ at_place files at)
 names_refusal files resolve.NoMemory = []

@@ -25,7 +25,7 @@ pub fn module_refusal(alloc: Global, files: &Names, why: &LoadWhy) -> Result<Str
         LoadWhy::Twice(name, at, earlier) => {
             twice_refusal(alloc, files, why.code(), name.as_str(), *at, *earlier)
         }
-        LoadWhy::WrongName(name, at) => {
+        LoadWhy::WrongName(name, at) | LoadWhy::Nested(name, at) => {
             refused_detail(alloc, files, why.code(), name.as_str(), *at)
         }
     }

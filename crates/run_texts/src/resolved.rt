@@ -17,7 +17,9 @@ pub fn names_refusal(alloc: Global, files: &Names, fault: &ResolveFault) -> Resu
     match fault {
         ResolveFault::UnknownName(name, at)
         | ResolveFault::NoValue(name, at)
-        | ResolveFault::Recursion(name, at) => {
+        | ResolveFault::Recursion(name, at)
+        | ResolveFault::NotAVariable(name, at)
+        | ResolveFault::NoSubstitute(name, at) => {
             refused_detail(alloc, files, fault.code(), name.as_str(), *at)
         }
         ResolveFault::WrongArity(name, found, needed, at) => {

@@ -3,6 +3,8 @@ use Rattle.std.proofs.Common.{◌≡◌, ◌∙◌, sym, ap, refl, subst, inl, i
 use Rattle.std.specs.Prelude.{◌↔◌, true, Option, Some, None, Contains, slice_get}
 use Rattle.std.proofs.lemmas.List.Elements.{Contains-append_left, Contains-append_right}
 use Rattle.std.proofs.lemmas.Option.{slice_get_within}
+use Rattle.tla_ast.specs.declared.form.DefinitionForm.{DefinitionForm}
+use Rattle.tla_ast.specs.declared.form.DefinitionForm.TheVariants as forms
 use Rattle.tla_ast.specs.declared.module.Program.{Program}
 use Rattle.tla_ast.specs.declared.module.Unit.{Unit as ModuleUnit}
 use Rattle.tla_ast.specs.declared.module.Unit.TheVariants.{Variables, Constants, Recursive, Define, Assume, Passed, Instance}
@@ -16,7 +18,7 @@ use Rattle.term_parts.proofs.Contained.{contains_head}
 use Rattle.term_levels.specs.Faults.{IsAssumptionFault, IsFault, IsFirst, in_term, no_constant}
 use Rattle.tla_program.specs.Names.{Numbers}
 use Rattle.tla_tables.specs.NameFaults.{definitions_before}
-use Rattle.tla_levels.specs.UnitLevels.{HasFineLevels, IsAssumedFault, IsBodyFault, IsFirstLevelFault, IsLevelFaultAt, IsUnitFault, assumptions_before}
+use Rattle.tla_levels.specs.UnitLevels.{HasFineLevels, IsAssumedFault, IsBodyFault, IsFirstLevelFault, IsFormFault, IsLevelFaultAt, IsUnitFault, assumptions_before}
 use Rattle.decided_levels.proofs.Deciding.{Decided, both_or, either_or, turned}
 use Rattle.decided_levels.proofs.RowRelations.{one_item}
 use Rattle.some_resolved.proofs.Searching.{AtMostFound, search_first}
@@ -71,25 +73,30 @@ module _ (p : Program) (number : Numbers) (ops : List Operator) (assumes : List 
   one_number : (a b : ℕ) → Some a ≡ Some b → a ≡ b
   one_number a b e = cc
 
-  body_here : (i row : ℕ) (o : Operator) → number i ≡ Some row → slice_get ops row ≡ Some o → (f : LevelFault) → IsFault ops o.body f ↔ IsBodyFault number ops i f
-  body_here i row o n s f = (
+  form_first : (form : DefinitionForm) (e : Term) → HasFirst (IsFormFault form ops e)
+  form_first forms.Operator e = term_first ops e
+  form_first forms.Function e = term_first ops e
+  form_first forms.Constant e = assumption_first ops e
+
+  body_here : (form : DefinitionForm) (i row : ℕ) (o : Operator) → number i ≡ Some row → slice_get ops row ≡ Some o → (f : LevelFault) → IsFormFault form ops o.body f ↔ IsBodyFault number ops form i f
+  body_here form i row o n s f = (
     λ h. record { row = row; operator = o; numbered = n; stands = s; wrong = h },
     λ w.
         let same : w.row ≡ row = one_number w.row row (sym w.numbered ∙ n) in
         let there : slice_get ops row ≡ Some w.operator = subst (λ (k : ℕ). slice_get ops k ≡ Some w.operator) same w.stands in
-        subst (λ (q : Operator). IsFault ops q.body f) (one_item w.operator o (sym there ∙ s)) w.wrong,
+        subst (λ (q : Operator). IsFormFault form ops q.body f) (one_item w.operator o (sym there ∙ s)) w.wrong,
   )
 
-  body_by_row : (i row : ℕ) → number i ≡ Some row → (r : Option Operator) → slice_get ops row ≡ r → HasFirst (IsBodyFault number ops i)
-  body_by_row i row n None s = inl (λ f w. (
+  body_by_row : (form : DefinitionForm) (i row : ℕ) → number i ≡ Some row → (r : Option Operator) → slice_get ops row ≡ r → HasFirst (IsBodyFault number ops form i)
+  body_by_row form i row n None s = inl (λ f w. (
       let same : w.row ≡ row = one_number w.row row (sym w.numbered ∙ n) in
       let bad : None ≡ Some w.operator = sym s ∙ ap (λ (k : ℕ). slice_get ops k) (sym same) ∙ w.stands in
       cc))
-  body_by_row i row n (Some o) s = first_turned (IsFault ops o.body) (IsBodyFault number ops i) (body_here i row o n s) (term_first ops o.body)
+  body_by_row form i row n (Some o) s = first_turned (IsFormFault form ops o.body) (IsBodyFault number ops form i) (body_here form i row o n s) (form_first form o.body)
 
-  body_first : (i : ℕ) (r : Option ℕ) → number i ≡ r → HasFirst (IsBodyFault number ops i)
-  body_first i None n = inl (λ f w. (let bad : None ≡ Some w.row = sym n ∙ w.numbered in cc))
-  body_first i (Some row) n = body_by_row i row n (slice_get ops row) refl
+  body_first : (form : DefinitionForm) (i : ℕ) (r : Option ℕ) → number i ≡ r → HasFirst (IsBodyFault number ops form i)
+  body_first form i None n = inl (λ f w. (let bad : None ≡ Some w.row = sym n ∙ w.numbered in cc))
+  body_first form i (Some row) n = body_by_row form i row n (slice_get ops row) refl
 
   assumed_here : (j : ℕ) (e : Term) → slice_get assumes j ≡ Some e → (f : LevelFault) → IsAssumptionFault ops e f ↔ IsAssumedFault ops assumes j f
   assumed_here j e s f = (λ h. record { term = e; stands = s; wrong = h }, λ w. subst (λ (t : Term). IsAssumptionFault ops t f) (one_item w.term e (sym w.stands ∙ s)) w.wrong)
@@ -99,7 +106,7 @@ module _ (p : Program) (number : Numbers) (ops : List Operator) (assumes : List 
   assumed_first j (Some e) s = first_turned (IsAssumptionFault ops e) (IsAssumedFault ops assumes j) (assumed_here j e s) (assumption_first ops e)
 
   unit_first : (i j : ℕ) (u : ModuleUnit) → HasFirst (IsUnitFault number ops assumes i j u)
-  unit_first i j (Define d) = body_first i (number i) refl
+  unit_first i j (Define d) = body_first d.form i (number i) refl
   unit_first i j (Assume e) = assumed_first j (slice_get assumes j) refl
   unit_first i j (Variables ds) = inl (λ f h. h)
   unit_first i j (Constants ds) = inl (λ f h. h)

@@ -30,7 +30,7 @@ use Rattle.tla_levels.specs.declared.fault.ResolveFault.{ResolveFault}
 use Rattle.tla_levels.specs.declared.fault.ResolveFault.TheVariants.{NoMemory, NoOperator, NoValue, NotTheShape, TooManyVariables}
 use Rattle.tla_levels.specs.Configured.{AreSteps, HasBody, HasNoShape, IsSilentOf, by_names, by_specification, first_too_high, first_without_operator, missing, operator_named}
 use Rattle.tla_levels.specs.Givens.{first_given_fault}
-use Rattle.tla_levels.specs.Refusals.{of_level, of_name}
+use Rattle.tla_levels.specs.Refusals.{instance_names, of_level, of_name}
 use Rattle.tla_levels.specs.Resolved as outcome
 use Rattle.tla_levels.specs.Resolved.{HasFewVariables, IsConfigured, IsLevelled, IsNamed, IsOneForm, IsSpecOf, Resolved}
 use Rattle.tla_levels.specs.Standing.{GivesShape}
@@ -102,11 +102,11 @@ some_terms done (x ∷ xs) =
     let r : (ts : Terms) × (terms_list ts ≡ (terms_list done ++ x ∷ []) ++ xs) = some_terms (MoreTerms done x) xs in
     (r.0, r.1 ∙ append_assoc (terms_list done) (x ∷ []) xs)
 
-name_true : (f : NameFault) → f ≢ name.NoMemory → of_name f ≢ NoMemory
-name_true (name.UnknownName n at) h q = cc
-name_true (name.WrongArity n found needed at) h q = cc
-name_true (name.Recursion n at) h q = cc
-name_true name.NoMemory h q = h refl
+name_true : (is : List (List ℕ)) (f : NameFault) → f ≢ name.NoMemory → of_name is f ≢ NoMemory
+name_true is (name.UnknownName n at) h q = cc
+name_true is (name.WrongArity n found needed at) h q = cc
+name_true is (name.Recursion n at) h q = cc
+name_true is name.NoMemory h q = h refl
 
 level_true : (f : LevelFault) → of_level f ≢ NoMemory
 level_true (TooHigh found allowed at) q = cc
@@ -177,7 +177,7 @@ module _ (p : Program) (c : Config) (silent : Option (List ℕ)) where
 
   by_names_come : IsOneForm c → NamesCome p c → Outcome
   by_names_come form (programs.too_many_variables d e) = refused (TooManyVariables d.at) (λ q. cc) (outcome.too_many_variables d e)
-  by_names_come form (programs.wrong_name f few w real) = refused (of_name f) (name_true f real) (outcome.wrong_name f few w)
+  by_names_come form (programs.wrong_name f few w real) = refused (of_name (instance_names p.units) f) (name_true (instance_names p.units) f real) (outcome.wrong_name f few w)
   by_names_come form (programs.no_value d few fine w) = refused (NoValue d.name d.at) (λ q. cc) (outcome.no_value d few fine w)
   by_names_come form (programs.named values number ops assumes h) = by_givens values number ops assumes h form (first_given_fault p number ops c.givens) refl
 

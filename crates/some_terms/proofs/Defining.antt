@@ -183,6 +183,7 @@ if_itself false true o = cc
 
 no_itself : (form : DefinitionForm) (n : List ℕ) (ps : List (List ℕ)) (e : Tree) → own_of form n ps e ≡ owns.Itself → ⊥
 no_itself forms.Operator n ps e o = cc
+no_itself forms.Constant n ps e o = cc
 no_itself forms.Function n ps e o = if_itself (is_one_of n ps) (mentions n e) o
 
 some_definition : (m : Around) (d : Definition) → Stands m → one_complaint (takes m) d ≡ None → Body d → SomeDefinition m d

@@ -1,5 +1,5 @@
 -- What a text spells has as many parts as the grammar asks for.
-use Rattle.std.proofs.Common.{List, [], ◌∷◌}
+use Rattle.std.proofs.Common.{List, [], ◌∷◌, ◌++◌}
 use Rattle.std.specs.Prelude.{◌≢◌, ℕ}
 use Rattle.trace_base.specs.declared.place.Place.{Place}
 use Rattle.tla_ast.specs.declared.form.DefinitionForm.{DefinitionForm}
@@ -7,6 +7,7 @@ use Rattle.tla_ast.specs.declared.form.DefinitionForm.TheVariants as forms
 use Rattle.tla_ast.specs.declared.laid.Bullet.{Bullet}
 use Rattle.tla_ast.specs.declared.laid.Laid.{Laid}
 use Rattle.tla_ast.specs.declared.module.Unit.{Unit as ModuleUnit}
+use Rattle.tla_ast.specs.declared.module.With.{With}
 use Rattle.tla_ast.specs.declared.module.Unit.TheVariants.{Variables, Constants, Recursive, Define, Instance, Assume, Passed}
 use Rattle.tla_ast.specs.declared.operators.InfixOperator.{InfixOperator}
 use Rattle.tla_tokens.specs.declared.token.Symbol.{Symbol}
@@ -14,8 +15,8 @@ use Rattle.tla_tokens.specs.declared.token.Symbol.TheVariants as symbols
 use Rattle.tla_ast.specs.Trees.{Tree, Number, Str, Truth, Builtin, Name, Call, Qualified, At, Parenthesized, Junction, Prefix, Infix, Postfix, SetOf, Filter, Map, Tuple, Function, FunctionSet, Record, RecordSet, Except, Quantified, Choose, If, Case, CaseOther, Let, BoxAction, AngleAction, Fairness, Trees, NoTrees, MoreTrees, Operands, First, Next, Step, Prime, Index, Field, Steps, NoSteps, MoreSteps, Bounds, NoBounds, MoreBounds, Fields, NoFields, MoreFields, Changes, NoChanges, MoreChanges, Arms, NoArms, MoreArms, Definitions, NoDefinitions, MoreDefinitions}
 use Rattle.tla_ast.specs.Grammar.{by_form, Span, IsPath, AreOnce, Text, ArgumentsText, CommasBefore, Commas, MaybeCommas, Items, ItemsBefore, Chain, StepText, StepsText, BoundsBefore, BoundsText, FieldsBefore, FieldsText, ChangesBefore, ChangesText, ArmsBefore, SomeArmsBefore, ArmsText, FunctionRest, DefinitionsText, SomeDefinitions, DefinitionRest, NamesText}
 use Rattle.tla_ast.specs.Fits.{Fits, AllFit, ChainFits, StepFits, StepsFit, BoundsFit, FieldsFit, ChangesFit, ArmsBeforeFit, ArmsFit, DefinitionsFit}
-use Rattle.tla_ast.specs.Modules.{UnitText, UnitsText, UnitFits, UnitsFit}
-use Rattle.spec_laws.specs.Formed.{IsFormed, AreFormed, ChainIsFormed, StepIsFormed, StepsAreFormed, BoundsAreFormed, FieldsAreFormed, ChangesAreFormed, ArmsAreFormed, DefinitionsAreFormed, UnitIsFormed, UnitsAreFormed}
+use Rattle.tla_ast.specs.Modules.{UnitText, UnitsText, UnitFits, UnitsFit, WithText, MoreWithsText, WithsText, WithsFit}
+use Rattle.spec_laws.specs.Formed.{IsFormed, AreFormed, ChainIsFormed, StepIsFormed, StepsAreFormed, BoundsAreFormed, FieldsAreFormed, ChangesAreFormed, ArmsAreFormed, DefinitionsAreFormed, UnitIsFormed, UnitsAreFormed, WithsAreFormed}
 use Rattle.spec_laws.specs.FormLaws.{SpelledAreFormed, ModulesAreFormed}
 
 some_names : (ns : List (List ℕ)) (xs ys : List Laid) → NamesText ns xs ys → ns ≢ []
@@ -64,6 +65,7 @@ definitions_there ds n at ns form e h k = (λ q. cc, (h, k))
 either_form : {A : Type 0} (form : DefinitionForm) (R S : Span) (xs ys : List Laid) → by_form form R S xs ys → (R xs ys → A) → (S xs ys → A) → A
 either_form forms.Operator R S xs ys h f g = f h
 either_form forms.Function R S xs ys h f g = g h
+either_form forms.Constant R S xs ys h f g = absurd h
 
 mutual
   formed : (t : Tree) (xs ys : List Laid) → Text t xs ys → Fits t → IsFormed t
@@ -187,6 +189,19 @@ mutual
 rest : (ns : List (List ℕ)) (form : DefinitionForm) (t : Tree) (xs ys : List Laid) → DefinitionRest ns form t xs ys → Fits t → IsFormed t
 rest ns forms.Operator t xs ys h f = formed t h.2.0 ys h.2.2 f
 rest ns forms.Function t xs ys h f = function_rest t xs ys h.1 f
+rest ns forms.Constant t xs ys h f = absurd h
+
+-- what WITH gives
+with_formed : (before : List (List ℕ)) (w : With) (xs ys : List Laid) → WithText before w xs ys → Fits w.by → IsFormed w.by
+with_formed before w xs ys h f = formed w.by h.1.2.0 ys h.1.2.2 f
+
+more_withs_formed : (before : List (List ℕ)) (ws : List With) (xs ys : List Laid) → MoreWithsText before ws xs ys → WithsFit ws → WithsAreFormed ws
+more_withs_formed before [] xs ys h f = tt
+more_withs_formed before (w ∷ ws) xs ys h f = (with_formed before w h.0 h.2.0 h.2.1 f.0, more_withs_formed (before ++ w.name ∷ []) ws h.2.0 ys h.2.2 f.1)
+
+withs_formed : (ws : List With) (xs ys : List Laid) → WithsText ws xs ys → WithsFit ws → WithsAreFormed ws
+withs_formed [] xs ys h f = tt
+withs_formed (w ∷ ws) xs ys h f = (with_formed [] w h.0 h.2.0 h.2.1 f.0, more_withs_formed (w.name ∷ []) ws h.2.0 ys h.2.2 f.1)
 
 unit_formed : (u : ModuleUnit) (xs ys : List Laid) → UnitText u xs ys → UnitFits u → UnitIsFormed u
 unit_formed (Variables ds) xs ys h f = tt
@@ -194,7 +209,7 @@ unit_formed (Constants ds) xs ys h f = tt
 unit_formed (Recursive ds) xs ys h f = tt
 unit_formed (Define d) xs ys h f = rest d.params d.form d.body h.0 ys h.2 f
 unit_formed (Assume e) xs ys h f = formed e h.2.0 ys h.2.2 f
-unit_formed (Instance m) xs ys h f = absurd h
+unit_formed (Instance m) xs ys h f = withs_formed m.withs h.2.2.2.0 ys h.2.2.2.2 f
 unit_formed Passed xs ys h f = tt
 
 units_formed : (us : List ModuleUnit) (xs ys : List Laid) → UnitsText us xs ys → UnitsFit us → UnitsAreFormed us

@@ -6,7 +6,7 @@ use Rattle.tla_ast.specs.declared.module.Program.{Program}
 use Rattle.tla_terms.specs.declared.spec.Spec.{Spec}
 use Rattle.tla_levels.specs.Resolved.{Answers, Resolved}
 use Rattle.tla_levels.specs.declared.fault.ResolveFault.{ResolveFault}
-use Rattle.tla_levels.specs.declared.fault.ResolveFault.TheVariants.{TooManyVariables, UnknownName, WrongArity, Recursion, NoValue, LevelTooHigh, PrimedArgument, NoOperator, NotTheShape, NoMemory}
+use Rattle.tla_levels.specs.declared.fault.ResolveFault.TheVariants.{TooManyVariables, UnknownName, WrongArity, Recursion, NoValue, LevelTooHigh, PrimedArgument, NoOperator, NotTheShape, NotAVariable, NoSubstitute, NoMemory}
 use Rattle.specification_names.specs.Behind.{looked_through}
 use Rattle.specification_names.specs.Resolving.{AnswersBy, ResolvedBy, ResolvedWide, by_the_one_behind, refused_twice}
 
@@ -20,6 +20,8 @@ as_answer wide p c silent (LevelTooHigh l m at) h = h
 as_answer wide p c silent (PrimedArgument at) h = h
 as_answer wide p c silent (NoOperator n) h = h
 as_answer wide p c silent (NotTheShape at) h = h
+as_answer wide p c silent (NotAVariable n at) h = h
+as_answer wide p c silent (NoSubstitute n at) h = h
 as_answer wide p c silent NoMemory h = tt
 
 pub answers_strictly : (p : Program) (c : Config) (silent : Option (List ℕ)) (f : ResolveFault) → Answers p c silent (Err f) → AnswersBy false p c silent (Err f)
@@ -32,6 +34,8 @@ answers_strictly p c silent (LevelTooHigh l m at) h = h
 answers_strictly p c silent (PrimedArgument at) h = h
 answers_strictly p c silent (NoOperator n) h = h
 answers_strictly p c silent (NotTheShape at) h = h
+answers_strictly p c silent (NotAVariable n at) h = h
+answers_strictly p c silent (NoSubstitute n at) h = h
 answers_strictly p c silent NoMemory h = tt
 
 module _ (p : Program) (c d : Config) (silent : Option (List ℕ)) (refusal : ResolveFault) (same : d ≡ looked_through p c) (strict : Resolved p c silent (Err refusal)) where

@@ -43,10 +43,11 @@ either R S xs ys = R xs ys ⊎ S xs ys
 abbrev pub only : Type 0 → Span → Span
 only P R xs ys = P × R xs ys
 
--- of a definition of one form or of the other
+-- of a definition of one form or of the other; what an instance gives for a constant has no text
 abbrev pub by_form : DefinitionForm → Span → Span → Span
 by_form forms.Operator R S = R
 by_form forms.Function R S = S
+by_form forms.Constant R S = never
 
 -- a token of this kind at this place
 abbrev pub token : Place → Kind → Span

@@ -4,10 +4,11 @@
 -- 1. A module is dashes, MODULE, its name, dashes, EXTENDS and names where it extends others, units, equals signs and the End.
 -- 2. Declared names stand behind VARIABLE, VARIABLES, CONSTANT or CONSTANTS, with commas between them.
 -- 3. Declared operators stand behind RECURSIVE, with commas between them. Each is a name, and `_` for each of its parameters.
--- 4. A definition is its name and what stands behind it. No text spells an instance yet.
+-- 4. A definition is its name and what stands behind it. An instance is its name, `==`, INSTANCE, the name of a module, and WITH and what
+--    it gives or nothing: one name or more with commas between them, `<-` and an expression behind each. No name is given twice.
 -- 5. ASSUME, ASSUMPTION or AXIOM has an expression behind it, and a name and `==` before that or not.
 -- 6. Passed over are dashes, and THEOREM, LEMMA, PROPOSITION or COROLLARY with what stands behind it, which is as behind ASSUME.
-use Rattle.std.specs.Prelude.{◌≡◌, ℕ, zero, suc, false, List, [], ◌∷◌, ◌++◌}
+use Rattle.std.specs.Prelude.{◌≡◌, ◌≢◌, ℕ, zero, suc, false, List, [], ◌∷◌, ◌++◌}
 use Rattle.tla_ast.specs.declared.laid.Laid.{Laid}
 use Rattle.tla_ast.specs.declared.laid.Laid.TheVariants.{Plain, ListOpen, ListItem, ListClose}
 use Rattle.tla_tokens.specs.declared.token.Token.{Token}
@@ -20,6 +21,7 @@ use Rattle.tla_ast.specs.declared.module.DeclaredOperator.{DeclaredOperator}
 use Rattle.tla_ast.specs.declared.module.Unit.{Unit as ModuleUnit}
 use Rattle.tla_ast.specs.declared.module.Unit.TheVariants.{Variables, Constants, Recursive, Define, Instance, Assume, Passed}
 use Rattle.tla_ast.specs.declared.module.With.{With}
+use Rattle.tla_ast.specs.declared.module.Made.{Made}
 use Rattle.tla_ast.specs.declared.module.Module.{Module}
 use Rattle.tla_ast.specs.Opens.{is_end}
 use Rattle.tla_ast.specs.Trees.{Tree}
@@ -89,13 +91,35 @@ SomeExpression xs ys = (e : Tree) × Spells e xs ys
 abbrev pub SomeText : Span
 SomeText xs ys = (e : Tree) × Text e xs ys
 
+-- the name is none of these
+abbrev pub IsNoneOf : List (List ℕ) → List ℕ → Type 0
+IsNoneOf [] n = Unit {0}
+IsNoneOf (m ∷ ms) n = (n ≢ m) × IsNoneOf ms n
+
+-- a name that was not given before, `<-`, and what stands for it
+abbrev pub WithText : List (List ℕ) → With → Span
+WithText before w xs ys = IsNoneOf before w.name × (token w.at (kinds.Name w.name) ⨟ sign symbols.LeftArrow ⨟ Text w.by) xs ys
+
+-- further ones, each with a comma before it
+abbrev pub MoreWithsText : List (List ℕ) → List With → Span
+MoreWithsText before [] = nothing
+MoreWithsText before (w ∷ ws) = sign symbols.Comma ⨟ WithText before w ⨟ MoreWithsText (before ++ w.name ∷ []) ws
+
+-- WITH and what it gives, or nothing
+abbrev pub WithsText : List With → Span
+WithsText [] = nothing
+WithsText (w ∷ ws) = some_token (kinds.Foreign foreign.With) ⨟ WithText [] w ⨟ MoreWithsText (w.name ∷ []) ws
+
+abbrev pub InstanceText : Made → Span
+InstanceText m = token m.at (kinds.Name m.name) ⨟ sign symbols.Defined ⨟ some_token (kinds.Foreign foreign.Instance) ⨟ name m.module_name ⨟ WithsText m.withs
+
 -- a unit, with what stands behind the title of a theorem
 abbrev pub UnitTextBy : Span → ModuleUnit → Span
 UnitTextBy some (Variables ds) = variable_word ⨟ DeclaredNamesText ds
 UnitTextBy some (Constants ds) = constant_word ⨟ DeclaredNamesText ds
 UnitTextBy some (Recursive ds) = recursive_word ⨟ DeclaredOperatorsText ds
 UnitTextBy some (Define d) = token d.at (kinds.Name d.name) ⨟ DefinitionRest d.params d.form d.body
-UnitTextBy some (Instance m) = never
+UnitTextBy some (Instance m) = InstanceText m
 UnitTextBy some (Assume e) = assume_word ⨟ MaybeTitle ⨟ Text e
 UnitTextBy some Passed = either (some_token kinds.Dashes) (theorem_word ⨟ MaybeTitle ⨟ some)
 

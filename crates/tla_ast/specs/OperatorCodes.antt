@@ -237,11 +237,14 @@ bullet_back bullets.Or = refl
 abbrev pub form_gv : DefinitionForm → Gv
 form_gv forms.Operator = gnum 0
 form_gv forms.Function = gnum 1
+form_gv forms.Constant = gnum 2
 
 abbrev pub gv_form : Gv → DefinitionForm
 gv_form (gnum zero) = forms.Operator
-gv_form _ = forms.Function
+gv_form (gnum (suc zero)) = forms.Function
+gv_form _ = forms.Constant
 
 pub form_back : (x : DefinitionForm) → gv_form (form_gv x) ≡ x
 form_back forms.Operator = refl
 form_back forms.Function = refl
+form_back forms.Constant = refl

@@ -23,8 +23,8 @@ pub use laid::{Bullet, Laid};
 pub use laid_laws::laws_of_laid;
 pub use lexed_ends::tokens_end_once;
 pub use module::{
-    Declared, DeclaredNames, DeclaredOperator, DeclaredOperators, Made, Module, Program, Unit,
-    Units, With, Withs,
+    Declared, DeclaredNames, DeclaredOperator, DeclaredOperators, Instance, Instances, Made,
+    Module, Program, Unit, Units, WholeProgram, With, Withs,
 };
 pub use operators::{BuiltinSet, InfixOperator, PrefixOperator, Quantifier};
 pub use qualified_names::qualified;

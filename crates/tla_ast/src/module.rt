@@ -307,3 +307,66 @@ pub struct Program {
     pub units: Units,
     pub standard: Names,
 }
+
+/// An instance among the units of a program: its name and the place of that, and the program of its module. What WITH gives stands in the unit.
+#[derive(Drop)]
+pub struct Instance {
+    pub name: Text,
+    pub at: Place,
+    pub program: Program,
+}
+
+/// A program as it is read: its files and standard modules are those of its instances too, and the instances among its units stand beside it, in
+/// their order.
+#[derive(Drop)]
+pub struct WholeProgram {
+    pub program: Program,
+    pub instances: Instances,
+}
+
+/// A list of instances, seen as the list itself.
+#[derive(Drop)]
+pub struct Instances {
+    items: Vec<Instance>,
+}
+
+impl Model for Instances {
+    ghost use Rattle.std.specs.Prelude.{List};
+    ghost use Rattle.tla_ast.specs.declared.module.Instance.{Instance};
+
+    ghost Value = { List Instance };
+
+    ghost use Rattle.std.specs.Coded.{codes};
+    ghost use Rattle.tla_ast.specs.TreeCodes.{tree_code};
+
+    ghost coded = { Prim.hlevel (codes, tree_code) };
+
+    ghost view = { λ n. n.items.items };
+}
+
+impl Instances {
+    /// No instances.
+    pub fn new(alloc: Global) -> Instances
+        ensures { result ≡ [] }
+    {
+        Instances {
+            items: Vec::new(alloc),
+        }
+    }
+
+    /// Adds an instance at the end. On a refusal the list is as it was.
+    pub fn push(&mut self, item: Instance) -> Result<(), NoMemory>
+        ensures pushed { OnOk result (self.new ≡ self.old ++ item ∷ []) }
+        ensures kept { OnErr result (self.new ≡ self.old) }
+    {
+        self.items.push(item)?;
+        Ok(())
+    }
+
+    /// The instances as a slice.
+    pub fn items(&self) -> &[Instance]
+        ensures { result.now ≡ self.now }
+    {
+        &self.items
+    }
+}

@@ -1,4 +1,4 @@
--- What the tokens of a text hold: a name is some bytes, names and strings are UTF-8, numbers are below 2^63, and there are no more than a text may have.
+-- What the tokens of a text hold: a name is some bytes of words, names and strings are UTF-8, numbers are below 2^63, and there are no more than a text may have.
 use Rattle.std.proofs.Common.{◌≡◌, ◌≢◌, ℕ, ◌+◌, ◌^◌, ◌<◌, ◌≤◌, Bool, true, false, ◌&&◌, ◌||◌, cond, eqb, List, [], ◌∷◌, ◌++◌, length, take, drop, Option, Some, None, Result, Ok, Err, refl, sym, ap, subst, ◌∙◌, arith, append_assoc}
 use Rattle.std.proofs.lemmas.List.{take-append-drop}
 use Rattle.std.proofs.lemmas.Bool.Decides.{nat_tests}
@@ -26,7 +26,7 @@ use Rattle.tla_lexer.proofs.Fronts.{first_of, or_true, words_utf8}
 
 -- what a token of this kind holds
 abbrev pub Holds : Kind → Type 0
-Holds (kinds.Name n) = (n ≢ []) × IsUtf8 n
+Holds (kinds.Name n) = (n ≢ []) × IsUtf8 n × (each is_word n ≡ true)
 Holds (kinds.Number z) = (n : ℕ) × (z ≡ pos n) × (n < 2 ^ 63)
 Holds (kinds.Str s) = IsUtf8 s
 Holds _ = Unit {0}
@@ -118,13 +118,16 @@ signs_fixed = refl
 
 -- ---- shapes
 
-named : (k : Option Kind) (w : List ℕ) → w ≢ [] → IsUtf8 w → KindMayHold k → ShapeHolds (named_shape k w)
-named (Some k) w s u p = p
-named None w s u p = either_one (list_any is_letter w) (Spelled (kinds.Name w)) (Bad BadCharacter) (λ e. (s, u)) tt
+named : (k : Option Kind) (w : List ℕ) → w ≢ [] → IsUtf8 w → each is_word w ≡ true → KindMayHold k → ShapeHolds (named_shape k w)
+named (Some k) w s u i p = p
+named None w s u i p = either_one (list_any is_letter w) (Spelled (kinds.Name w)) (Bad BadCharacter) (λ e. (s, u, i)) tt
 
-spelled : (w : List ℕ) → w ≢ [] → IsUtf8 w → MayHold (word_shape w)
-spelled w s u = either_shape (begins_fair w) _ _ (λ e. only (length w == 3) (Spelled kinds.Fair) tt)
-    (named (kind_in words w) w s u (table_holds words w words_fixed))
+spelled : (w : List ℕ) → w ≢ [] → IsUtf8 w → each is_word w ≡ true → MayHold (word_shape w)
+spelled w s u i = either_shape (begins_fair w) _ _ (λ e. only (length w == 3) (Spelled kinds.Fair) tt)
+    (named (kind_in words w) w s u i (table_holds words w words_fixed))
+
+of_word : (b : ℕ) (bs : List ℕ) → each is_word (b ∷ bs) ≡ true → MayHold (word_shape (b ∷ bs))
+of_word b bs i = spelled (b ∷ bs) (λ n. cc) (words_utf8 (b ∷ bs) i) i
 
 number : (digits : List ℕ) → ShapeHolds (number_shape digits)
 number digits = either_one (nat_lt (number_from 0 digits) (2 ^ 63)) _ _ (λ e. (number_from 0 digits, refl, below (number_from 0 digits) (2 ^ 63) e)) tt
@@ -213,7 +216,7 @@ shape_holds [] more u = tt
 shape_holds (b ∷ bs) more u =
     either_shape (is_blank b) _ _ (λ e. only (is_empty bs) Blank tt)
     (either_shape (is_digit b) _ _ (λ e. only (each is_digit bs) (number_shape (b ∷ bs)) (number (b ∷ bs)))
-    (either_shape (is_word_start b) _ _ (λ e. either_shape (each is_word bs) _ _ (λ f. spelled (b ∷ bs) (λ n. cc) (words_utf8 (b ∷ bs) (first_of (is_word b) (each is_word bs) false (or_true (is_word_start b) (is_digit b) e) ∙ f))) tt)
+    (either_shape (is_word_start b) _ _ (λ e. either_shape (each is_word bs) _ _ (λ f. of_word b bs (first_of (is_word b) (each is_word bs) false (or_true (is_word_start b) (is_digit b) e) ∙ f)) tt)
     (either_shape (b == 34) _ _ (λ e. quoted (after_quote bs) (λ content q. content_utf8 b bs more content (quote_byte b e) u q))
     (either_shape (b == 92) _ _ (λ e. backslash bs)
     (either_shape (opens_comment (b ∷ bs)) _ _ (λ e. comment (after_comment 1 (drop 1 bs)))

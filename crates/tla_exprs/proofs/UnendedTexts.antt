@@ -146,6 +146,7 @@ rest_goes : (n : List ℕ) (p : Place) (ns : List (List ℕ)) (form : Definition
 rest_goes n p ns definition_forms.Operator e xs rest x ends h =
     subst Goes (sym (operator_begins n p ns xs h.0 h.2.0 h.1 h.2.1)) (body_goes n p p x rest ends (forms.Operator ns) e h.2.0 h.2.2)
 rest_goes n p ns definition_forms.Function e xs rest x ends h = function_goes n p e xs rest x ends h.1
+rest_goes n p ns definition_forms.Constant e xs rest x ends h = absurd h
 
 definition_goes : (n : List ℕ) (p : Place) (ns : List (List ℕ)) (form : DefinitionForm) (e : Tree) (xs rest : List Laid) (x : Laid) → EndsText x → DefinitionText n p ns form e xs (x ∷ rest) → Goes (run xs [] (mode.DefinitionName scopes.Unit))
 definition_goes n p ns form e xs rest x ends h = subst (λ v. Goes (run v [] (mode.DefinitionName scopes.Unit))) (sym h.1) (rest_goes n p ns form e h.0 rest x ends h.2)

@@ -1,22 +1,26 @@
 -- The first thing that is wrong with the levels of the units.
 use Rattle.std.proofs.Common.{◌≡◌, ◌∙◌, sym, ap, refl, subst, ℕ, List, [], ◌∷◌, ◌++◌, length, ◌<◌, ◌≤◌, ◌+◌, arith, take, get_or, inl, inr, length-append, ◌⊎◌}
-use Rattle.std.specs.Prelude.{Option, Some, None, MatchOption, slice_get}
+use Rattle.std.specs.Prelude.{Option, Some, None, Result, Ok, Err, IfOk, MatchOption, slice_get}
 use Rattle.std.proofs.lemmas.List.{take_more}
 use Rattle.std.proofs.lemmas.Option.{slice_get_within}
+use Rattle.tla_ast.specs.declared.form.DefinitionForm.{DefinitionForm}
+use Rattle.tla_ast.specs.declared.form.DefinitionForm.TheVariants as forms
 use Rattle.tla_ast.specs.declared.module.Program.{Program}
 use Rattle.tla_ast.specs.declared.module.Unit.{Unit as ModuleUnit}
 use Rattle.tla_ast.specs.declared.module.Unit.TheVariants.{Variables, Constants, Recursive, Define, Instance, Assume, Passed}
 use Rattle.tla_terms.specs.declared.operator.Operator.{Operator}
 use Rattle.tla_terms.specs.Terms.{Term}
 use Rattle.term_parts.specs.declared.fault.LevelFault.{LevelFault}
+use Rattle.term_parts.specs.Slots.{MentionsBelow, UsesSmaller}
 use Rattle.term_parts.proofs.Lists.{item_within, some_item}
+use Rattle.term_parts.proofs.Ordering.{body_within}
 use Rattle.term_levels.specs.declared.note.Note.{Note}
-use Rattle.term_levels.specs.Faults.{IsFault, IsFirst}
+use Rattle.term_levels.specs.Faults.{IsFault, IsFirst, in_term}
 use Rattle.term_levels.specs.Notes.{AreNotes}
 use Rattle.tla_program.specs.InUnits.{assumptions_in}
 use Rattle.tla_program.specs.Names.{Numbers}
-use Rattle.tla_levels.specs.Standing.{fault_in}
-use Rattle.tla_levels.specs.UnitLevels.{IsBodyFault, IsUnitFault, IsLevelFaultAt, IsFirstLevelFault, HasFineLevels, assumptions_before}
+use Rattle.tla_levels.specs.Standing.{IsFaultOf, fault_in}
+use Rattle.tla_levels.specs.UnitLevels.{IsBodyFault, IsFormFault, IsUnitFault, IsLevelFaultAt, IsFirstLevelFault, HasFineLevels, assumptions_before}
 use Rattle.tla_tables.specs.NameFaults.{definitions_before}
 
 -- the first of those that are such, where others are such exactly where these are
@@ -27,32 +31,60 @@ carry P Q (Some f) a b h = record { is_such = a f h.is_such; none_before = λ g 
 same_some : {A : Type 0} (x y : A) → Some x ≡ Some y → x ≡ y
 same_some x y e = cc
 
-module _ (number : Numbers) (ops : List Operator) (notes : List Note) (i k : ℕ) (numbered : number i ≡ Some k) (are : AreNotes ops notes) (as_many : length notes ≡ length ops) where
-  of_body : (o : Operator) → slice_get ops k ≡ Some o → (f : LevelFault) → IsFault ops o.body f → IsBodyFault number ops i f
-  of_body o s f w = record { row = k; operator = o; numbered = numbered; stands = s; wrong = w }
+-- what is noted of the body of an operator or a function, if it stands in the table
+pub noted_told : (ops : List Operator) (notes : List Note) (k : ℕ) (found : Option LevelFault) → AreNotes ops notes → length notes ≡ length ops → found ≡ fault_in (slice_get notes k) → IsFaultOf forms.Operator ops (slice_get ops k) found
+noted_told ops notes k found are as_many e = subst (λ (x : Option LevelFault). IsFaultOf forms.Operator ops (slice_get ops k) x) (sym e) (by_row (slice_get ops k) (slice_get notes k) refl refl)
+  where
+    by_row : (r : Option Operator) (n : Option Note) → slice_get ops k ≡ r → slice_get notes k ≡ n → IsFaultOf forms.Operator ops r (fault_in n)
+    by_row None None s q = refl
+    by_row (Some o) (Some n) s q = (are k o n s q).fault
+    by_row None (Some n) s q =
+        let lt : k < length ops = omega (arith, item_within notes k n q, as_many) in
+        let x : (o : Operator) × (slice_get ops k ≡ Some o) = some_item ops k lt in
+        let bad : None ≡ Some x.0 = sym s ∙ x.1 in
+        absurd (cc)
+    by_row (Some o) None s q =
+        let lt : k < length notes = omega (arith, item_within ops k o s, as_many) in
+        let x : (n : Note) × (slice_get notes k ≡ Some n) = some_item notes k lt in
+        let bad : None ≡ Some x.0 = sym q ∙ x.1 in
+        absurd (cc)
 
-  to_body : (o : Operator) → slice_get ops k ≡ Some o → (f : LevelFault) → IsBodyFault number ops i f → IsFault ops o.body f
-  to_body o s f w =
+pub function_told : (ops : List Operator) (r : Option Operator) (found : Option LevelFault) → IsFaultOf forms.Operator ops r found → IsFaultOf forms.Function ops r found
+function_told ops None found h = h
+function_told ops (Some o) found h = h
+
+-- what stands for a constant uses definitions of the table alone
+pub constant_below : (ops : List Operator) (n k : ℕ) (o : Operator) → UsesSmaller ops → n ≡ length ops → slice_get ops k ≡ Some o → MentionsBelow n o.body
+constant_below ops n k o ordered e s = subst (λ (m : ℕ). MentionsBelow m o.body) (sym e) (body_within ops k o ordered s)
+
+-- so is that of an index
+module _ (number : Numbers) (ops : List Operator) (form : DefinitionForm) (i : ℕ) where
+  abbrev Bad : LevelFault → Type 0
+  Bad = IsBodyFault number ops form i
+
+  abbrev Said : Option LevelFault → Type 0
+  Said found = MatchOption found ((f : LevelFault) → ¬ Bad f) (IsFirst Bad)
+
+  there_stands : (k : ℕ) → number i ≡ Some k → (f : LevelFault) (w : Bad f) → slice_get ops k ≡ Some w.operator
+  there_stands k numbered f w =
       let row : w.row ≡ k = same_some w.row k (sym w.numbered ∙ numbered) in
-      let there : slice_get ops k ≡ Some w.operator = subst (λ (x : ℕ). slice_get ops x ≡ Some w.operator) row w.stands in
-      let same : w.operator ≡ o = same_some w.operator o (sym there ∙ s) in
-      subst (λ (x : Operator). IsFault ops x.body f) same w.wrong
+      subst (λ (x : ℕ). slice_get ops x ≡ Some w.operator) row w.stands
 
-  by_note : (n : Option Note) → slice_get notes k ≡ n → MatchOption (fault_in n) ((f : LevelFault) → ¬ IsBodyFault number ops i f) (IsFirst (IsBodyFault number ops i))
-  by_note None e = λ f w.
-      let row : w.row ≡ k = same_some w.row k (sym w.numbered ∙ numbered) in
-      let there : slice_get ops k ≡ Some w.operator = subst (λ (x : ℕ). slice_get ops x ≡ Some w.operator) row w.stands in
-      let lt : k < length notes = omega (arith, item_within ops k w.operator there, as_many) in
-      let x : (n : Note) × (slice_get notes k ≡ Some n) = some_item notes k lt in
-      let bad : None ≡ Some x.0 = sym e ∙ x.1 in
-      absurd (cc)
-  by_note (Some n) e =
-      let lt : k < length ops = omega (arith, item_within notes k n e, as_many) in
-      let x : (o : Operator) × (slice_get ops k ≡ Some o) = some_item ops k lt in
-      carry (IsFault ops x.0.body) (IsBodyFault number ops i) n.fault (of_body x.0 x.1) (to_body x.0 x.1) (are k x.0 n x.1 e).fault
+  of_row : (k : ℕ) → number i ≡ Some k → (r : Option Operator) → slice_get ops k ≡ r → (found : Option LevelFault) → IsFaultOf form ops r found → Said found
+  of_row k numbered None s found h = subst Said (sym h) (λ f w. (let bad : None ≡ Some w.operator = sym s ∙ there_stands k numbered f w in cc))
+  of_row k numbered (Some o) s found h =
+      carry (IsFormFault form ops o.body) Bad found (λ f w. record { row = k; operator = o; numbered = numbered; stands = s; wrong = w })
+      (λ f w. subst (λ (x : Operator). IsFormFault form ops x.body f) (same_some w.operator o (sym (there_stands k numbered f w) ∙ s)) w.wrong) h
 
-  pub noted : (r : Option LevelFault) → r ≡ fault_in (slice_get notes k) → MatchOption r ((f : LevelFault) → ¬ IsBodyFault number ops i f) (IsFirst (IsBodyFault number ops i))
-  noted r e = subst (λ (x : Option LevelFault). MatchOption x ((f : LevelFault) → ¬ IsBodyFault number ops i f) (IsFirst (IsBodyFault number ops i))) (sym e) (by_note (slice_get notes k) refl)
+  pub noted : {E : Type 0} (k : ℕ) (r : Result (Option LevelFault) E) → number i ≡ Some k → IfOk r (IsFaultOf form ops (slice_get ops k)) → IfOk r Said
+  noted k (Ok found) numbered h = of_row k numbered (slice_get ops k) refl found h
+  noted k (Err e) numbered h = tt
+
+-- what is wrong in a body is wrong with a definition of each form
+pub in_form : (form : DefinitionForm) (ops : List Operator) (e : Term) (f : LevelFault) → IsFault ops e f → IsFormFault form ops e f
+in_form forms.Operator ops e f h = h
+in_form forms.Function ops e f h = h
+in_form forms.Constant ops e f h = in_term e f h
 
 below_or_at : (j k : ℕ) → j < k + 1 → (j < k) ⊎ (j ≡ k)
 below_or_at j k lt = grind arith

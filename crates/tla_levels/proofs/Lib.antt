@@ -5,3 +5,4 @@ pub mod Naming
 pub mod Refusing
 pub mod Shapes
 pub mod Sought
+pub mod Told

@@ -1,11 +1,9 @@
 -- What is refused, and that it is the first thing that is wrong.
-use Rattle.std.proofs.Common.{◌≡◌, ◌∙◌, sym, ap, subst, ℕ, List, length, take, take_all, arith}
-use Rattle.std.specs.Prelude.{Option, Some, None, Result, Ok, Err, IfOk, IfErr, IsErrAnd, MatchOption, eqb, slice_get}
-use Rattle.std.specs.List.{position_or_len}
+use Rattle.std.proofs.Common.{◌≡◌, ◌∙◌, sym, ap, subst, ℕ, List}
+use Rattle.std.specs.Prelude.{Option, Some, None, Result, Ok, Err, IfOk, IfErr, IsErrAnd, MatchOption, slice_get}
 use Rattle.std.specs.Borrow.{Bor}
 use Rattle.trace_base.specs.declared.place.Place.{Place}
 use Rattle.tla_values.specs.Data.{Val}
-use Rattle.tla_ast.specs.Grammar.{mark}
 use Rattle.tla_ast.specs.declared.config.Config.{Config}
 use Rattle.tla_ast.specs.declared.config.GivenAt.{GivenAt}
 use Rattle.tla_ast.specs.declared.module.Declared.{Declared}
@@ -21,9 +19,9 @@ use Rattle.tla_tables.specs.Values.{HasAllValues, IsFirstWithoutValue}
 use Rattle.term_levels.specs.declared.note.Note.{Note}
 use Rattle.term_levels.specs.Notes.{AreNotes}
 use Rattle.tla_levels.specs.declared.fault.ResolveFault.{ResolveFault}
-use Rattle.tla_levels.specs.declared.fault.ResolveFault.TheVariants.{TooManyVariables, UnknownName, WrongArity, Recursion, NoValue, LevelTooHigh, PrimedArgument, NoOperator, NotTheShape, NoMemory}
+use Rattle.tla_levels.specs.declared.fault.ResolveFault.TheVariants.{TooManyVariables, UnknownName, WrongArity, Recursion, NoValue, LevelTooHigh, PrimedArgument, NoOperator, NotTheShape, NotAVariable, NoSubstitute, NoMemory}
 use Rattle.tla_levels.specs.Givens.{first_given_fault}
-use Rattle.tla_levels.specs.Refusals.{of_level, of_name, told_name}
+use Rattle.tla_levels.specs.Refusals.{instance_names, of_level, of_name}
 use Rattle.tla_levels.specs.Resolved.{Answers, HasFewVariables, IsConfigured, IsLevelled, IsNamed, Resolved, too_many_variables, wrong_name, no_value, wrong_given, wrong_level, no_operator, no_shape, too_high}
 use Rattle.tla_levels.specs.Configured.{HasNoShape, first_too_high, first_without_operator}
 use Rattle.tla_levels.specs.Standing.{RefusesName, RefusesShape}
@@ -39,6 +37,8 @@ answers p c silent (LevelTooHigh found limit at) r = r
 answers p c silent (PrimedArgument at) r = r
 answers p c silent (NoOperator n) r = r
 answers p c silent (NotTheShape at) r = r
+answers p c silent (NotAVariable n at) r = r
+answers p c silent (NoSubstitute n at) r = r
 answers p c silent NoMemory r = tt
 
 pub some_said : {B : Type 0} (A : Type 0) (P : B → Type 0) (o : Option B) (f : B) → MatchOption o A P → o ≡ Some f → P f
@@ -59,18 +59,10 @@ module _ (p : Program) (c : Config) (number : Numbers) (ops : List Operator) (as
 pub refuses_variable : (p : Program) (o : Option Declared) (d : Declared) → o ≡ slice_get (variables_in p.units) 64 → o ≡ Some d → (c : Config) (silent : Option (List ℕ)) → Answers p c silent (Err (TooManyVariables d.at))
 refuses_variable p o d e s c silent = too_many_variables d (sym e ∙ s)
 
--- a text that is told of a name
-pub same_name : {E : Type 0} (r : Result (List ℕ) E) (a b : List ℕ) → a ≡ b → IfOk r (λ t. t ≡ a) → IfOk r (λ t. t ≡ b)
-same_name r a b p h = subst (λ x. IfOk r (λ t. t ≡ x)) p h
-
--- a name without a mark is told as it is
-pub whole_name : (n : List ℕ) → position_or_len (λ c. eqb c mark) n ≡ length n → told_name n ≡ n
-whole_name n p = ap (λ k. take k n) p ∙ take_all (length n) n (omega arith)
-
-pub refuses_name : (p : Program) (c : Config) (f : NameFault) (r : ResolveFault) (o : Option NameFault) → HasFewVariables p → MatchOption o (HasFineNames p c) (IsFirstNameFault p c) → o ≡ Some f → r ≡ of_name f → (silent : Option (List ℕ)) → Answers p c silent (Err r)
+pub refuses_name : (p : Program) (c : Config) (f : NameFault) (r : ResolveFault) (o : Option NameFault) → HasFewVariables p → MatchOption o (HasFineNames p c) (IsFirstNameFault p c) → o ≡ Some f → r ≡ of_name (instance_names p.units) f → (silent : Option (List ℕ)) → Answers p c silent (Err r)
 refuses_name p c f r o few h s q silent =
-    let there : Resolved p c silent (Err (of_name f)) = wrong_name f few (some_said (HasFineNames p c) (IsFirstNameFault p c) o f h s) in
-    subst (λ (x : ResolveFault). Answers p c silent (Err x)) (sym q) (answers p c silent (of_name f) there)
+    let there : Resolved p c silent (Err (of_name (instance_names p.units) f)) = wrong_name f few (some_said (HasFineNames p c) (IsFirstNameFault p c) o f h s) in
+    subst (λ (x : ResolveFault). Answers p c silent (Err x)) (sym q) (answers p c silent (of_name (instance_names p.units) f) there)
 
 pub refuses_value : (p : Program) (c : Config) (o : Option (Bor Declared)) (d : Bor Declared) (n : List ℕ) → HasFewVariables p → HasFineNames p c → MatchOption o (HasAllValues p c) (λ x. IsFirstWithoutValue p c x.now) → o ≡ Some d → n ≡ d.now.name → (silent : Option (List ℕ)) → Resolved p c silent (Err (NoValue n d.now.at))
 refuses_value p c o d n few fine h s q silent =
@@ -94,6 +86,8 @@ module _ (p : Program) (c : Config) (silent : Option (List ℕ)) (values : List 
   without_operator (LevelTooHigh found limit at) h e = absurd e
   without_operator (PrimedArgument at) h e = absurd e
   without_operator (NotTheShape at) h e = absurd e
+  without_operator (NotAVariable n at) h e = absurd e
+  without_operator (NoSubstitute n at) h e = absurd e
 
   pub refuses_operator : {A : Type 0} (r : Result A ResolveFault) → IsNamed p c values number ops assumes → first_given_fault p number ops c.givens ≡ None → HasFineLevels p number ops assumes → IfErr r (RefusesName (first_without_operator p c silent)) → IfErr r (λ f. Answers p c silent (Err f))
   refuses_operator (Ok x) n g l h = tt
@@ -110,6 +104,8 @@ module _ (p : Program) (c : Config) (silent : Option (List ℕ)) (values : List 
   refuses_shape (NoValue n at) h e = absurd e
   refuses_shape (LevelTooHigh found limit at) h e = absurd e
   refuses_shape (PrimedArgument at) h e = absurd e
+  refuses_shape (NotAVariable n at) h e = absurd e
+  refuses_shape (NoSubstitute n at) h e = absurd e
 
   pub refuses_limit : (f : ResolveFault) → IsConfigured p c silent values number ops assumes → ((at : Place) → ¬ HasNoShape p c number ops at) → first_too_high p c silent number ops ≡ Some f → Answers p c silent (Err f)
   refuses_limit f h s e = answers p c silent f (too_high values number ops assumes f h s e)

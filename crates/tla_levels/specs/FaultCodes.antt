@@ -13,4 +13,6 @@ resolve_code (resolve.NotTheShape at) = codes "V6 NotTheShape"
 resolve_code (resolve.Recursion name at) = codes "V7 Recursion"
 resolve_code (resolve.TooManyVariables at) = codes "V8 TooManyVariables"
 resolve_code (resolve.NoOperator name) = codes "V9 NoOperator"
+resolve_code (resolve.NotAVariable name at) = codes "V10 NotAVariable"
+resolve_code (resolve.NoSubstitute name at) = codes "V11 NoSubstitute"
 resolve_code resolve.NoMemory = []

@@ -21,7 +21,7 @@ use Rattle.tla_levels.specs.declared.fault.ResolveFault.{ResolveFault}
 use Rattle.tla_levels.specs.declared.fault.ResolveFault.TheVariants.{TooManyVariables, NoValue, NoOperator, NotTheShape, NoMemory}
 use Rattle.tla_levels.specs.Configured.{first_without_operator, HasNoShape, AreSteps, first_too_high, IsSilentOf}
 use Rattle.tla_levels.specs.Givens.{first_given_fault}
-use Rattle.tla_levels.specs.Refusals.{of_name, of_level}
+use Rattle.tla_levels.specs.Refusals.{instance_names, of_name, of_level}
 use Rattle.tla_levels.specs.UnitLevels.{HasFineLevels, IsFirstLevelFault}
 
 abbrev pub HasFewVariables : Program → Type 0
@@ -59,7 +59,7 @@ pub record IsSpecOf (p : Program) (c : Config) (silent : Option (List ℕ)) (num
 
 pub data Resolved (p : Program) (c : Config) (silent : Option (List ℕ)) : Result Spec ResolveFault → Type 0 where
   too_many_variables : (d : Declared) → slice_get (variables_in p.units) 64 ≡ Some d → Resolved p c silent (Err (TooManyVariables d.at))
-  wrong_name : (f : NameFault) → HasFewVariables p → IsFirstNameFault p c f → Resolved p c silent (Err (of_name f))
+  wrong_name : (f : NameFault) → HasFewVariables p → IsFirstNameFault p c f → Resolved p c silent (Err (of_name (instance_names p.units) f))
   no_value : (d : Declared) → HasFewVariables p → HasFineNames p c → IsFirstWithoutValue p c d → Resolved p c silent (Err (NoValue d.name d.at))
   wrong_given : (values : List Val) (number : Numbers) (ops : List Operator) (assumes : List Term) (f : ResolveFault) → IsNamed p c values number ops assumes
       → first_given_fault p number ops c.givens ≡ Some f → Resolved p c silent (Err f)

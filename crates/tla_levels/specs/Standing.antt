@@ -1,6 +1,7 @@
 -- For the prover: what a program declares, as the code has it, and that each definition stands in the table.
-use Rattle.std.specs.Prelude.{◌≡◌, ◌<◌, ℕ, List, length, Option, Some, None, map, slice_get}
+use Rattle.std.specs.Prelude.{◌≡◌, ◌<◌, ℕ, List, length, Option, Some, None, MatchOption, map, slice_get}
 use Rattle.tla_ast.specs.declared.config.Config.{Config}
+use Rattle.tla_ast.specs.declared.form.DefinitionForm.{DefinitionForm}
 use Rattle.tla_ast.specs.declared.module.Program.{Program}
 use Rattle.tla_terms.specs.declared.operator.Operator.{Operator}
 use Rattle.tla_terms.specs.Lists.{terms_list}
@@ -14,9 +15,11 @@ use Rattle.tla_program.specs.Names.{Numbers, numbers_of}
 use Rattle.tla_levels.specs.declared.fault.ResolveFault.{ResolveFault}
 use Rattle.tla_levels.specs.declared.fault.ResolveFault.TheVariants.{NotTheShape, NoOperator, NoMemory}
 use Rattle.tla_levels.specs.Configured.{HasBody, HasNoShape, operator_named}
+use Rattle.term_levels.specs.Faults.{IsFirst}
 use Rattle.term_levels.specs.Shape.{HasShape}
 use Rattle.trace_base.specs.declared.place.Place.{Place}
 use Rattle.tla_ast.specs.declared.expr.Definition.{Definition}
+use Rattle.tla_levels.specs.UnitLevels.{IsFormFault}
 use Rattle.tla_levels.specs.declared.finding.Declarations.{Declarations}
 
 -- these are the declarations of the program
@@ -37,6 +40,11 @@ AreBelow n ts = (j : ℕ) (e : Term) → slice_get (terms_list ts) j ≡ Some e 
 abbrev pub fault_in : Option Note → Option LevelFault
 fault_in None = None
 fault_in (Some n) = n.fault
+
+-- the first fault of the body of that definition, if there is one, which has that form
+abbrev pub IsFaultOf : DefinitionForm → List Operator → Option Operator → Option LevelFault → Type 0
+IsFaultOf form ops None found = found ≡ None
+IsFaultOf form ops (Some o) found = MatchOption found ((f : LevelFault) → ¬ IsFormFault form ops o.body f) (IsFirst (IsFormFault form ops o.body))
 
 -- the refusal is that the operator behind SPECIFICATION has another shape, or want of memory
 abbrev pub RefusesShape : Program → Config → Numbers → List Operator → ResolveFault → Type 0

@@ -1,5 +1,7 @@
 -- What is wrong with the levels of a program: the first in the order of its units, and in a unit the first in the order of its text.
 use Rattle.std.specs.Prelude.{◌≡◌, ◌<◌, ℕ, List, length, take, Some, slice_get}
+use Rattle.tla_ast.specs.declared.form.DefinitionForm.{DefinitionForm}
+use Rattle.tla_ast.specs.declared.form.DefinitionForm.TheVariants as forms
 use Rattle.tla_ast.specs.declared.module.Program.{Program}
 use Rattle.tla_ast.specs.declared.module.Unit.{Unit as ModuleUnit}
 use Rattle.tla_ast.specs.declared.module.Unit.TheVariants.{Define, Assume}
@@ -11,13 +13,19 @@ use Rattle.tla_program.specs.InUnits.{assumptions_in}
 use Rattle.tla_program.specs.Names.{Numbers}
 use Rattle.tla_tables.specs.NameFaults.{definitions_before}
 
--- something is wrong with the levels in the body of the definition of that index
-pub record IsBodyFault (number : Numbers) (ops : List Operator) (i : ℕ) (f : LevelFault) : Type 0 where
+-- What is wrong with the body of a definition of that form: what stands in an instance for a constant is to be constant, as what is assumed.
+abbrev pub IsFormFault : DefinitionForm → List Operator → Term → LevelFault → Type 0
+IsFormFault forms.Operator ops e f = IsFault ops e f
+IsFormFault forms.Function ops e f = IsFault ops e f
+IsFormFault forms.Constant ops e f = IsAssumptionFault ops e f
+
+-- something is wrong with the levels in the body of the definition of that index, which has that form
+pub record IsBodyFault (number : Numbers) (ops : List Operator) (form : DefinitionForm) (i : ℕ) (f : LevelFault) : Type 0 where
   pub row : ℕ
   pub operator : Operator
   pub numbered : number i ≡ Some row
   pub stands : slice_get ops row ≡ Some operator
-  pub wrong : IsFault ops operator.body f
+  pub wrong : IsFormFault form ops operator.body f
 
 -- something is wrong with the levels of the assumption of that index
 pub record IsAssumedFault (ops : List Operator) (assumes : List Term) (j : ℕ) (f : LevelFault) : Type 0 where
@@ -27,7 +35,7 @@ pub record IsAssumedFault (ops : List Operator) (assumes : List Term) (j : ℕ) 
 
 -- Something is wrong with the levels of a unit, which has so many definitions and assumptions before it.
 abbrev pub IsUnitFault : Numbers → List Operator → List Term → ℕ → ℕ → ModuleUnit → LevelFault → Type 0
-IsUnitFault number ops assumes i j (Define d) f = IsBodyFault number ops i f
+IsUnitFault number ops assumes i j (Define d) f = IsBodyFault number ops d.form i f
 IsUnitFault number ops assumes i j (Assume e) f = IsAssumedFault ops assumes j f
 IsUnitFault number ops assumes i j u f = ⊥
 

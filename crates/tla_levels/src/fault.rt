@@ -1,10 +1,12 @@
-ghost use Rattle.std.specs.Prelude.{◌≡◌, IfOk};
+ghost use Rattle.std.specs.Prelude.{◌≡◌, [], ◌∷◌, IfOk};
+ghost use Rattle.tla_scopes.specs.Mentions.{is_one_of};
 ghost use Rattle.tla_levels.specs.FaultCodes.{resolve_code};
-ghost use Rattle.tla_levels.specs.Refusals.{of_level, of_name, told_name};
+ghost use Rattle.tla_levels.specs.Refusals.{before_mark, instance_names, of_level, of_name, told_name, without_mark};
 
 use std::alloc::Global;
 use term_parts::LevelFault;
 use thiserror::Error;
+use tla_ast::{Unit, Units};
 use tla_names::NameFault;
 use tla_terms::Level;
 use trace_base::{NoMemory, Place, Text};
@@ -38,6 +40,12 @@ pub enum ResolveFault {
     /// The definition behind SPECIFICATION, whose body is no conjunction that gives Init and Next.
     #[error("{} at {}", self.code(), .0)]
     NotTheShape(Place),
+    /// A variable of the module of an instance whose substitute is no variable, at the substitute.
+    #[error("{} {} at {}", self.code(), .0.as_str(), .1)]
+    NotAVariable(Text, Place),
+    /// A constant or variable of the module of an instance that has no substitute, at the instance.
+    #[error("{} {} at {}", self.code(), .0.as_str(), .1)]
+    NoSubstitute(Text, Place),
     #[error("out of memory")]
     NoMemory,
 }
@@ -57,6 +65,8 @@ impl ResolveFault {
             ResolveFault::Recursion(_, _) => "V7 Recursion",
             ResolveFault::TooManyVariables(_) => "V8 TooManyVariables",
             ResolveFault::NoOperator(_) => "V9 NoOperator",
+            ResolveFault::NotAVariable(_, _) => "V10 NotAVariable",
+            ResolveFault::NoSubstitute(_, _) => "V11 NoSubstitute",
             ResolveFault::NoMemory => "",
         }
     }
@@ -73,27 +83,80 @@ impl From<NoMemory> for ResolveFault {
     }
 }
 
-/// The name that is told of one that means nothing: of a qualified name, as `I!N`, that of its instance.
-fn told_name(alloc: Global, name: &Text) -> Result<Text, NoMemory>
-    ensures { IfOk result (λ told. told ≡ told_name name.now) }
+/// The part of a name before its first mark, or the whole name where it has none.
+fn before_mark(name: &str) -> &str
+    ensures { result.now ≡ before_mark name.now }
 {
-    match name.as_str().split_once('!') {
-        Some((instance, _)) => Text::from_text(alloc, instance),
-        None => name.copy(),
+    match name.split_once('!') {
+        Some((part, _)) => part,
+        None => name,
     }
 }
 
-/// What is wrong with a name.
-pub(crate) fn of_name(alloc: Global, fault: NameFault) -> Result<ResolveFault, NoMemory>
-    ensures { IfOk result (λ refusal. refusal ≡ of_name fault) }
+/// A name without the mark that it begins with.
+fn without_mark(name: &str) -> &str
+    ensures { result.now ≡ without_mark name.now }
+{
+    match name.strip_prefix('!') {
+        Some(rest) => rest,
+        None => name,
+    }
+}
+
+/// Whether a unit is an instance of that name.
+fn is_instance(unit: &Unit, name: &str) -> bool
+    ensures { result ≡ is_one_of name.now (instance_names (unit.now ∷ [])) }
+{
+    match unit {
+        Unit::Instance(made) => made.name.as_str() == name,
+        Unit::Variables(_) => false,
+        Unit::Constants(_) => false,
+        Unit::Define(_) => false,
+        Unit::Assume(_) => false,
+        Unit::Recursive(_) => false,
+        Unit::Passed => false,
+    }
+}
+
+/// Whether an instance among these units has that name.
+fn has_instance(units: &Units, name: &str) -> bool
+    ensures { result ≡ is_one_of name.now (instance_names units.now) }
+{
+    for unit in units.items() {
+        if is_instance(unit, name) {
+            return true;
+        }
+    }
+    false
+}
+
+/// The name that is told of one that means nothing in a program with these units.
+fn told_name(alloc: Global, units: &Units, name: &Text) -> Result<Text, NoMemory>
+    ensures { IfOk result (λ told. told ≡ told_name (instance_names units.now) name.now) }
+{
+    let text = name.as_str();
+    if has_instance(units, before_mark(text)) {
+        return name.copy();
+    }
+    Text::from_text(alloc, before_mark(without_mark(without_mark(text))))
+}
+
+/// What is wrong with a name of a program with these units.
+pub(crate) fn of_name(
+    alloc: Global,
+    units: &Units,
+    fault: NameFault,
+) -> Result<ResolveFault, NoMemory>
+    ensures { IfOk result (λ refusal. refusal ≡ of_name (instance_names units.now) fault) }
 {
     match fault {
         NameFault::UnknownName(name, at) => {
-            let told = told_name(alloc, &name)?;
+            let told = told_name(alloc, units, &name)?;
             Ok(ResolveFault::UnknownName(told, at))
         }
         NameFault::WrongArity(name, found, needed, at) => {
-            Ok(ResolveFault::WrongArity(name, found, needed, at))
+            let told = Text::from_text(alloc, without_mark(name.as_str()))?;
+            Ok(ResolveFault::WrongArity(told, found, needed, at))
         }
         NameFault::Recursion(name, at) => Ok(ResolveFault::Recursion(name, at)),
         NameFault::NoMemory => Ok(ResolveFault::NoMemory),

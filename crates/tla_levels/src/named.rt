@@ -63,7 +63,7 @@ fn check_names(
 {
     match first_name_fault(alloc, program, config, names, uses)? {
         Some(fault) => {
-            let refusal = of_name(alloc, fault)?;
+            let refusal = of_name(alloc, &program.units, fault)?;
             Err(refusal)
         }
         None => Ok(()),

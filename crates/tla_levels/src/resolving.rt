@@ -43,6 +43,7 @@ fn check_levels(
     requires noted { AreNotes named.now.table.operators notes.now }
     requires all { length notes.now ≡ length named.now.table.operators }
     requires below { AreBelow (length named.now.table.operators) named.now.assumes }
+    requires ordered { UsesSmaller named.now.table.operators }
     ensures givens { OnOk result (first_given_fault program.now (numbers_of named.now.table.numbers.items) named.now.table.operators config.now.givens ≡ None) }
     ensures levels { OnOk result (HasFineLevels program.now (numbers_of named.now.table.numbers.items) named.now.table.operators (terms_list named.now.assumes)) }
     ensures refused { IfErr result (λ f. (values : List Val) (silent : Option (List ℕ)) → IsNamed program.now config.now values (numbers_of named.now.table.numbers.items) named.now.table.operators (terms_list named.now.assumes) → Answers program.now config.now silent (Err f)) }

@@ -1,19 +1,21 @@
 //! The first thing that is wrong with the levels of a program.
 
 ghost use Rattle.std.specs.Prelude.{◌≡◌, ℕ, [], ◌∷◌, IfOk, MatchOption, length, slice_get};
+ghost use Rattle.tla_ast.specs.declared.form.DefinitionForm.TheVariants as forms;
 ghost use Rattle.tla_terms.specs.Lists.{terms_list};
+ghost use Rattle.term_parts.specs.Slots.{UsesSmaller};
 ghost use Rattle.term_parts.specs.declared.fault.LevelFault.{LevelFault as Fault};
 ghost use Rattle.tla_program.specs.InUnits.{assumptions_in, definitions_in};
 ghost use Rattle.term_levels.specs.Faults.{IsFirst};
 ghost use Rattle.term_levels.specs.Notes.{AreNotes};
 ghost use Rattle.tla_program.specs.Names.{numbers_of};
-ghost use Rattle.tla_levels.specs.Standing.{AreBelow, fault_in};
+ghost use Rattle.tla_levels.specs.Standing.{AreBelow, IsFaultOf, fault_in};
 ghost use Rattle.tla_levels.specs.UnitLevels.{HasFineLevels, IsAssumedFault, IsBodyFault, IsFirstLevelFault, IsUnitFault};
 
 use std::alloc::Global;
 use term_levels::{Note, assumption_fault};
 use term_parts::LevelFault;
-use tla_ast::{Program, Unit};
+use tla_ast::{DefinitionForm, Program, Unit};
 use tla_tables::Table;
 use tla_terms::Terms;
 use trace_base::NoMemory;
@@ -38,15 +40,62 @@ fn noted_fault(notes: &[Note], number: usize) -> Option<LevelFault>
     }
 }
 
-/// What is wrong with the levels in the body of the definition of that index.
-fn body_fault(table: &Table, notes: &[Note], index: usize) -> Option<LevelFault>
+/// The first fault of what an instance gives for a constant, the definition of that number.
+fn constant_fault(
+    alloc: Global,
+    table: &Table,
+    notes: &[Note],
+    number: usize,
+) -> Result<Option<LevelFault>, NoMemory>
     requires noted { AreNotes table.now.operators notes.now }
     requires all { length notes.now ≡ length table.now.operators }
-    ensures { let wrong : Fault → Type 0 = IsBodyFault (numbers_of table.now.numbers.items) table.now.operators index in MatchOption result ((f : Fault) → ¬ wrong f) (IsFirst wrong) }
+    requires ordered { UsesSmaller table.now.operators }
+    ensures { IfOk result (IsFaultOf forms.Constant table.now.operators (slice_get table.now.operators number)) }
+{
+    match table.operators.get(number) {
+        Some(operator) => {
+            assumption_fault(alloc, table.operators.items(), notes, &operator.body)
+        }
+        None => Ok(None),
+    }
+}
+
+/// The first fault in the body of the definition of that number, which has that form.
+fn numbered_fault(
+    alloc: Global,
+    table: &Table,
+    notes: &[Note],
+    form: DefinitionForm,
+    number: usize,
+) -> Result<Option<LevelFault>, NoMemory>
+    requires noted { AreNotes table.now.operators notes.now }
+    requires all { length notes.now ≡ length table.now.operators }
+    requires ordered { UsesSmaller table.now.operators }
+    ensures { IfOk result (IsFaultOf form table.now.operators (slice_get table.now.operators number)) }
+{
+    match form {
+        DefinitionForm::Operator => Ok(noted_fault(notes, number)),
+        DefinitionForm::Function => Ok(noted_fault(notes, number)),
+        DefinitionForm::Constant => constant_fault(alloc, table, notes, number),
+    }
+}
+
+/// What is wrong with the levels in the body of the definition of that index, which has that form.
+fn body_fault(
+    alloc: Global,
+    table: &Table,
+    notes: &[Note],
+    form: DefinitionForm,
+    index: usize,
+) -> Result<Option<LevelFault>, NoMemory>
+    requires noted { AreNotes table.now.operators notes.now }
+    requires all { length notes.now ≡ length table.now.operators }
+    requires ordered { UsesSmaller table.now.operators }
+    ensures { let wrong : Fault → Type 0 = IsBodyFault (numbers_of table.now.numbers.items) table.now.operators form index in IfOk result (λ o. MatchOption o ((f : Fault) → ¬ wrong f) (IsFirst wrong)) }
 {
     match number_at(table, index) {
-        Some(number) => noted_fault(notes, number),
-        None => None,
+        Some(number) => numbered_fault(alloc, table, notes, form, number),
+        None => Ok(None),
     }
 }
 
@@ -82,10 +131,11 @@ fn unit_fault(
     requires noted { AreNotes table.now.operators notes.now }
     requires all { length notes.now ≡ length table.now.operators }
     requires below { AreBelow (length table.now.operators) assumes.now }
+    requires ordered { UsesSmaller table.now.operators }
     ensures { let wrong : Fault → Type 0 = IsUnitFault (numbers_of table.now.numbers.items) table.now.operators (terms_list assumes.now) definitions assumptions unit.now in IfOk result (λ o. MatchOption o ((f : Fault) → ¬ wrong f) (IsFirst wrong)) }
 {
     match unit {
-        Unit::Define(_) => Ok(body_fault(table, notes, definitions)),
+        Unit::Define(definition) => body_fault(alloc, table, notes, definition.form, definitions),
         Unit::Assume(_) => assumed_fault(alloc, table, notes, assumes, assumptions),
         Unit::Variables(_) => Ok(None),
         Unit::Constants(_) => Ok(None),
@@ -106,6 +156,7 @@ pub(crate) fn first_level_fault(
     requires noted { AreNotes table.now.operators notes.now }
     requires all { length notes.now ≡ length table.now.operators }
     requires below { AreBelow (length table.now.operators) assumes.now }
+    requires ordered { UsesSmaller table.now.operators }
     ensures { IfOk result (λ o. MatchOption o (HasFineLevels program.now (numbers_of table.now.numbers.items) table.now.operators (terms_list assumes.now)) (IsFirstLevelFault program.now (numbers_of table.now.numbers.items) table.now.operators (terms_list assumes.now))) }
 {
     let mut definitions = 0;

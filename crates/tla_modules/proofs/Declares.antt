@@ -28,7 +28,7 @@ place_push : (name : List ℕ) (ds : List Declared) (d : Declared)
 place_push name [] d = refl
 place_push name (c ∷ ds) d = or_else_if (bytes_eq name c.name) c.at (place_among name ds) _ _ (place_push name ds d)
 
-same_name : (a : List ℕ) → bytes_eq a a ≡ true
+pub same_name : (a : List ℕ) → bytes_eq a a ≡ true
 same_name a = (bytes_decides a a).1 refl
 
 turned : (a b : List ℕ) (r : Bool) → bytes_eq a b ≡ r → bytes_eq a b ≡ false → bytes_eq b a ≡ false

@@ -8,7 +8,7 @@ use Rattle.tla_ast.specs.LexedEnds.{TokensEndOnce}
 use Rattle.tla_ast.specs.Modules.{LaidEndsOnce}
 use Rattle.tla_units.specs.LaidEnds.{MarkedEndsOnce}
 use Rattle.tla_modules.specs.declared.fault.LoadWhy.{LoadWhy}
-use Rattle.tla_modules.specs.declared.fault.LoadWhy.TheVariants.{Read, Lex, Lay, Parse, Cycle, TooMany, Twice, WrongName}
+use Rattle.tla_modules.specs.declared.fault.LoadWhy.TheVariants.{Read, Lex, Lay, Parse, Cycle, TooMany, Twice, WrongName, Nested}
 use Rattle.tla_modules.specs.declared.fault.Stop.{Stop}
 use Rattle.tla_modules.specs.declared.fault.Stop.TheVariants as stops
 use Rattle.tla_modules.specs.Paths.{file_of}
@@ -31,6 +31,7 @@ unread_is reading h folder number name (Cycle names) u = absurd u
 unread_is reading h folder number name (TooMany other) u = absurd u
 unread_is reading h folder number name (Twice other later earlier) u = absurd u
 unread_is reading h folder number name (WrongName other at) u = absurd u
+unread_is reading h folder number name (Nested other at) u = absurd u
 
 pub refuses_unread : {N : Type 0} (reading : Reading N) (h : Option (List File)) (folder : List ℕ) (number : ℕ) (name file : List ℕ) (s : Stop) → file ≡ file_of folder name
     → StopsBy (IsUnreadFile h file) s → StopsBy (Refuses reading h folder number name) s
@@ -77,6 +78,7 @@ caused_not reading h before now number bytes (Cycle names) m = tt
 caused_not reading h before now number bytes (TooMany name) m = tt
 caused_not reading h before now number bytes (Twice name later earlier) m = tt
 caused_not reading h before now number bytes (WrongName name at) m = tt
+caused_not reading h before now number bytes (Nested name at) m = tt
 
 bytes_cause : {N : Type 0} (reading : Reading N) (h : Option (List File)) (before now number : ℕ) (bytes name : List ℕ) (why : LoadWhy)
     → RefusesBytes reading number bytes name why → IsCaused h before now why

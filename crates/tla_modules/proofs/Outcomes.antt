@@ -1,8 +1,10 @@
 -- What loading answers, from what its parts answer.
-use Rattle.std.proofs.Common.{◌≡◌, ◌∙◌, refl, sym, ap, subst, cond, Bool, true, false, ℕ, List, [], ◌∷◌, ◌++◌, length}
+use Rattle.std.proofs.Common.{◌≡◌, ◌∙◌, refl, sym, ap, subst, ℕ, List, [], ◌∷◌, ◌++◌, length}
 use Rattle.std.specs.Prelude.{Option, Result, Ok, Err, IfOk, IfErr}
 use Rattle.trace_base.specs.Device.{File}
-use Rattle.tla_ast.specs.declared.module.Program.{Program}
+use Rattle.tla_ast.specs.declared.module.Made.{Made}
+use Rattle.tla_ast.specs.declared.module.WholeProgram.{WholeProgram}
+use Rattle.tla_ast.specs.declared.module.Unit.{Unit as ModuleUnit}
 use Rattle.tla_modules.specs.declared.loading.Loaded.{Loaded}
 use Rattle.tla_modules.specs.declared.fault.LoadFault.{LoadFault}
 use Rattle.tla_modules.specs.declared.fault.LoadFault.TheVariants.{Refused, NoMemory}
@@ -11,13 +13,12 @@ use Rattle.tla_modules.specs.declared.fault.Stop.{Stop}
 use Rattle.tla_modules.specs.declared.fault.Stop.TheVariants as stops
 use Rattle.tla_modules.specs.declared.notes.Noted.{Noted}
 use Rattle.tla_modules.specs.declared.so_far.Gathered.{Gathered}
-use Rattle.tla_modules.specs.Flattened.{OutcomeOf, Outcome, SoFar, FlattenedBy, Meets, Follows, Visits, closes_cycle, is_listed, was_read, one_too_many, is_visited, all_met, stopped, went_on, is_refused, stopped_below, is_whole, nothing_read, noted, with_module}
+use Rattle.tla_modules.specs.Flattened.{OutcomeOf, Outcome, SoFar, FlattenedBy, Meets, Follows, Visits, Makes, MakesAll, closes_cycle, is_listed, was_read, one_too_many, is_visited, all_met, stopped, went_on, is_refused, is_nested, stopped_below, stopped_in_instance, is_whole, all_made, makes_none, not_made, is_made, passed_over, stopped_inside, has_program, nothing_read, noted, number_of, with_module}
 use Rattle.tla_modules.specs.Loads.{files_of, IsProgram, IsProgramBy, IsRefusedBy, in_a_module, in_the_whole, Loads, LoadsBy}
 use Rattle.tla_modules.specs.Parts.{IsNewProgram, RefusesProgram, RefusesWith}
 use Rattle.tla_modules.specs.Paths.{IsPath}
 use Rattle.tla_modules.specs.Readings.{Reading}
 use Rattle.tla_modules.specs.Refusals.{IsCaused, StopsBy, strict}
-use Rattle.tla_modules.specs.Standard.{is_among}
 
 -- from nothing on
 begins : {N : Type 0} (reading : Reading N) (h : Option (List File)) (folder : List ℕ) (above : List (List ℕ)) (start : Gathered N) (given name : List ℕ) (o : OutcomeOf N)
@@ -73,17 +74,11 @@ abbrev HasNone : Outcome → Type 0
 HasNone (Ok so) = so.notes ≡ []
 HasNone (Err e) = Unit {0}
 
-picked : {A : Type 0} (P : A → Type 0) (b : Bool) (x y : A) → P x → P y → P (cond b x y)
-picked P true x y h k = h
-picked P false x y h k = k
-
 module _ (h : Option (List File)) (folder : List ℕ) where
   mutual
     meets_none : (path : List (List ℕ)) (so : SoFar) (name : List ℕ) (o : Outcome) → Meets strict h folder path so name o → so.notes ≡ [] → HasNone o
     meets_none _ _ _ _ (closes_cycle path so name names c) e = tt
-    meets_none _ _ _ _ (is_listed path so name a s) e =
-        picked (λ (x : SoFar). x.notes ≡ []) (is_among name so.standard) so
-        (record { modules = so.modules; units = so.units; standard = so.standard ++ name ∷ []; notes = so.notes }) e e
+    meets_none _ _ _ _ (is_listed path so name a s) e = e
     meets_none _ _ _ _ (was_read path so name a s r) e = e
     meets_none _ _ _ _ (one_too_many path so name a s r l) e = tt
     meets_none _ _ _ _ (is_visited path so name o a s r l v) e = visits_none path so name o v e
@@ -95,12 +90,26 @@ module _ (h : Option (List File)) (folder : List ℕ) where
 
     visits_none : (path : List (List ℕ)) (so : SoFar) (name : List ℕ) (o : Outcome) → Visits strict h folder path so name o → so.notes ≡ [] → HasNone o
     visits_none _ _ _ _ (is_refused path so name why r) e = tt
-    visits_none _ _ _ _ (stopped_below path so name m notes d i f) e = tt
-    visits_none _ _ _ _ (is_whole path so below name m notes i f) e =
+    visits_none _ _ _ _ (is_nested path so name m notes made i r t f) e = tt
+    visits_none _ _ _ _ (stopped_below path so name m notes d i a f) e = tt
+    visits_none _ _ _ _ (stopped_in_instance path so below name m notes d i a f g) e = tt
+    visits_none _ _ _ _ (is_whole path so below all name m notes i a f g) e =
         let under : below.notes ≡ [] = follows_none (path ++ name ∷ []) (with_module so name) m.extends (Ok below) f e in
-        ap (λ (x : List (Noted (Unit {0}))). x ++ noted (length so.modules) notes) under ∙ ap (λ (x : List (Unit {0})). noted (length so.modules) x) i.spelled.1
+        let made : all.notes ≡ [] = makes_all_none (path ++ name ∷ []) below m.units (Ok all) g under in
+        ap (λ (x : List (Noted (Unit {0}))). x ++ noted (number_of name so.modules) notes) made ∙ ap (λ (x : List (Unit {0})). noted (number_of name so.modules) x) i.spelled.1
 
-pub no_notes : (h : Option (List File)) (folder name : List ℕ) (p : Program) (notes : List (Noted (Unit {0}))) → IsProgramBy strict h folder name p notes
+    makes_all_none : (path : List (List ℕ)) (so : SoFar) (units : List ModuleUnit) (o : Outcome) → MakesAll strict h folder path so units o → so.notes ≡ [] → HasNone o
+    makes_all_none _ _ _ _ (all_made path so) e = e
+    makes_all_none _ _ _ _ (makes_none path so u us o n g) e = makes_all_none path so us o g e
+    makes_all_none _ _ _ _ (not_made path so u us made d m x) e = tt
+    makes_all_none _ _ _ _ (is_made path so next u us made o m x g) e = makes_all_none path next us o g (made_none path so made (Ok next) x e)
+
+    made_none : (path : List (List ℕ)) (so : SoFar) (made : Made) (o : Outcome) → Makes strict h folder path so made o → so.notes ≡ [] → HasNone o
+    made_none _ _ _ _ (passed_over path so made t) e = e
+    made_none _ _ _ _ (stopped_inside path so made d t m) e = tt
+    made_none _ _ _ _ (has_program path so inner made t m) e = e
+
+pub no_notes : (h : Option (List File)) (folder name : List ℕ) (p : WholeProgram) (notes : List (Noted (Unit {0}))) → IsProgramBy strict h folder name p notes
     → IsProgram h folder name p
 no_notes h folder name p notes i = record {
   all = i.all;

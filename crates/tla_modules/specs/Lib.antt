@@ -1,4 +1,5 @@
 pub mod Flattened
+pub mod Instances
 pub mod Known
 pub mod Loads
 pub mod Parts

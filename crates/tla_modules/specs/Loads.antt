@@ -3,7 +3,7 @@
 -- what stands last is the case of the strict one.
 use Rattle.std.specs.Prelude.{◌≡◌, ℕ, List, [], map, Option, Result, Ok, Err}
 use Rattle.trace_base.specs.Device.{File}
-use Rattle.tla_ast.specs.declared.module.Program.{Program}
+use Rattle.tla_ast.specs.declared.module.WholeProgram.{WholeProgram}
 use Rattle.tla_modules.specs.declared.fault.LoadFault.{LoadFault}
 use Rattle.tla_modules.specs.declared.fault.LoadFault.TheVariants.{Refused, NoMemory}
 use Rattle.tla_modules.specs.declared.fault.LoadWhy.{LoadWhy}
@@ -14,32 +14,33 @@ use Rattle.tla_modules.specs.Flattened.{FlattenedBy}
 use Rattle.tla_modules.specs.Paths.{IsPath, file_of}
 use Rattle.tla_modules.specs.Readings.{Reading}
 use Rattle.tla_modules.specs.Refusals.{IsCaused, strict}
-use Rattle.tla_modules.specs.Twice.{declared_in, AreNew, Repeats}
+use Rattle.tla_modules.specs.Twice.{AllAreNew, OneRepeats}
 
 -- the names of the files of modules
 abbrev pub files_of : List ℕ → List (List ℕ) → List (List ℕ)
 files_of folder modules = map (λ name. file_of folder name) modules
 
--- the program has the units of the flattened modules, the names of their files, and the standard modules
-pub record IsProgramOf {N : Type 0} (folder : List ℕ) (all : Gathered N) (p : Program) : Type 0 where
-  pub files : p.files ≡ files_of folder all.modules
-  pub units : p.units ≡ all.units
-  pub standard : p.standard ≡ all.standard
+-- the program has the units of the flattened modules, the names of the files that were sought, the standard modules, and the instances
+pub record IsProgramOf {N : Type 0} (folder : List ℕ) (all : Gathered N) (p : WholeProgram) : Type 0 where
+  pub files : p.program.files ≡ files_of folder all.modules
+  pub units : p.program.units ≡ all.units
+  pub standard : p.program.standard ≡ all.standard
+  pub instances : p.instances ≡ all.instances
 
 -- the flattened program, in which no name is declared twice, and the notes of its modules
-pub record IsProgramBy {N : Type 0} (reading : Reading N) (holds : Option (List File)) (folder name : List ℕ) (p : Program) (notes : List (Noted N)) : Type 0 where
+pub record IsProgramBy {N : Type 0} (reading : Reading N) (holds : Option (List File)) (folder name : List ℕ) (p : WholeProgram) (notes : List (Noted N)) : Type 0 where
   pub all : Gathered N
   pub flattened : FlattenedBy reading holds folder name (Ok all)
   pub program : IsProgramOf folder all p
   pub noted : notes ≡ all.notes
-  pub names : AreNew all.standard [] (declared_in all.units)
+  pub names : AllAreNew all.standard all.units all.instances
 
 -- the refusal of a module, or of a name that is declared twice after all modules are read
 pub data IsRefusedBy {N : Type 0} (reading : Reading N) (holds : Option (List File)) (before now : ℕ) (folder name : List ℕ) : List (List ℕ) → LoadWhy → Type 0 where
   in_a_module : (modules : List (List ℕ)) (why : LoadWhy) → FlattenedBy reading holds folder name (Err (modules, why))
       → IsCaused holds before now why → IsRefusedBy reading holds before now folder name (files_of folder modules) why
   in_the_whole : (all : Gathered N) (why : LoadWhy) → FlattenedBy reading holds folder name (Ok all)
-      → Repeats all.standard (declared_in all.units) why
+      → OneRepeats all.standard all.units all.instances why
       → IsRefusedBy reading holds before now folder name (files_of folder all.modules) why
 
 -- the files' count of faults was before and is now
@@ -52,13 +53,13 @@ LoadsBy reading holds before now path (Err NoMemory) = Unit {0}
 
 -- ---- read strictly
 
-abbrev pub IsProgram : Option (List File) → List ℕ → List ℕ → Program → Type 0
+abbrev pub IsProgram : Option (List File) → List ℕ → List ℕ → WholeProgram → Type 0
 IsProgram holds folder name p = IsProgramBy strict holds folder name p []
 
 abbrev pub IsRefused : Option (List File) → ℕ → ℕ → List ℕ → List ℕ → List (List ℕ) → LoadWhy → Type 0
 IsRefused holds before now folder name files why = IsRefusedBy strict holds before now folder name files why
 
-abbrev pub Loads : Option (List File) → ℕ → ℕ → List ℕ → Result Program LoadFault → Type 0
+abbrev pub Loads : Option (List File) → ℕ → ℕ → List ℕ → Result WholeProgram LoadFault → Type 0
 Loads holds before now path (Ok p) = (folder : List ℕ) × (name : List ℕ) × IsPath path folder name × IsProgram holds folder name p
 Loads holds before now path (Err (Refused files why)) =
     (folder : List ℕ) × (name : List ℕ) × IsPath path folder name × IsRefused holds before now folder name files why

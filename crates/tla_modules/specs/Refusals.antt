@@ -3,7 +3,8 @@
 -- Read strictly, a module is what its file's bytes spell: they have tokens, the tokens have their junction lists marked, and these spell the
 -- module, each of them inside at most 100 unfinished constructs of its unit. What a file gives is said for any reading, and the strict one is a
 -- case. A module has the name under which it was sought. `number` is the number of its file, which each place in it carries.
-use Rattle.std.specs.Prelude.{◌≡◌, ◌≢◌, ℕ, ◌≤◌, true, List, [], length, Option, Some, None, Ok, Err}
+use Rattle.std.specs.Prelude.{◌≡◌, ◌≢◌, ℕ, ◌≤◌, true, List, [], ◌∷◌, length, Vec, Option, Some, None, Ok, Err}
+use Rattle.std.specs.declared.alloc.Global.{Global}
 use Rattle.trace_base.specs.Device.{File, found, Rose, Lacks, IsWhole, IsLonger}
 use Rattle.trace_base.specs.declared.reading.ReadFault.{ReadFault}
 use Rattle.trace_base.specs.declared.reading.ReadFault.TheVariants.{Missing, Failed, TooLong, NoMemory}
@@ -17,7 +18,7 @@ use Rattle.tla_exprs.specs.declared.fault.ParseFault.{ParseFault}
 use Rattle.tla_exprs.specs.declared.fault.ParseFault.TheVariants as parse
 use Rattle.tla_units.specs.Refusals.{IsRefusedModule, ShallowWholeModule}
 use Rattle.tla_modules.specs.declared.fault.LoadWhy.{LoadWhy}
-use Rattle.tla_modules.specs.declared.fault.LoadWhy.TheVariants.{Read, Lex, Lay, Parse, Cycle, TooMany, Twice, WrongName}
+use Rattle.tla_modules.specs.declared.fault.LoadWhy.TheVariants.{Read, Lex, Lay, Parse, Cycle, TooMany, Twice, WrongName, Nested}
 use Rattle.tla_modules.specs.declared.fault.Stop.{Stop}
 use Rattle.tla_modules.specs.declared.fault.Stop.TheVariants as stops
 use Rattle.tla_modules.specs.Paths.{file_of}
@@ -61,6 +62,7 @@ Misspells number bytes (Cycle names) = ⊥
 Misspells number bytes (TooMany name) = ⊥
 Misspells number bytes (Twice name later earlier) = ⊥
 Misspells number bytes (WrongName name at) = ⊥
+Misspells number bytes (Nested name at) = ⊥
 
 -- the strict reading, which has no notes
 abbrev pub strict : Reading (Unit {0})
@@ -68,6 +70,7 @@ strict = record {
   Spells = λ number bytes m notes. SpelledBy number bytes m × (notes ≡ []);
   Misspells = Misspells;
   of_text = λ number bytes file fault h. h;
+  refuses_nested = true;
 }
 
 -- ---- a file, by any reading of its text
@@ -78,6 +81,13 @@ pub record IsModule {N : Type 0} (reading : Reading N) (holds : Option (List Fil
   pub text : IsText holds (file_of folder name) bytes
   pub spelled : reading.Spells number bytes m notes
   pub named : m.name ≡ name
+
+-- the texts that were kept of modules whose files were sought are those of these files
+abbrev pub AreTexts : Option (List File) → List ℕ → List (List ℕ) → List (Vec ℕ Global) → Type 0
+AreTexts holds folder [] [] = Unit {0}
+AreTexts holds folder [] (t ∷ ts) = ⊥
+AreTexts holds folder (m ∷ ms) [] = ⊥
+AreTexts holds folder (m ∷ ms) (t ∷ ts) = IsText holds (file_of folder m) t.items × AreTexts holds folder ms ts
 
 -- where the files tell: there is no such file
 abbrev pub IsMissing : Option (List File) → List ℕ → Type 0
@@ -101,6 +111,7 @@ IsUnreadFile holds file (Cycle names) = ⊥
 IsUnreadFile holds file (TooMany name) = ⊥
 IsUnreadFile holds file (Twice name later earlier) = ⊥
 IsUnreadFile holds file (WrongName name at) = ⊥
+IsUnreadFile holds file (Nested name at) = ⊥
 
 -- the bytes spell no module, or one of another name
 pub data RefusesBytes {N : Type 0} (reading : Reading N) (number : ℕ) (bytes name : List ℕ) : LoadWhy → Type 0 where
@@ -129,6 +140,7 @@ IsCaused holds before now (Cycle names) = Unit {0}
 IsCaused holds before now (TooMany name) = Unit {0}
 IsCaused holds before now (Twice name later earlier) = Unit {0}
 IsCaused holds before now (WrongName name at) = Unit {0}
+IsCaused holds before now (Nested name at) = Unit {0}
 
 -- this holds of the refusal; or memory was wanting
 abbrev pub StopsBy : (LoadWhy → Type 0) → Stop → Type 0

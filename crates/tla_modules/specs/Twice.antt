@@ -1,13 +1,15 @@
--- Names that are declared twice. A program declares its variables, its constants and its definitions, in the order of its units. Each
--- name is to be new where it stands: no standard module that is extended brings it, and it was not declared before.
+-- Names that are declared twice. A program declares its variables, its constants, its definitions and its instances, in the order of its units. Each
+-- name is to be new where it stands: no standard module of the program brings it, and it was not declared before. So it is in the program itself,
+-- and then in the program of each instance.
 use Rattle.std.specs.Prelude.{◌≡◌, ℕ, if◌then◌else◌, List, [], ◌∷◌, ◌++◌, Option, Some, None, option_map}
 use Rattle.std.specs.Str.{bytes_eq}
 use Rattle.trace_base.specs.declared.place.Place.{Place}
 use Rattle.tla_ast.specs.declared.module.Declared.{Declared}
+use Rattle.tla_ast.specs.declared.module.Instance.{Instance as ModuleInstance}
 use Rattle.tla_ast.specs.declared.module.Unit.{Unit as ModuleUnit}
 use Rattle.tla_ast.specs.declared.module.Unit.TheVariants.{Variables, Constants, Recursive, Define, Instance, Assume, Passed}
 use Rattle.tla_modules.specs.declared.fault.LoadWhy.{LoadWhy}
-use Rattle.tla_modules.specs.declared.fault.LoadWhy.TheVariants.{Read, Lex, Lay, Parse, Cycle, TooMany, Twice, WrongName}
+use Rattle.tla_modules.specs.declared.fault.LoadWhy.TheVariants.{Read, Lex, Lay, Parse, Cycle, TooMany, Twice, WrongName, Nested}
 use Rattle.tla_modules.specs.Standard.{is_brought}
 
 abbrev pub declared_as : List ℕ → Place → Declared
@@ -59,3 +61,28 @@ Repeats standard declared (Parse fault) = ⊥
 Repeats standard declared (Cycle names) = ⊥
 Repeats standard declared (TooMany name) = ⊥
 Repeats standard declared (WrongName name at) = ⊥
+Repeats standard declared (Nested name at) = ⊥
+
+-- in the program of that instance each name is new
+abbrev pub IsNewInside : ModuleInstance → Type 0
+IsNewInside i = AreNew i.program.standard [] (declared_in i.program.units)
+
+-- in the program of each of these instances each name is new
+abbrev pub AreNewInside : List ModuleInstance → Type 0
+AreNewInside [] = Unit {0}
+AreNewInside (i ∷ is) = IsNewInside i × AreNewInside is
+
+-- in the program of one of these instances a name is declared twice, and in those before it none
+pub data RepeatsInside : List ModuleInstance → LoadWhy → Type 0 where
+  in_this : (i : ModuleInstance) (is : List ModuleInstance) (why : LoadWhy) → Repeats i.program.standard (declared_in i.program.units) why → RepeatsInside (i ∷ is) why
+  behind_it : (i : ModuleInstance) (is : List ModuleInstance) (why : LoadWhy) → IsNewInside i → RepeatsInside is why → RepeatsInside (i ∷ is) why
+
+-- each name is new, in a program and in that of each of its instances
+pub record AllAreNew (standard : List (List ℕ)) (units : List ModuleUnit) (instances : List ModuleInstance) : Type 0 where
+  pub here : AreNew standard [] (declared_in units)
+  pub inside : AreNewInside instances
+
+-- the first name that is declared twice, in a program, or else in that of the first instance that has one
+pub data OneRepeats (standard : List (List ℕ)) (units : List ModuleUnit) (instances : List ModuleInstance) : LoadWhy → Type 0 where
+  in_program : (why : LoadWhy) → Repeats standard (declared_in units) why → OneRepeats standard units instances why
+  in_instance : (why : LoadWhy) → AreNew standard [] (declared_in units) → RepeatsInside instances why → OneRepeats standard units instances why

@@ -39,6 +39,9 @@ pub enum LoadWhy {
     /// The heading of the module has this name, which is not that of its file.
     #[error("{} {} at {}", self.code(), .0.as_str(), .1)]
     WrongName(Text, Place),
+    /// A module that is read for an instance has an instance itself, of this name at this place, which is its first.
+    #[error("{} {} at {}", self.code(), .0.as_str(), .1)]
+    Nested(Text, Place),
 }
 
 impl LoadWhy {
@@ -55,6 +58,7 @@ impl LoadWhy {
             LoadWhy::TooMany(_) => "M6 TooManyModules",
             LoadWhy::Twice(_, _, _) => "M7 Twice",
             LoadWhy::WrongName(_, _) => "M8 WrongName",
+            LoadWhy::Nested(_, _) => "M9 Nested",
         }
     }
 }

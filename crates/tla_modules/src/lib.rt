@@ -2,6 +2,7 @@
 #![tactic(auto)]
 
 mod fault;
+mod instances;
 mod loading;
 mod meeting;
 mod names;

@@ -11,15 +11,15 @@ use crate::notes::Notes;
 use crate::path::{files_of, parts_of};
 use crate::reader::{ModuleReader, StrictReader};
 use crate::so_far::Gathered;
-use crate::twice::repeated;
+use crate::twice::first_repeated;
 use std::alloc::Global;
-use tla_ast::Program;
+use tla_ast::{Program, WholeProgram};
 use trace_base::{Files, Text};
 
 /// A program, and the notes of its modules, in the order of its units.
 #[derive(Drop)]
 pub struct Loaded<N> {
-    pub program: Program,
+    pub program: WholeProgram,
     pub notes: Notes<N>,
 }
 
@@ -30,13 +30,16 @@ fn program<N: Drop>(alloc: Global, folder: &str, all: Gathered<N>) -> Result<Loa
     ensures refused { IfErr result (RefusesProgram folder.now all) }
 {
     let files = files_of(alloc, folder, &all.modules)?;
-    match repeated(alloc, &all.standard, &all.units)? {
+    match first_repeated(alloc, &all.standard, &all.units, &all.instances)? {
         Some(why) => Err(LoadFault::Refused(files, why)),
         None => Ok(Loaded {
-            program: Program {
-                files,
-                units: all.units,
-                standard: all.standard,
+            program: WholeProgram {
+                program: Program {
+                    files,
+                    units: all.units,
+                    standard: all.standard,
+                },
+                instances: all.instances,
             },
             notes: all.notes,
         }),
@@ -57,10 +60,11 @@ fn refusal<N: Drop>(alloc: Global, folder: &str, so: &Gathered<N>, stop: Stop) -
 }
 
 /// Reads the module of that path and those that it extends, directly or through others, depth first in the order of EXTENDS, each
-/// once, and the text of each as the reader does. Standard modules are not read.
+/// once, and the text of each as the reader does. Standard modules are not read. The modules of a module's instances are read behind those that it
+/// extends; each instance gets a program of its own, and no file is read twice.
 ///
-/// The first refusal is answered: of a module while it is read, compared with its name, and followed to those that it extends; behind
-/// all modules of a name that is declared twice.
+/// The first refusal is answered: of a module while it is read, compared with its name, asked for instances where it is read for one, and followed
+/// to those that it extends and instances; behind all modules of a name that is declared twice.
 pub fn load_by<F: Files, R: ModuleReader>(
     alloc: Global,
     files: &mut F,
@@ -78,14 +82,17 @@ pub fn load_by<F: Files, R: ModuleReader>(
     let name = Text::from_text(alloc, name)?;
     let mut so = Gathered::new(alloc);
     let mut above = Vec::new(alloc);
-    match visit(alloc, files, reader, folder, &mut above, &mut so, &name) {
+    let mut texts = Vec::new(alloc);
+    match visit(
+        alloc, files, reader, folder, &mut above, &mut texts, &mut so, &name,
+    ) {
         Ok(()) => program(alloc, folder, so),
         Err(stop) => Err(refusal(alloc, folder, &so, stop)),
     }
 }
 
 /// The same, where the text of each module is read strictly.
-pub fn load<F: Files>(alloc: Global, files: &mut F, path: &str) -> Result<Program, LoadFault>
+pub fn load<F: Files>(alloc: Global, files: &mut F, path: &str) -> Result<WholeProgram, LoadFault>
     requires { (folder : List ℕ) × (name : List ℕ) × IsPath path.now folder name }
     ensures loads { Loads (F.holds files.old) (F.faults files.old) (F.faults files.new) path.now result }
     ensures same { F.holds files.new ≡ F.holds files.old }

@@ -1,18 +1,21 @@
-//! The modules that a module extends.
+//! The modules that a module extends, and those of its instances.
 
-ghost use Rattle.std.specs.Prelude.{◌≡◌, ◌≤◌, ◌<◌, ◌+◌, ◌∷◌, ◌++◌, [], Ok, Err, length, false, IfOk, IfErr, OnOk, MatchOption};
-ghost use Rattle.tla_modules.specs.Flattened.{most_modules, IsCycle, Meets, Follows, Visits, with_standard};
-ghost use Rattle.tla_modules.specs.Parts.{Ends};
+ghost use Rattle.std.specs.Prelude.{◌≡◌, ◌≤◌, ◌<◌, ◌∷◌, ◌++◌, [], Ok, Err, length, false, true, IfOk, IfErr, OnOk, MatchOption};
+ghost use Rattle.tla_modules.specs.Flattened.{HasRoom, IsFull, IsCycle, Meets, Follows, Visits, Makes, MakesAll};
+ghost use Rattle.tla_modules.specs.Parts.{Ends, EndsRefused, IsGoing, Stays};
 ghost use Rattle.tla_modules.specs.Refusals.{IsCaused, StopsBy};
 ghost use Rattle.tla_modules.specs.Standard.{is_among};
 
 use crate::fault::{LoadWhy, Stop};
-use crate::names::is_among;
+use crate::instances::{add_instance, check_nested, made_by};
+use crate::names::{is_among, number_of};
 use crate::reader::{ModuleReader, SpelledModule};
 use crate::reading::read_module;
-use crate::so_far::Gathered;
+use crate::so_far::{Gathered, list_standard};
 use crate::standard::is_standard;
 use std::alloc::Global;
+use std::mem::replace;
+use tla_ast::{Made, Unit};
 use trace_base::{Files, Names, NoMemory, Text};
 
 /// The most modules of a program, standard ones not counted.
@@ -43,18 +46,15 @@ fn round(alloc: Global, path: &[Text], name: &Text) -> Result<Names, NoMemory>
     Ok(names)
 }
 
-/// Lists a standard module, once.
-fn list_standard<N: Drop>(so: &mut Gathered<N>, name: &Text) -> Result<(), Stop>
-    ensures listed { OnOk result (so.new ≡ with_standard so.old name.now) }
-    ensures no_refusal { IfErr result (λ e. e ≡ Stop.NoMemory) }
+/// Whether there is no room for one more module of this name: in this program, or in the files.
+fn is_full<N: Drop>(so: &Gathered<N>, name: &Text) -> bool
+    ensures full { result ≡ true → IsFull so.now name.now }
+    ensures room { result ≡ false → HasRoom so.now name.now }
 {
-    if !is_among(name, so.standard.items()) {
-        so.standard.push(name.copy()?)?;
-    }
-    Ok(())
+    so.own.len() >= MOST || (!is_among(name, so.modules.items()) && so.modules.len() >= MOST)
 }
 
-/// Meets a name under EXTENDS.
+/// Meets the name of a module, under EXTENDS or of an instance.
 #[cycle(meeting)]
 fn meet<F: Files, R: ModuleReader>(
     alloc: Global,
@@ -62,14 +62,17 @@ fn meet<F: Files, R: ModuleReader>(
     reader: &R,
     folder: &str,
     path: &mut Vec<Text>,
+    texts: &mut Vec<Vec<u8>>,
     so: &mut Gathered<R::Note>,
     name: &Text,
 ) -> Result<(), Stop>
+    requires going { IsGoing (F.holds files.old) folder.now so.old texts.old.items }
     ensures met { OnOk result (Meets (R.reading reader.now) (F.holds files.old) folder.now path.old.items so.old name.now (Ok so.new)) }
     ensures stopped { IfErr result (StopsBy (λ why. Meets (R.reading reader.now) (F.holds files.old) folder.now path.old.items so.old name.now (Err (so.new.modules, why)))) }
     ensures caused { IfErr result (StopsBy (IsCaused (F.holds files.old) (F.faults files.old) (F.faults files.new))) }
     ensures path { OnOk result (path.new.items ≡ path.old.items) }
-    ensures more { OnOk result (length so.old.modules ≤ length so.new.modules) }
+    ensures going { OnOk result (IsGoing (F.holds files.new) folder.now so.new texts.new.items) }
+    ensures stays { OnOk result (Stays so.old so.new) }
     ensures same { F.holds files.new ≡ F.holds files.old }
     ensures later { F.faults files.old ≤ F.faults files.new }
 {
@@ -79,13 +82,13 @@ fn meet<F: Files, R: ModuleReader>(
     if is_standard(name) {
         return list_standard(so, name);
     }
-    if is_among(name, so.modules.items()) {
+    if is_among(name, so.own.items()) {
         return Ok(());
     }
-    if so.modules.len() >= MOST {
+    if is_full(so, name) {
         return Err(Stop::Refused(LoadWhy::TooMany(name.copy()?)));
     }
-    visit(alloc, files, reader, folder, path, so, name)
+    visit(alloc, files, reader, folder, path, texts, so, name)
 }
 
 /// Meets the names under EXTENDS, one behind the other.
@@ -96,19 +99,22 @@ fn follow<F: Files, R: ModuleReader>(
     reader: &R,
     folder: &str,
     path: &mut Vec<Text>,
+    texts: &mut Vec<Vec<u8>>,
     so: &mut Gathered<R::Note>,
     names: &[Text],
 ) -> Result<(), Stop>
+    requires going { IsGoing (F.holds files.old) folder.now so.old texts.old.items }
     ensures followed { OnOk result (Follows (R.reading reader.now) (F.holds files.old) folder.now path.old.items so.old names.now (Ok so.new)) }
     ensures stopped { IfErr result (StopsBy (λ why. Follows (R.reading reader.now) (F.holds files.old) folder.now path.old.items so.old names.now (Err (so.new.modules, why)))) }
     ensures caused { IfErr result (StopsBy (IsCaused (F.holds files.old) (F.faults files.old) (F.faults files.new))) }
     ensures path { OnOk result (path.new.items ≡ path.old.items) }
-    ensures more { OnOk result (length so.old.modules ≤ length so.new.modules) }
+    ensures going { OnOk result (IsGoing (F.holds files.new) folder.now so.new texts.new.items) }
+    ensures stays { OnOk result (Stays so.old so.new) }
     ensures same { F.holds files.new ≡ F.holds files.old }
     ensures later { F.faults files.old ≤ F.faults files.new }
 {
     for name in names {
-        match meet(alloc, files, reader, folder, path, so, name) {
+        match meet(alloc, files, reader, folder, path, texts, so, name) {
             Ok(()) => {}
             Err(stop) => return Err(stop),
         }
@@ -116,7 +122,85 @@ fn follow<F: Files, R: ModuleReader>(
     Ok(())
 }
 
-/// Follows the EXTENDS of a module that was read, and adds its units and notes.
+/// Makes an instance: the program of its module, from nothing. In the program of an instance it is passed over.
+#[cycle(meeting)]
+fn make<F: Files, R: ModuleReader>(
+    alloc: Global,
+    files: &mut F,
+    reader: &R,
+    folder: &str,
+    path: &mut Vec<Text>,
+    texts: &mut Vec<Vec<u8>>,
+    so: &mut Gathered<R::Note>,
+    made: &Made,
+) -> Result<(), Stop>
+    requires going { IsGoing (F.holds files.old) folder.now so.old texts.old.items }
+    ensures made { OnOk result (Makes (R.reading reader.now) (F.holds files.old) folder.now path.old.items so.old made.now (Ok so.new)) }
+    ensures stopped { IfErr result (StopsBy (λ why. Makes (R.reading reader.now) (F.holds files.old) folder.now path.old.items so.old made.now (Err (so.new.modules, why)))) }
+    ensures caused { IfErr result (StopsBy (IsCaused (F.holds files.old) (F.faults files.old) (F.faults files.new))) }
+    ensures path { OnOk result (path.new.items ≡ path.old.items) }
+    ensures going { OnOk result (IsGoing (F.holds files.new) folder.now so.new texts.new.items) }
+    ensures stays { OnOk result (Stays so.old so.new) }
+    ensures same { F.holds files.new ≡ F.holds files.old }
+    ensures later { F.faults files.old ≤ F.faults files.new }
+{
+    if so.of_instance {
+        return Ok(());
+    }
+    let modules = replace(&mut so.modules, Names::new(alloc));
+    let mut inner = Gathered::of_instance(alloc, modules);
+    match meet(
+        alloc,
+        files,
+        reader,
+        folder,
+        path,
+        texts,
+        &mut inner,
+        &made.module_name,
+    ) {
+        Ok(()) => add_instance(alloc, folder, so, made, inner),
+        Err(stop) => {
+            so.modules = inner.modules;
+            Err(stop)
+        }
+    }
+}
+
+/// Makes the instances among units, one behind the other.
+#[cycle(meeting)]
+fn make_all<F: Files, R: ModuleReader>(
+    alloc: Global,
+    files: &mut F,
+    reader: &R,
+    folder: &str,
+    path: &mut Vec<Text>,
+    texts: &mut Vec<Vec<u8>>,
+    so: &mut Gathered<R::Note>,
+    units: &[Unit],
+) -> Result<(), Stop>
+    requires going { IsGoing (F.holds files.old) folder.now so.old texts.old.items }
+    ensures made { OnOk result (MakesAll (R.reading reader.now) (F.holds files.old) folder.now path.old.items so.old units.now (Ok so.new)) }
+    ensures stopped { IfErr result (StopsBy (λ why. MakesAll (R.reading reader.now) (F.holds files.old) folder.now path.old.items so.old units.now (Err (so.new.modules, why)))) }
+    ensures caused { IfErr result (StopsBy (IsCaused (F.holds files.old) (F.faults files.old) (F.faults files.new))) }
+    ensures path { OnOk result (path.new.items ≡ path.old.items) }
+    ensures going { OnOk result (IsGoing (F.holds files.new) folder.now so.new texts.new.items) }
+    ensures stays { OnOk result (Stays so.old so.new) }
+    ensures same { F.holds files.new ≡ F.holds files.old }
+    ensures later { F.faults files.old ≤ F.faults files.new }
+{
+    for unit in units {
+        if let Some(made) = made_by(unit) {
+            match make(alloc, files, reader, folder, path, texts, so, made) {
+                Ok(()) => {}
+                Err(stop) => return Err(stop),
+            }
+        }
+    }
+    Ok(())
+}
+
+/// Follows the EXTENDS of a module that was read, makes its instances, and adds its units and notes.
 #[cycle(meeting)]
 fn finish<F: Files, R: ModuleReader>(
     alloc: Global,
@@ -124,15 +208,18 @@ fn finish<F: Files, R: ModuleReader>(
     reader: &R,
     folder: &str,
     path: &mut Vec<Text>,
+    texts: &mut Vec<Vec<u8>>,
     so: &mut Gathered<R::Note>,
     number: u32,
     read: SpelledModule<R::Note>,
 ) -> Result<(), Stop>
+    requires going { IsGoing (F.holds files.old) folder.now so.old texts.old.items }
     ensures followed { OnOk result (Ends (R.reading reader.now) (F.holds files.old) folder.now path.old.items so.old number read.module read.notes.items so.new) }
-    ensures stopped { IfErr result (StopsBy (λ why. Follows (R.reading reader.now) (F.holds files.old) folder.now (path.old.items ++ read.module.name ∷ []) so.old read.module.extends (Err (so.new.modules, why)))) }
+    ensures stopped { IfErr result (StopsBy (λ why. EndsRefused (R.reading reader.now) (F.holds files.old) folder.now path.old.items so.old read.module (so.new.modules, why))) }
     ensures caused { IfErr result (StopsBy (IsCaused (F.holds files.old) (F.faults files.old) (F.faults files.new))) }
     ensures path { OnOk result (path.new.items ≡ path.old.items) }
-    ensures more { OnOk result (length so.old.modules ≤ length so.new.modules) }
+    ensures going { OnOk result (IsGoing (F.holds files.new) folder.now so.new texts.new.items) }
+    ensures stays { OnOk result (Stays so.old so.new) }
     ensures same { F.holds files.new ≡ F.holds files.old }
     ensures later { F.faults files.old ≤ F.faults files.new }
 {
@@ -144,17 +231,30 @@ fn finish<F: Files, R: ModuleReader>(
         reader,
         folder,
         path,
+        texts,
         so,
         module.extends.items(),
     ) {
-        Ok(()) => {
-            path.pop();
-            so.units.append(module.units)?;
-            so.notes.add(number, read.notes)?;
-            Ok(())
-        }
-        Err(stop) => Err(stop),
+        Ok(()) => {}
+        Err(stop) => return Err(stop),
     }
+    match make_all(
+        alloc,
+        files,
+        reader,
+        folder,
+        path,
+        texts,
+        so,
+        module.units.items(),
+    ) {
+        Ok(()) => {}
+        Err(stop) => return Err(stop),
+    }
+    path.pop();
+    so.units.append(module.units)?;
+    so.notes.add(number, read.notes)?;
+    Ok(())
 }
 
 /// Reads a module, and those that it extends.
@@ -165,22 +265,30 @@ pub fn visit<F: Files, R: ModuleReader>(
     reader: &R,
     folder: &str,
     path: &mut Vec<Text>,
+    texts: &mut Vec<Vec<u8>>,
     so: &mut Gathered<R::Note>,
     name: &Text,
 ) -> Result<(), Stop>
-    requires { length so.old.modules < most_modules }
+    requires room { HasRoom so.old name.now }
+    requires going { IsGoing (F.holds files.old) folder.now so.old texts.old.items }
     ensures visited { OnOk result (Visits (R.reading reader.now) (F.holds files.old) folder.now path.old.items so.old name.now (Ok so.new)) }
     ensures stopped { IfErr result (StopsBy (λ why. Visits (R.reading reader.now) (F.holds files.old) folder.now path.old.items so.old name.now (Err (so.new.modules, why)))) }
     ensures caused { IfErr result (StopsBy (IsCaused (F.holds files.old) (F.faults files.old) (F.faults files.new))) }
     ensures path { OnOk result (path.new.items ≡ path.old.items) }
-    ensures more { OnOk result (length so.old.modules ≤ length so.new.modules) }
+    ensures going { OnOk result (IsGoing (F.holds files.new) folder.now so.new texts.new.items) }
+    ensures stays { OnOk result (Stays so.old so.new) }
     ensures same { F.holds files.new ≡ F.holds files.old }
     ensures later { F.faults files.old ≤ F.faults files.new }
 {
-    let number = so.modules.len() as u32;
-    so.modules.push(name.copy()?)?;
-    match read_module(alloc, files, reader, folder, number, name) {
-        Ok(read) => finish(alloc, files, reader, folder, path, so, number, read),
-        Err(stop) => Err(stop),
+    let number = number_of(name, so.modules.items()) as u32;
+    let read = match read_module(alloc, files, reader, folder, &mut so.modules, texts, name) {
+        Ok(read) => read,
+        Err(stop) => return Err(stop),
+    };
+    match check_nested(reader, so, &read.module) {
+        Ok(()) => {}
+        Err(stop) => return Err(stop),
     }
+    so.own.push(name.copy()?)?;
+    finish(alloc, files, reader, folder, path, texts, so, number, read)
 }

@@ -1,6 +1,6 @@
 //! What reads the text of a module.
 
-ghost use Rattle.std.specs.Prelude.{◌≤◌, length, IfOk, IfErr};
+ghost use Rattle.std.specs.Prelude.{◌≡◌, ◌≤◌, length, IfOk, IfErr};
 ghost use Rattle.tla_modules.specs.Readings.{Reading};
 ghost use Rattle.tla_modules.specs.Refusals.{module_limit, StopsBy};
 
@@ -33,6 +33,10 @@ pub trait ModuleReader {
         requires { length bytes.now ≤ module_limit }
         ensures spelled { IfOk result (λ s. (reading self.now).Spells number bytes.now s.module s.notes.items) }
         ensures refused { IfErr result (StopsBy ((reading self.now).Misspells number bytes.now)) };
+
+    /// Whether a module that is read for an instance is refused where it has an instance itself. Else that is passed over.
+    fn refuses_nested(&self) -> bool
+        ensures { result ≡ (reading self.now).refuses_nested };
 }
 
 /// Reads a text as a whole: where one unit of it is none, it is refused. It has no notes.
@@ -51,5 +55,9 @@ impl ModuleReader for StrictReader {
             module,
             notes: Vec::new(alloc),
         })
+    }
+
+    fn refuses_nested(&self) -> bool {
+        true
     }
 }

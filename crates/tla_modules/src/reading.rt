@@ -1,14 +1,16 @@
 //! One module, from its file.
 
 ghost use Rattle.std.specs.Prelude.{◌≡◌, ◌≢◌, ◌≤◌, length, IfOk, IfErr, OnOk, OnErr};
+ghost use Rattle.tla_modules.specs.Flattened.{most_modules, number_of, with_name};
 ghost use Rattle.tla_modules.specs.Paths.{file_of};
-ghost use Rattle.tla_modules.specs.Refusals.{module_limit, IsText, IsModule, Refuses, RefusesBytes, IsUnreadFile, IsCaused, StopsBy};
+ghost use Rattle.tla_modules.specs.Refusals.{module_limit, AreTexts, IsText, IsModule, Refuses, RefusesBytes, IsUnreadFile, IsCaused, StopsBy};
 
 use crate::fault::{LoadWhy, Stop};
+use crate::names::{is_among, number_of};
 use crate::path::file_of;
 use crate::reader::{ModuleReader, SpelledModule};
 use std::alloc::Global;
-use trace_base::{Files, ReadFault, Text, read_file};
+use trace_base::{Files, Names, ReadFault, Text, read_file};
 
 /// The most bytes that the file of a module may have.
 const LIMIT: usize = 1_048_576;
@@ -73,24 +75,62 @@ fn spelled_as<R: ModuleReader>(
     }
 }
 
-/// Reads the module of that name. Its file has the number.
+/// Sees to it that the text of the module of that name is kept: its file is read, if it was not read before.
+fn keep_text<F: Files>(
+    alloc: Global,
+    files: &mut F,
+    folder: &str,
+    modules: &mut Names,
+    texts: &mut Vec<Vec<u8>>,
+    name: &Text,
+) -> Result<(), Stop>
+    requires kept { AreTexts (F.holds files.old) folder.now modules.old texts.old.items }
+    ensures kept { OnOk result (AreTexts (F.holds files.old) folder.now modules.new texts.new.items) }
+    ensures sought { OnOk result (modules.new ≡ with_name modules.old name.now) }
+    ensures last { IfErr result (StopsBy (λ _. modules.new ≡ with_name modules.old name.now)) }
+    ensures refused { IfErr result (StopsBy (IsUnreadFile (F.holds files.old) (file_of folder.now name.now))) }
+    ensures caused { IfErr result (StopsBy (IsCaused (F.holds files.old) (F.faults files.old) (F.faults files.new))) }
+    ensures same { F.holds files.new ≡ F.holds files.old }
+    ensures later { F.faults files.old ≤ F.faults files.new }
+{
+    if is_among(name, modules.items()) {
+        return Ok(());
+    }
+    modules.push(name.copy()?)?;
+    let file = file_of(alloc, folder, name)?;
+    match text_of(alloc, files, &file) {
+        Ok(bytes) => {
+            texts.push(bytes)?;
+            Ok(())
+        }
+        Err(stop) => Err(stop),
+    }
+}
+
+/// Reads the module of that name. Its file has the number that its name has among the modules whose files were sought.
 pub fn read_module<F: Files, R: ModuleReader>(
     alloc: Global,
     files: &mut F,
     reader: &R,
     folder: &str,
-    number: u32,
+    modules: &mut Names,
+    texts: &mut Vec<Vec<u8>>,
     name: &Text,
 ) -> Result<SpelledModule<R::Note>, Stop>
-    ensures read { IfOk result (λ s. IsModule (R.reading reader.now) (F.holds files.old) folder.now number name.now s.module s.notes.items) }
-    ensures refused { IfErr result (StopsBy (Refuses (R.reading reader.now) (F.holds files.old) folder.now number name.now)) }
+    requires few { length modules.old ≤ most_modules }
+    requires kept { AreTexts (F.holds files.old) folder.now modules.old texts.old.items }
+    ensures kept { OnOk result (AreTexts (F.holds files.old) folder.now modules.new texts.new.items) }
+    ensures sought { OnOk result (modules.new ≡ with_name modules.old name.now) }
+    ensures last { IfErr result (StopsBy (λ _. modules.new ≡ with_name modules.old name.now)) }
+    ensures read { IfOk result (λ s. IsModule (R.reading reader.now) (F.holds files.old) folder.now (number_of name.now modules.old) name.now s.module s.notes.items) }
+    ensures refused { IfErr result (StopsBy (Refuses (R.reading reader.now) (F.holds files.old) folder.now (number_of name.now modules.old) name.now)) }
     ensures caused { IfErr result (StopsBy (IsCaused (F.holds files.old) (F.faults files.old) (F.faults files.new))) }
     ensures same { F.holds files.new ≡ F.holds files.old }
     ensures later { F.faults files.old ≤ F.faults files.new }
 {
-    let file = file_of(alloc, folder, name)?;
-    match text_of(alloc, files, &file) {
-        Ok(bytes) => spelled_as(alloc, reader, number, &bytes, name),
+    let number = number_of(name, modules.items());
+    match keep_text(alloc, files, folder, modules, texts, name) {
+        Ok(()) => spelled_as(alloc, reader, number as u32, &texts[number], name),
         Err(stop) => Err(stop),
     }
 }

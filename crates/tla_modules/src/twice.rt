@@ -2,14 +2,14 @@
 
 ghost use Rattle.std.specs.Prelude.{◌≡◌, IfOk, MatchOption, List, [], ◌∷◌, ◌++◌, OnOk};
 ghost use Rattle.tla_ast.specs.declared.module.Declared.{Declared};
-ghost use Rattle.tla_modules.specs.Twice.{declared_as, declared_by, declared_in, stands, AreNew, Repeats};
+ghost use Rattle.tla_modules.specs.Twice.{declared_as, declared_by, declared_in, stands, AllAreNew, AreNew, AreNewInside, OneRepeats, Repeats, RepeatsInside};
 ghost use Rattle.tla_modules.specs.Known.{Knows};
 
 use crate::fault::LoadWhy;
 use crate::standard::is_brought;
 use std::alloc::Global;
 use std::collections::HashMap;
-use tla_ast::{Declared, DeclaredNames, Unit, Units};
+use tla_ast::{Declared, DeclaredNames, Instance, Instances, Unit, Units};
 use trace_base::{Names, NoMemory, Place, Text};
 
 /// Adds a declared name.
@@ -91,9 +91,37 @@ fn first_of(
 }
 
 /// The refusal of the first name that units declare twice, or that one of the standard modules brings, if there is one.
-pub fn repeated(alloc: Global, standard: &Names, units: &Units) -> Result<Option<LoadWhy>, NoMemory>
+fn repeated(alloc: Global, standard: &Names, units: &Units) -> Result<Option<LoadWhy>, NoMemory>
     ensures { IfOk result (λ o. MatchOption o (AreNew standard.now [] (declared_in units.now)) (Repeats standard.now (declared_in units.now))) }
 {
     let names = declared_in(alloc, units)?;
     first_of(alloc, standard.items(), names.items())
+}
+
+/// The refusal of the first name that is declared twice in the program of one of these instances, if there is one.
+fn repeated_inside(alloc: Global, instances: &[Instance]) -> Result<Option<LoadWhy>, NoMemory>
+    ensures { IfOk result (λ o. MatchOption o (AreNewInside instances.now) (RepeatsInside instances.now)) }
+{
+    for instance in instances {
+        let program = &instance.program;
+        if let Some(why) = repeated(alloc, &program.standard, &program.units)? {
+            return Ok(Some(why));
+        }
+    }
+    Ok(None)
+}
+
+/// The refusal of the first name that is declared twice in a program, or else in that of one of its instances, if there is one.
+pub fn first_repeated(
+    alloc: Global,
+    standard: &Names,
+    units: &Units,
+    instances: &Instances,
+) -> Result<Option<LoadWhy>, NoMemory>
+    ensures { IfOk result (λ o. MatchOption o (AllAreNew standard.now units.now instances.now) (OneRepeats standard.now units.now instances.now)) }
+{
+    match repeated(alloc, standard, units)? {
+        Some(why) => Ok(Some(why)),
+        None => repeated_inside(alloc, instances.items()),
+    }
 }

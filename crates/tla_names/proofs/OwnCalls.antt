@@ -1,5 +1,5 @@
 -- What is asked and answered around the body of a definition of a LET.
-use Rattle.std.proofs.Common.{◌≡◌, ◌∙◌, sym, ap, refl, subst, List, [], ◌∷◌, ◌++◌, length}
+use Rattle.std.proofs.Common.{◌≡◌, ◌⊎◌, inl, inr, ◌∙◌, sym, ap, refl, subst, List, [], ◌∷◌, ◌++◌, length}
 use Rattle.std.specs.Prelude.{ℕ, Bool, true, false, not, ◌&&◌, if◌then◌else◌, Option, Some, None, option_map, Result, Ok, Err, IfOk, OnOk, set, slice_get}
 use Rattle.std.specs.declared.alloc.AllocError.{AllocError}
 use Rattle.trace_base.specs.declared.place.Place.{Place}
@@ -32,8 +32,9 @@ use Rattle.tla_names.specs.Owning.{own_of}
 
 -- ---- whether a definition uses itself
 
-pub own_operator : (d : Definition) → d.form ≡ forms.Operator → own_in d ≡ owns.Apart
-own_operator d f = ap (λ (x : DefinitionForm). own_of x d.name d.params d.body) f
+pub own_operator : (d : Definition) → (d.form ≡ forms.Operator) ⊎ (d.form ≡ forms.Constant) → own_in d ≡ owns.Apart
+own_operator d (inl f) = ap (λ (x : DefinitionForm). own_of x d.name d.params d.body) f
+own_operator d (inr f) = ap (λ (x : DefinitionForm). own_of x d.name d.params d.body) f
 
 pub own_hidden : (d : Definition) → d.form ≡ forms.Function → is_one_of d.name d.params ≡ true → own_in d ≡ owns.Apart
 own_hidden d f o =
@@ -46,8 +47,9 @@ own_function d b f o m =
 
 -- ---- whether it may
 
-pub may_no_operator : (g : Takes) (d : Definition) → d.form ≡ forms.Operator → false ≡ may_use_itself g d.form d.name d.params d.body
-may_no_operator g d f = ap (λ (x : DefinitionForm). may_use_itself g x d.name d.params d.body) (sym f)
+pub may_no_operator : (g : Takes) (d : Definition) → (d.form ≡ forms.Operator) ⊎ (d.form ≡ forms.Constant) → false ≡ may_use_itself g d.form d.name d.params d.body
+may_no_operator g d (inl f) = ap (λ (x : DefinitionForm). may_use_itself g x d.name d.params d.body) (sym f)
+may_no_operator g d (inr f) = ap (λ (x : DefinitionForm). may_use_itself g x d.name d.params d.body) (sym f)
 
 pub may_not_bare : (g : Takes) (d : Definition) → d.form ≡ forms.Function → applies d.name d.body ≡ false → false ≡ may_use_itself g d.form d.name d.params d.body
 may_not_bare g d f a =

@@ -177,10 +177,12 @@ if_itself false true o = cc
 
 no_itself : (form : DefinitionForm) (n : List ℕ) (ps : List (List ℕ)) (e : Tree) → own_of form n ps e ≡ owns.Itself → ⊥
 no_itself forms.Operator n ps e o = cc
+no_itself forms.Constant n ps e o = cc
 no_itself forms.Function n ps e o = if_itself (is_one_of n ps) (mentions n e) o
 
 not_apart : (form : DefinitionForm) (g : Takes) (n : List ℕ) (at : Place) (ps : List (List ℕ)) (e : Tree) → is_one_of n ps ≡ false → mentions n e ≡ true → own_of form n ps e ≡ owns.Apart → itself g form n at ps e ≡ None → ⊥
 not_apart forms.Operator g n at ps e p q o i = no_operator (is_one_of n ps) (mentions n e) (Recursion n at) i p q
+not_apart forms.Constant g n at ps e p q o i = no_operator (is_one_of n ps) (mentions n e) (Recursion n at) i p q
 not_apart forms.Function g n at ps e p q o i = no_function (is_one_of n ps) (mentions n e) o p q
 
 -- a name that the body mentions is another, where the definition does not use itself
@@ -216,6 +218,7 @@ if_own false true false true f o i = absurd (cc)
 -- a function that uses itself is not above level 0
 pub own_rises : (form : DefinitionForm) (g : Takes) (n : List ℕ) (at : Place) (ps : List (List ℕ)) (e : Tree) → own_of form n ps e ≡ owns.Function → itself g form n at ps e ≡ None → rises (without (with_own (told g) n) ps) e ≡ false
 own_rises forms.Operator g n at ps e own fine = absurd (cc)
+own_rises forms.Constant g n at ps e own fine = absurd (cc)
 own_rises forms.Function g n at ps e own fine = if_own (is_one_of n ps) (mentions n e) (applies n e) (rises (without (with_own (told g) n) ps) e) (Recursion n at) own fine
 
 told_itself : (g : Takes) (n : List ℕ) (k : ℕ) (ps : List (List ℕ)) → told (with_names (with_itself owns.Function g n k) ps) ≡ without (with_own (told g) n) ps

@@ -75,6 +75,7 @@ with_definitions g (MoreDefinitions ds n at ps form e) = with_name (with_definit
 -- only a function may use itself, whose body applies it and does nothing else with it, and whose level is 0
 abbrev pub may_use_itself : Takes → DefinitionForm → List ℕ → List (List ℕ) → Tree → Bool
 may_use_itself g forms.Operator n ps e = false
+may_use_itself g forms.Constant n ps e = false
 may_use_itself g forms.Function n ps e = applies n e && not (rises (without (with_own (told g) n) ps) e)
 
 -- what is wrong with a definition that uses itself; a parameter of its name hides it

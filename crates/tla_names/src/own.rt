@@ -30,7 +30,7 @@ fn is_own_function(definition: &Definition) -> bool
     ensures { own_in definition.now ≡ (if result then Function else Apart) }
 {
     match definition.form {
-        DefinitionForm::Operator => false,
+        DefinitionForm::Operator | DefinitionForm::Constant => false,
         DefinitionForm::Function => {
             if is_one_of(&definition.name, definition.params.items()) {
                 return false;
@@ -81,7 +81,7 @@ fn may_use_itself(alloc: Global, walk: &Walk<'_>, definition: &Definition) -> Re
     ensures { IfOk result (λ b. b ≡ may_use_itself (takes walk.now) definition.now.form definition.now.name definition.now.params definition.now.body) }
 {
     match definition.form {
-        DefinitionForm::Operator => Ok(false),
+        DefinitionForm::Operator | DefinitionForm::Constant => Ok(false),
         DefinitionForm::Function => {
             if !applies(&definition.name, &definition.body) {
                 return Ok(false);

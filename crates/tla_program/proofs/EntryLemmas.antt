@@ -1,13 +1,19 @@
--- Entries of constants and of standard names.
+-- Entries of variables, of constants and of standard names.
 use Rattle.std.proofs.Common.{◌≡◌, ◌∙◌, sym, ap, refl, append_assoc, List, [], ◌∷◌, ◌++◌, length, ◌<◌, arith}
 use Rattle.std.specs.Prelude.{ℕ, zero, suc, get_or}
 use Rattle.tla_values.specs.Data.{Val}
 use Rattle.tla_ast.specs.declared.config.GivenAt.{GivenAt}
 use Rattle.tla_ast.specs.declared.expr.Definition.{Definition}
+use Rattle.tla_ast.specs.declared.module.Declared.{Declared}
 use Rattle.tla_scopes.specs.declared.meant.Entry.{Entry}
 use Rattle.tla_scopes.specs.declared.meant.Named.{Named}
-use Rattle.tla_program.specs.Entries.{replaced_is, standard_entries, standard_entry}
+use Rattle.tla_program.specs.Entries.{marked_entries, plain_entries, replaced_is, standard_entries, standard_entry, variable_entries}
 use Rattle.tla_program.specs.Names.{value_at}
+
+-- variables by their own names, and by those behind a mark
+pub both_kinds : (old mid new : List Entry) (ds : List Declared) → mid ≡ old ++ plain_entries 0 ds → new ≡ mid ++ marked_entries 0 ds → new ≡ old ++ variable_entries 0 ds
+both_kinds old mid new ds m n =
+    n ∙ ap (λ (l : List Entry). l ++ marked_entries 0 ds) m ∙ append_assoc old (plain_entries 0 ds) (marked_entries 0 ds)
 
 -- the value of a constant stands at its index
 pub value_here : (values : List Val) (i : ℕ) (v : Val) → i < length values → v ≡ get_or values i v → value_at values i ≡ v

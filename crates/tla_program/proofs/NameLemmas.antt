@@ -4,6 +4,7 @@ use Rattle.std.specs.Prelude.{ℕ, suc, ◌+◌, Bool, true, false, if◌then◌
 use Rattle.std.specs.Str.{bytes_eq}
 use Rattle.trace_base.specs.Texts.{same_bytes}
 use Rattle.tla_values.specs.Data.{Val}
+use Rattle.tla_ast.specs.Grammar.{qualified}
 use Rattle.tla_ast.specs.declared.config.Config.{Config}
 use Rattle.tla_ast.specs.declared.config.GivenAt.{GivenAt}
 use Rattle.tla_ast.specs.declared.expr.Definition.{Definition}
@@ -15,8 +16,8 @@ use Rattle.tla_scopes.specs.declared.meant.Meant.TheVariants as meant
 use Rattle.tla_scopes.specs.declared.meant.Named.{Named}
 use Rattle.tla_scopes.specs.Scopes.{among, named}
 use Rattle.tla_program.specs.InUnits.{variables_in, constants_in, definitions_in}
-use Rattle.tla_program.specs.Entries.{index_from, replaced_is, variable_entries, constant_entries, definition_entries, standard_entries}
-use Rattle.tla_program.specs.Names.{AreNames, by_index, declared_meaning, definition_meant, first_of, index_among, meant_or, names_declared, names_defined, numbered, numbered_meant, replacement, value_at, variable_means, constant_means, definition_means, standard_means, params_at}
+use Rattle.tla_program.specs.Entries.{index_from, replaced_is, constant_entries, definition_entries, marked_entries, plain_entries, standard_entries, variable_entries}
+use Rattle.tla_program.specs.Names.{AreNames, by_index, declared_meaning, definition_meant, first_of, index_among, meant_or, names_declared, names_defined, names_marked, numbered, numbered_meant, replacement, value_at, variable_among, variable_means, variable_named, constant_means, definition_means, standard_means, params_at}
 use Rattle.tla_program.specs.Standard.{brought}
 
 from_suc : (k : ℕ) (ms : List (List ℕ)) (n : List ℕ) → index_from (suc k) ms n ≡ option_map suc (index_from k ms n)
@@ -64,12 +65,25 @@ found_all at means n none some (Some j) =
 abbrev variable_at : ℕ → List ℕ → Named
 variable_at i n = named 0 (meant.Variable (record { 0 = i }))
 
-variables_found : (k : ℕ) (ds : List Declared) (n : List ℕ) → among (variable_entries k ds) n ≡ found_at variable_at k n (index_among (names_declared ds) n)
-variables_found k [] n = refl
-variables_found k (d ∷ ds) n = found_step variable_at k d.name n (among (variable_entries (suc k) ds) n) (bytes_eq d.name n) refl (index_among (names_declared ds) n) (variables_found (suc k) ds n)
+plain_found : (k : ℕ) (ds : List Declared) (n : List ℕ) → among (plain_entries k ds) n ≡ found_at variable_at k n (index_among (names_declared ds) n)
+plain_found k [] n = refl
+plain_found k (d ∷ ds) n = found_step variable_at k d.name n (among (plain_entries (suc k) ds) n) (bytes_eq d.name n) refl (index_among (names_declared ds) n) (plain_found (suc k) ds n)
 
-variables_are : (ds : List Declared) (n : List ℕ) → among (variable_entries 0 ds) n ≡ variable_means (index_among (names_declared ds) n)
-variables_are ds n = variables_found 0 ds n ∙ found_all variable_at variable_means n refl (λ i. refl) (index_among (names_declared ds) n)
+marked_found : (k : ℕ) (ds : List Declared) (n : List ℕ) → among (marked_entries k ds) n ≡ found_at variable_at k n (index_among (names_marked ds) n)
+marked_found k [] n = refl
+marked_found k (d ∷ ds) n =
+    found_step variable_at k (qualified [] d.name) n (among (marked_entries (suc k) ds) n) (bytes_eq (qualified [] d.name) n) refl (index_among (names_marked ds) n) (marked_found (suc k) ds n)
+
+earlier_means : (a b : Option ℕ) → first_of (variable_means a) (variable_means b) ≡ variable_means (first_of a b)
+earlier_means None b = refl
+earlier_means (Some i) b = refl
+
+variables_are : (ds : List Declared) (n : List ℕ) → among (variable_entries 0 ds) n ≡ variable_means (variable_among ds n)
+variables_are ds n =
+    among_append (plain_entries 0 ds) (marked_entries 0 ds) n
+    ∙ ap (λ o. first_of o (among (marked_entries 0 ds) n)) (plain_found 0 ds n ∙ found_all variable_at variable_means n refl (λ i. refl) (index_among (names_declared ds) n))
+    ∙ ap (λ o. first_of (variable_means (index_among (names_declared ds) n)) o) (marked_found 0 ds n ∙ found_all variable_at variable_means n refl (λ i. refl) (index_among (names_marked ds) n))
+    ∙ earlier_means (index_among (names_declared ds) n) (index_among (names_marked ds) n)
 
 abbrev constant_at : Program → Config → List Val → ℕ → List ℕ → Named
 constant_at p c values i n = named 0 (meant_or (meant.Known (value_at values i)) (replacement p c n 0))
@@ -124,11 +138,11 @@ by_index_is (Some w) = by_index_meant w.needed w.meant
 -- the four lists, one behind the other
 pub are_names : (p : Program) (c : Config) (values : List Val) (names : List Entry) (vs cs ds ss : List Entry) → names ≡ ((vs ++ cs) ++ ds) ++ ss → vs ≡ variable_entries 0 (variables_in p.units) → cs ≡ constant_entries c.givens (definitions_in p.units) values 0 (constants_in p.units) → ds ≡ definition_entries c.givens (definitions_in p.units) 0 (definitions_in p.units) → ss ≡ standard_entries c.givens (definitions_in p.units) (brought p.standard) → AreNames p c values by_index names
 are_names p c values names vs cs ds ss e v k d s n =
-    let a : among vs n ≡ variable_means (index_among (names_declared (variables_in p.units)) n) = ap (λ es. among es n) v ∙ variables_are (variables_in p.units) n in
+    let a : among vs n ≡ variable_means (variable_named p n) = ap (λ es. among es n) v ∙ variables_are (variables_in p.units) n in
     let b : among cs n ≡ constant_means p c values n (index_among (names_declared (constants_in p.units)) n) = ap (λ es. among es n) k ∙ constants_are p c values (constants_in p.units) n in
     let f : among ds n ≡ definition_means p c n (index_among (names_defined (definitions_in p.units)) n) = ap (λ es. among es n) d ∙ definitions_are p c n in
     let g : among ss n ≡ standard_means p c n (among (brought p.standard) n) = ap (λ es. among es n) s ∙ standard_are p c (brought p.standard) n in
-    ap (λ es. among es n) e ∙ among_append ((vs ++ cs) ++ ds) ss n ∙ ap (λ o. first_of o (among ss n)) (among_append (vs ++ cs) ds n ∙ ap (λ o. first_of o (among ds n)) (among_append vs cs n)) ∙ regroup (among vs n) (among cs n) (among ds n) (among ss n) ∙ ap (λ o. first_of o (first_of (among cs n) (first_of (among ds n) (among ss n)))) a ∙ ap (λ o. first_of (variable_means (index_among (names_declared (variables_in p.units)) n)) (first_of o (first_of (among ds n) (among ss n)))) b ∙ ap (λ o. first_of (variable_means (index_among (names_declared (variables_in p.units)) n)) (first_of (constant_means p c values n (index_among (names_declared (constants_in p.units)) n)) (first_of o (among ss n)))) f ∙ ap (λ o. first_of (variable_means (index_among (names_declared (variables_in p.units)) n)) (first_of (constant_means p c values n (index_among (names_declared (constants_in p.units)) n)) (first_of (definition_means p c n (index_among (names_defined (definitions_in p.units)) n)) o))) g ∙ sym (by_index_is (declared_meaning p c values n))
+    ap (λ es. among es n) e ∙ among_append ((vs ++ cs) ++ ds) ss n ∙ ap (λ o. first_of o (among ss n)) (among_append (vs ++ cs) ds n ∙ ap (λ o. first_of o (among ds n)) (among_append vs cs n)) ∙ regroup (among vs n) (among cs n) (among ds n) (among ss n) ∙ ap (λ o. first_of o (first_of (among cs n) (first_of (among ds n) (among ss n)))) a ∙ ap (λ o. first_of (variable_means (variable_named p n)) (first_of o (first_of (among ds n) (among ss n)))) b ∙ ap (λ o. first_of (variable_means (variable_named p n)) (first_of (constant_means p c values n (index_among (names_declared (constants_in p.units)) n)) (first_of o (among ss n)))) f ∙ ap (λ o. first_of (variable_means (variable_named p n)) (first_of (constant_means p c values n (index_among (names_declared (constants_in p.units)) n)) (first_of (definition_means p c n (index_among (names_defined (definitions_in p.units)) n)) o))) g ∙ sym (by_index_is (declared_meaning p c values n))
   where
     regroup : (w x y z : Option Named) → first_of (first_of (first_of w x) y) z ≡ first_of w (first_of x (first_of y z))
     regroup (Some w) x y z = refl

@@ -8,7 +8,7 @@ use Rattle.tla_scopes.specs.declared.meant.Meant.{Meant}
 use Rattle.tla_scopes.specs.declared.meant.Meant.TheVariants as meant
 use Rattle.tla_scopes.specs.declared.meant.Named.{Named}
 use Rattle.tla_scopes.specs.Scopes.{among, named}
-use Rattle.tla_program.specs.Names.{by_index, constant_index, constant_means, declared_meaning, definition_index, definition_means, definition_meant, first_of, meant_or, program_meaning, replacement, standard_means, value_at, variable_index, variable_means}
+use Rattle.tla_program.specs.Names.{by_index, constant_index, constant_means, declared_meaning, definition_index, definition_means, definition_meant, first_of, meant_or, program_meaning, replacement, standard_means, value_at, variable_means, variable_named}
 use Rattle.tla_program.specs.Standard.{brought}
 use Rattle.tla_program.proofs.NameLemmas.{by_index_is}
 
@@ -30,7 +30,7 @@ variables p c vs ws n (Some i) needed j rest h = (let same : meant.Variable (rec
 
 pub with_other_values : (p : Program) (c : Config) (vs ws : List Val) (n : List ℕ) (needed j : ℕ) → declared_meaning p c vs n ≡ Some (named needed (definition_meant j)) → declared_meaning p c ws n ≡ Some (named needed (definition_meant j))
 with_other_values p c vs ws n needed j h =
-    variables p c vs ws n (variable_index p n) needed j (first_of (definition_means p c n (definition_index p n)) (standard_means p c n (among (brought p.standard) n))) h
+    variables p c vs ws n (variable_named p n) needed j (first_of (definition_means p c n (definition_index p n)) (standard_means p c n (among (brought p.standard) n))) h
 
 pub means_with_other_values : (p : Program) (c : Config) (vs ws : List Val) (n : List ℕ) (needed j : ℕ) → program_meaning p c vs by_index n ≡ Some (named needed (definition_meant j)) → program_meaning p c ws by_index n ≡ Some (named needed (definition_meant j))
 means_with_other_values p c vs ws n needed j h =

@@ -14,7 +14,7 @@ use Rattle.tla_scopes.specs.declared.meant.Meant.{Meant}
 use Rattle.tla_scopes.specs.declared.meant.Meant.TheVariants as meant
 use Rattle.tla_scopes.specs.Mentions.{is_one_of}
 use Rattle.tla_scopes.specs.Standing.{AreIn, IsIn}
-use Rattle.tla_program.specs.Entries.{variable_entry, constant_entry, definition_entry, standard_entry, variable_entries, constant_entries, definition_entries, standard_entries}
+use Rattle.tla_program.specs.Entries.{marked_entries, marked_entry, plain_entries, variable_entry, constant_entry, definition_entry, standard_entry, variable_entries, constant_entries, definition_entries, standard_entries}
 use Rattle.tla_program.specs.Names.{definition_meant, fitting, fitting_index, given_for, index_among, meant_or, names_defined, put_for, replacement_among, value_at}
 use Rattle.tla_program.specs.Standard.{StandardName, brought, brought_from, entry, is_brought, replaceable, standard_names}
 
@@ -49,9 +49,16 @@ meant_or_in : (n : ℕ) (m : Meant) (o : Option ℕ) → IsIn n m → Below n o 
 meant_or_in n m None h b = h
 meant_or_in n m (Some i) h b = b
 
+plain_in_range : (n k : ℕ) (ds : List Declared) → AreIn n (plain_entries k ds)
+plain_in_range n k [] = All-nil (stands n)
+plain_in_range n k (d ∷ ds) = All-cons (stands n) (variable_entry k d) (plain_entries (suc k) ds) tt (plain_in_range n (suc k) ds)
+
+marked_in_range : (n k : ℕ) (ds : List Declared) → AreIn n (marked_entries k ds)
+marked_in_range n k [] = All-nil (stands n)
+marked_in_range n k (d ∷ ds) = All-cons (stands n) (marked_entry k d) (marked_entries (suc k) ds) tt (marked_in_range n (suc k) ds)
+
 variables_in_range : (n k : ℕ) (ds : List Declared) → AreIn n (variable_entries k ds)
-variables_in_range n k [] = All-nil (stands n)
-variables_in_range n k (d ∷ ds) = All-cons (stands n) (variable_entry k d) (variable_entries (suc k) ds) tt (variables_in_range n (suc k) ds)
+variables_in_range n k ds = All-append (stands n) (plain_entries k ds) (marked_entries k ds) (plain_in_range n k ds) (marked_in_range n k ds)
 
 constants_in_range : (gs : List GivenAt) (all : List Definition) (values : List Val) (k : ℕ) (ds : List Declared) → AreIn (length all) (constant_entries gs all values k ds)
 constants_in_range gs all values k [] = All-nil (stands (length all))

@@ -1,7 +1,8 @@
 -- For the prover: the names of a program as lists of entries, a list for each kind.
-use Rattle.std.specs.Prelude.{ℕ, suc, if◌then◌else◌, List, [], ◌∷◌, length, Option, Some, None}
+use Rattle.std.specs.Prelude.{ℕ, suc, if◌then◌else◌, List, [], ◌∷◌, ◌++◌, length, Option, Some, None}
 use Rattle.std.specs.Str.{bytes_eq}
 use Rattle.tla_values.specs.Data.{Val}
+use Rattle.tla_ast.specs.Grammar.{qualified}
 use Rattle.tla_ast.specs.declared.config.GivenAt.{GivenAt}
 use Rattle.tla_ast.specs.declared.expr.Definition.{Definition}
 use Rattle.tla_ast.specs.declared.module.Declared.{Declared}
@@ -21,6 +22,10 @@ index_from k (m ∷ ms) n = if bytes_eq m n then Some k else index_from (suc k) 
 abbrev pub variable_entry : ℕ → Declared → Entry
 variable_entry k d = entry d.name 0 (meant.Variable (record { 0 = k }))
 
+-- the same variable by its name behind a mark
+abbrev pub marked_entry : ℕ → Declared → Entry
+marked_entry k d = entry (qualified [] d.name) 0 (meant.Variable (record { 0 = k }))
+
 abbrev pub constant_entry : List GivenAt → List Definition → Val → Declared → Entry
 constant_entry gs all v d = entry d.name 0 (meant_or (meant.Known v) (replacement_among gs all d.name 0))
 
@@ -33,9 +38,16 @@ replaced_is gs all n w = if is_one_of n replaceable then named w.needed (meant_o
 abbrev pub standard_entry : List GivenAt → List Definition → Entry → Entry
 standard_entry gs all e = record { name = e.name; is = replaced_is gs all e.name e.is }
 
+abbrev pub plain_entries : ℕ → List Declared → List Entry
+plain_entries k [] = []
+plain_entries k (d ∷ ds) = variable_entry k d ∷ plain_entries (suc k) ds
+
+abbrev pub marked_entries : ℕ → List Declared → List Entry
+marked_entries k [] = []
+marked_entries k (d ∷ ds) = marked_entry k d ∷ marked_entries (suc k) ds
+
 abbrev pub variable_entries : ℕ → List Declared → List Entry
-variable_entries k [] = []
-variable_entries k (d ∷ ds) = variable_entry k d ∷ variable_entries (suc k) ds
+variable_entries k ds = plain_entries k ds ++ marked_entries k ds
 
 -- the values from number k on are those of these constants
 abbrev pub constant_entries : List GivenAt → List Definition → List Val → ℕ → List Declared → List Entry

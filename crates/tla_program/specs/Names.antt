@@ -1,10 +1,12 @@
 -- What the names of a program mean with its configuration. Variables are numbered in the order of their declaration, constants have their values, and
 -- definitions are told by their indices in the order of the text. Of equal names the first counts: variables, constants, definitions, and what the
 -- standard modules bring. What the configuration puts in place of a name takes as many arguments as the name, and each use of the name means it; a
--- name that it can not replace goes on to mean what it meant.
+-- name that it can not replace goes on to mean what it meant. A variable y is named `!y` too, which no text spells: so what an instance defines names
+-- variables, whatever is bound around.
 use Rattle.std.specs.Prelude.{◌≡◌, ◌==◌, ℕ, zero, suc, false, if◌then◌else◌, List, [], ◌∷◌, length, Option, Some, None, option_map, get_or, slice_get}
 use Rattle.std.specs.Str.{bytes_eq}
 use Rattle.tla_values.specs.Data.{Val, truth}
+use Rattle.tla_ast.specs.Grammar.{qualified}
 use Rattle.tla_ast.specs.declared.config.Config.{Config}
 use Rattle.tla_ast.specs.declared.config.Given.{Given}
 use Rattle.tla_ast.specs.declared.config.Given.TheVariants.{Constant, Replaced}
@@ -35,12 +37,24 @@ abbrev pub names_declared : List Declared → List (List ℕ)
 names_declared [] = []
 names_declared (d ∷ ds) = d.name ∷ names_declared ds
 
+-- the name `!y` of each variable y
+abbrev pub names_marked : List Declared → List (List ℕ)
+names_marked [] = []
+names_marked (d ∷ ds) = qualified [] d.name ∷ names_marked ds
+
 abbrev pub names_defined : List Definition → List (List ℕ)
 names_defined [] = []
 names_defined (d ∷ ds) = d.name ∷ names_defined ds
 
 abbrev pub variable_index : Program → List ℕ → Option ℕ
 variable_index p n = index_among (names_declared (variables_in p.units)) n
+
+-- the variable that a name means: that of this name, or y of the name `!y`
+abbrev pub variable_among : List Declared → List ℕ → Option ℕ
+variable_among ds n = first_of (index_among (names_declared ds) n) (index_among (names_marked ds) n)
+
+abbrev pub variable_named : Program → List ℕ → Option ℕ
+variable_named p n = variable_among (variables_in p.units) n
 
 abbrev pub constant_index : Program → List ℕ → Option ℕ
 constant_index p n = index_among (names_declared (constants_in p.units)) n
@@ -115,7 +129,7 @@ standard_means p c n (Some w) =
 -- What a name means, definitions told by their indices. The values are those of the constants, in the order of their declaration.
 abbrev pub declared_meaning : Program → Config → List Val → List ℕ → Option Named
 declared_meaning p c values n =
-    first_of (variable_means (variable_index p n)) (first_of (constant_means p c values n (constant_index p n)) (first_of (definition_means p c n (definition_index p n)) (standard_means p c n (among (brought p.standard) n))))
+    first_of (variable_means (variable_named p n)) (first_of (constant_means p c values n (constant_index p n)) (first_of (definition_means p c n (definition_index p n)) (standard_means p c n (among (brought p.standard) n))))
 
 -- numbers of definitions by their indices
 abbrev pub Numbers : Type 0

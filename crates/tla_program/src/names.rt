@@ -1,36 +1,85 @@
 //! The names of a program with its configuration.
 
-ghost use Rattle.std.specs.Prelude.{◌≡◌, ◌<◌, ◌≤◌, ◌++◌, IfOk, OnOk, length, map};
+ghost use Rattle.std.specs.Prelude.{◌≡◌, ◌<◌, ◌≤◌, [], ◌++◌, IfOk, OnOk, length, map};
+ghost use Rattle.tla_ast.specs.Grammar.{qualified};
 ghost use Rattle.tla_program.specs.InUnits.{constants_in, definitions_in, variables_in};
 ghost use Rattle.tla_scopes.specs.Standing.{AreIn};
-ghost use Rattle.tla_program.specs.Entries.{constant_entries, constant_entry, definition_entries, definition_entry, replaced_is, standard_entries, variable_entries};
+ghost use Rattle.tla_program.specs.Entries.{constant_entries, constant_entry, definition_entries, definition_entry, marked_entries, plain_entries, replaced_is, standard_entries, variable_entries};
 ghost use Rattle.tla_program.specs.Names.{AreNames, by_index, meant_or, value_at};
+ghost use Rattle.tla_program.specs.Standard.{entry};
+ghost use Rattle.tla_scopes.specs.declared.meant.Meant.TheVariants as meant;
 
 use crate::declared::{constants, definitions, variables};
 use crate::replacing::replacement;
 use crate::standard::{brought, is_replaceable};
 use std::alloc::Global;
-use tla_ast::{Config, Declared, Definition, GivenAt, Program};
+use tla_ast::{Config, Declared, Definition, GivenAt, Program, qualified};
 use tla_core::VarId;
 use tla_scopes::{Entry, Meant, Named, ProgramNames};
 use tla_terms::DefId;
 use tla_values::Value;
 use trace_base::{NoMemory, Text};
 
-/// Adds the variables, numbered in their order.
-fn push_variables(names: &mut ProgramNames, variables: &[&Declared]) -> Result<(), NoMemory>
+/// The name `!y` of a variable y, which no text spells.
+fn marked(alloc: Global, name: &Text) -> Result<Text, NoMemory>
+    ensures { IfOk result (λ q. q ≡ qualified [] name.now) }
+{
+    let nothing = Text::from_text(alloc, "")?;
+    qualified(alloc, &nothing, name)
+}
+
+/// A name of the variable of that index.
+fn variable(name: Text, index: usize) -> Entry
+    requires { index < 64 }
+    ensures { result ≡ entry name 0 (meant.Variable (record { 0 = index })) }
+{
+    Entry {
+        name,
+        is: Named {
+            needed: 0,
+            meant: Meant::Variable(VarId(index as u16)),
+        },
+    }
+}
+
+/// Adds the variables by their own names, numbered in their order.
+fn push_plain(names: &mut ProgramNames, variables: &[&Declared]) -> Result<(), NoMemory>
+    requires { length variables.now ≤ 64 }
+    ensures { OnOk result (names.new ≡ names.old ++ plain_entries 0 (map (λ d. d.now) variables.now)) }
+{
+    for (index, declared) in variables.iter().enumerate() {
+        names.push(variable(declared.name.copy()?, index))?;
+    }
+    Ok(())
+}
+
+/// Adds the same variables by their names behind a mark.
+fn push_marked(
+    alloc: Global,
+    names: &mut ProgramNames,
+    variables: &[&Declared],
+) -> Result<(), NoMemory>
+    requires { length variables.now ≤ 64 }
+    ensures { OnOk result (names.new ≡ names.old ++ marked_entries 0 (map (λ d. d.now) variables.now)) }
+{
+    for (index, declared) in variables.iter().enumerate() {
+        names.push(variable(marked(alloc, &declared.name)?, index))?;
+    }
+    Ok(())
+}
+
+/// Adds the variables, numbered in their order: each by its own name, then each by its name behind a mark.
+#[tactic(auto, using(crate::proofs::EntryLemmas::both_kinds))]
+fn push_variables(
+    alloc: Global,
+    names: &mut ProgramNames,
+    variables: &[&Declared],
+) -> Result<(), NoMemory>
     requires { length variables.now ≤ 64 }
     ensures { OnOk result (names.new ≡ names.old ++ variable_entries 0 (map (λ d. d.now) variables.now)) }
 {
-    for (index, variable) in variables.iter().enumerate() {
-        names.push(Entry {
-            name: variable.name.copy()?,
-            is: Named {
-                needed: 0,
-                meant: Meant::Variable(VarId(index as u16)),
-            },
-        })?;
-    }
+    push_plain(names, variables)?;
+    push_marked(alloc, names, variables)?;
     Ok(())
 }
 
@@ -176,7 +225,7 @@ pub fn program_names(
     let definitions = definitions(alloc, &program.units)?;
     let brought = brought(alloc, &program.standard)?;
     let mut names = ProgramNames::new(alloc);
-    push_variables(&mut names, &variables)?;
+    push_variables(alloc, &mut names, &variables)?;
     push_constants(&mut names, givens, &definitions, &constants, values)?;
     push_definitions(&mut names, givens, &definitions)?;
     push_standard(&mut names, givens, &definitions, brought)?;

@@ -51,6 +51,7 @@ true_false false p q = cc
 
 function_form : (f : DefinitionForm) → is_function f ≡ true → f ≡ forms.Function
 function_form forms.Operator q = absurd (cc)
+function_form forms.Constant q = absurd (cc)
 function_form forms.Function q = refl
 
 that_number : (i : ℕ) (o : Option ℕ) → is_that i o ≡ true → o ≡ Some i

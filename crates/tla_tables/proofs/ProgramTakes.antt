@@ -18,7 +18,7 @@ use Rattle.tla_scopes.specs.Scopes.{among, named}
 use Rattle.tla_names.specs.Complaints.{Taken, complaint, with_names}
 use Rattle.tla_names.specs.Outcomes.{above, taken_by, takes_of}
 use Rattle.tla_program.specs.InUnits.{definitions_in}
-use Rattle.tla_program.specs.Names.{AreNames, Numbers, by_index, constant_index, constant_means, declared_meaning, definition_index, definition_means, definition_meant, first_of, meant_or, numbered, numbered_meant, replacement, standard_means, value_at, variable_index, variable_means}
+use Rattle.tla_program.specs.Names.{AreNames, Numbers, by_index, constant_index, constant_means, declared_meaning, definition_index, definition_means, definition_meant, first_of, meant_or, numbered, numbered_meant, replacement, standard_means, value_at, variable_means, variable_named}
 use Rattle.tla_program.specs.Standard.{brought}
 use Rattle.tla_program.specs.Uses.{UsesDefinition}
 use Rattle.tla_program.proofs.NameLemmas.{by_index_is}
@@ -44,7 +44,7 @@ variables_taken bs p c vs ws n (Some i) rest = refl
 
 taken_same : (bs : List Bool) (p : Program) (c : Config) (vs ws : List Val) (n : List ℕ) → option_map (taken_with bs) (declared_meaning p c vs n) ≡ option_map (taken_with bs) (declared_meaning p c ws n)
 taken_same bs p c vs ws n =
-    variables_taken bs p c vs ws n (variable_index p n) (first_of (definition_means p c n (definition_index p n)) (standard_means p c n (among (brought p.standard) n)))
+    variables_taken bs p c vs ws n (variable_named p n) (first_of (definition_means p c n (definition_index p n)) (standard_means p c n (among (brought p.standard) n)))
 
 pub taken_here : (bs : List Bool) (p : Program) (c : Config) (values : List Val) (n : List ℕ) → option_map (taken_with bs) (declared_meaning p c values n) ≡ takes_in_program p c bs n
 taken_here bs p c values n = taken_same bs p c values [] n ∙ ap (option_map (taken_with bs)) (sym (by_index_is (declared_meaning p c [] n)))

@@ -23,7 +23,7 @@ fn is_own_function(names: &ProgramNames, index: usize, definition: &Definition) 
     ensures { result ≡ is_own_function names.now index definition.now }
 {
     match definition.form {
-        DefinitionForm::Operator => false,
+        DefinitionForm::Operator | DefinitionForm::Constant => false,
         DefinitionForm::Function => {
             if is_one_of(&definition.name, definition.params.items()) {
                 return false;

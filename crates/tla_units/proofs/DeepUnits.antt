@@ -4,6 +4,7 @@ use Rattle.std.proofs.lemmas.List.{append-nil}
 use Rattle.trace_base.specs.declared.place.Place.{Place}
 use Rattle.tla_ast.specs.declared.laid.Laid.{Laid}
 use Rattle.tla_ast.specs.declared.laid.Laid.TheVariants.{Plain, ListOpen, ListItem, ListClose}
+use Rattle.tla_ast.specs.declared.expr.Definition.{Definition as UnitDefinition}
 use Rattle.tla_ast.specs.declared.module.Unit.{Unit as ModuleUnit}
 use Rattle.tla_ast.specs.declared.module.Unit.TheVariants as units
 use Rattle.tla_tokens.specs.declared.token.Kind.{Kind}
@@ -13,16 +14,18 @@ use Rattle.tla_tokens.specs.declared.token.Word.TheVariants as words
 use Rattle.tla_ast.specs.Begun.{Begun}
 use Rattle.tla_ast.specs.Trees.{Tree}
 use Rattle.tla_ast.specs.Grammar.{Span, ◌⨟◌, either, some_token, Text}
-use Rattle.tla_ast.specs.Modules.{MaybeTitle, UnitText, assume_word, constant_word, theorem_word, variable_word}
+use Rattle.tla_ast.specs.Modules.{InstanceText, MaybeTitle, UnitText, assume_word, constant_word, theorem_word, variable_word}
 use Rattle.reader_model.specs.Beginnings.{FittingBegun, BegunDefinition, FittingBegunDefinition}
-use Rattle.reader_model.specs.LawsOfExtents.{NoneFollows}
+use Rattle.reader_model.specs.LawsOfExtents.{LocalText, LocalDefinition, NoneFollows}
 use Rattle.reader_model.specs.LawsOfRefusals.{EndsThere}
 use Rattle.tla_exprs.specs.Nesting.{IsShallow, AreShallow, Shallow, ShallowDefinition}
 use Rattle.tla_exprs.specs.Refusals.{IsTooNested}
-use Rattle.tla_units.specs.Refusals.{BareUnit, ShallowUnit, ShallowWholeUnit, StatedText, TooNestedStated}
+use Rattle.tla_units.specs.Refusals.{BareUnit, ShallowInstance, ShallowUnit, ShallowWholeUnit, StatedText, TooNestedStated}
 use Rattle.tla_units.specs.Rests.{Expression, Definition}
 use Rattle.tla_units.proofs.Extents.{TextKind, Parted, Same, Before, Behind, parted, none_within, ends_first}
-use Rattle.tla_units.proofs.Locals.{IsLocal, before_any, local_assume, local_either, local_maybe_title, local_theorem, local_then}
+use Rattle.tla_units.proofs.InstanceBegins.{instance_no_definition, no_instance}
+use Rattle.tla_units.proofs.InstanceTokens.{NoBoth}
+use Rattle.tla_units.proofs.Locals.{IsLocal, before_any, local_assume, local_either, local_instance, local_maybe_title, local_theorem, local_then}
 use Rattle.tla_units.proofs.OneModuleTokens.{Form, OfVariables, OfConstants, OfDefinition, OfAssumption, OfPassed, OfRecursive, OfEquals, IsOfUnits, TextEnds, form_of, form_of_unit, tail_of, unit_begins, unit_form, variable_begins, constant_begins, assume_begins, theorem_begins}
 use Rattle.tla_units.proofs.OpenStarts.{name_token, defined_token, word_token, no_title_open, no_word_open, nothing_open}
 use Rattle.tla_units.proofs.SameExtents.{Expressions, Defined, name_mark, defined_mark, title_whole}
@@ -44,10 +47,10 @@ more_by unit read before after here x s i (Behind u v e f) = s before v u e
 one_more : (unit : Bool) (read : List Laid) (here : Laid) → AreShallow unit read → IsShallow unit read → AreShallow unit (read ++ here ∷ [])
 one_more unit read here s i before after x w = more_by unit read before after here x s i (parted read (here ∷ []) before (x ∷ after) w)
 
-fitting_begun : (S : Bool → Span) (B F : List Laid → Type 0) → TextKind S B F → (l : List Laid) → F l → B l
+pub fitting_begun : (S : Bool → Span) (B F : List Laid → Type 0) → TextKind S B F → (l : List Laid) → F l → B l
 fitting_begun S B F k l f = let r = k.fitting l f in k.begins l r.0 (k.loose true (l ++ r.0) [] r.1)
 
-not_deep : (S : Bool → Span) (B F : List Laid → Type 0) → TextKind S B F → (unit : Bool) (text mid read rest : List Laid) (here : Laid) → S false text [] → AreShallow unit text → TextEnds mid → F (read ++ here ∷ []) → AreShallow unit read → (AreShallow unit (read ++ here ∷ []) → ⊥) → Parted text mid read (here ∷ rest) → ⊥
+pub not_deep : (S : Bool → Span) (B F : List Laid → Type 0) → TextKind S B F → (unit : Bool) (text mid read rest : List Laid) (here : Laid) → S false text [] → AreShallow unit text → TextEnds mid → F (read ++ here ∷ []) → AreShallow unit read → (AreShallow unit (read ++ here ∷ []) → ⊥) → Parted text mid read (here ∷ rest) → ⊥
 not_deep S B F k unit text mid read rest here s a m f r d (Same e g) =
     none_within S B F k (read ++ here ∷ []) text [] here (fitting_begun S B F k (read ++ here ∷ []) f) (ap (λ v. v ++ here ∷ []) (sym e)) s (ends_first here rest mid g m)
 not_deep S B F k unit text mid read rest here s a m f r d (Before u v e g) =
@@ -62,7 +65,7 @@ form_head (ListOpen b at) xs ys = refl
 form_head (ListItem b at) xs ys = refl
 form_head (ListClose at) xs ys = refl
 
-form_first : (read rest more : List Laid) (here : Laid) → form_of (read ++ here ∷ rest) ≡ form_of ((read ++ here ∷ []) ++ more)
+pub form_first : (read rest more : List Laid) (here : Laid) → form_of (read ++ here ∷ rest) ≡ form_of ((read ++ here ∷ []) ++ more)
 form_first [] rest more here = form_head here rest more
 form_first (x ∷ read) rest more here = form_head x (read ++ here ∷ rest) ((read ++ here ∷ []) ++ more)
 
@@ -74,7 +77,7 @@ pub unit_there : (u : ModuleUnit) (xs ys : List Laid) → UnitText u xs ys → I
 unit_there u xs ys h = subst IsOfUnits (sym (unit_begins u xs ys h)) (form_of_unit u)
 
 -- the first token of a list that begins with a unit
-unit_first : (u : ModuleUnit) (xs text mid : List Laid) → UnitText u text [] → xs ≡ text ++ mid → form_of xs ≡ unit_form u
+pub unit_first : (u : ModuleUnit) (xs text mid : List Laid) → UnitText u text [] → xs ≡ text ++ mid → form_of xs ≡ unit_form u
 unit_first u xs text mid h e = ap form_of e ∙ form_append text mid (unit_there u text [] h) ∙ unit_begins u text [] h
 
 pub deep_definition_form : (xs : List Laid) (p : Place) → IsTooNested FittingBegunDefinition ShallowDefinition xs p → form_of xs ≡ OfDefinition
@@ -139,7 +142,7 @@ declaring_form xs ys (inl h) = inl (variable_begins xs ys h)
 declaring_form xs ys (inr h) = inr (constant_begins xs ys h)
 
 -- what is no definition: declarations, dashes and equals signs
-bare_form : (xs ys : List Laid) → BareUnit xs ys → form_of xs ≡ OfDefinition → ⊥
+pub bare_form : (xs ys : List Laid) → BareUnit xs ys → form_of xs ≡ OfDefinition → ⊥
 bare_form xs ys (inl h) q = not_defining (form_of xs) (declaring_form xs h.0 h.1) q
   where
     not_defining : (f : Form) → (f ≡ OfVariables) ⊎ (f ≡ OfConstants) → f ≡ OfDefinition → ⊥
@@ -172,33 +175,38 @@ bare_word w p ws xs ys (inr (inr (inr h))) q f = equals_stated (form_of xs) (ap 
 
 -- ---- definitions
 
-stated_no_definition : (f : Form) → OfStated f → f ≡ OfDefinition → ⊥
+pub stated_no_definition : (f : Form) → OfStated f → f ≡ OfDefinition → ⊥
 stated_no_definition f (inl a) q = cc
 stated_no_definition f (inr a) q = cc
 
 of_definition : (text : List Laid) → form_of text ≡ OfDefinition → IsOfUnits (form_of text)
 of_definition text q = subst IsOfUnits (sym q) tt
 
-shallow_definition : (text : List Laid) → form_of text ≡ OfDefinition → ShallowUnit text → ShallowDefinition text
-shallow_definition text q (inl b) = absurd (bare_form (text ++ b.0) [] b.1 (form_append text b.0 (of_definition text q) ∙ q))
-shallow_definition text q (inr (inl s)) = s
-shallow_definition text q (inr (inr t)) = absurd (stated_no_definition (form_of text) (subst (λ v. OfStated (form_of v)) (sym t.whole) (stating_form (t.before ++ t.body) t.body (stating_on t.before t.body t.stated))) q)
+shallow_definition : NoBoth → LocalDefinition → (d : UnitDefinition) (text : List Laid) → UnitText (units.Define d) text [] → form_of text ≡ OfDefinition → ShallowUnit text → ShallowDefinition text
+shallow_definition both local d text h q (inl b) = absurd (bare_form (text ++ b.0) [] b.1 (form_append text b.0 (of_definition text q) ∙ q))
+shallow_definition both local d text h q (inr (inl s)) = s
+shallow_definition both local d text h q (inr (inr (inl t))) = absurd (stated_no_definition (form_of text) (subst (λ v. OfStated (form_of v)) (sym t.whole) (stating_form (t.before ++ t.body) t.body (stating_on t.before t.body t.stated))) q)
+shallow_definition both local d text h q (inr (inr (inr i))) = absurd (no_instance both local d text h i)
 
-definition_by : Defined → (u : ModuleUnit) (xs text mid : List Laid) (p : Place) → UnitText u text [] → unit_form u ≡ OfDefinition → ShallowDefinition text → TextEnds mid → xs ≡ text ++ mid → IsTooNested FittingBegunDefinition ShallowDefinition xs p → ⊥
-definition_by k (units.Define d) xs text mid p h q s m e t =
-    not_deep Definition BegunDefinition FittingBegunDefinition k true text mid t.read t.rest t.here (d.name, d.at, d.params, d.form, d.body, h, tt) s m t.fits t.shallow t.deep (parted text mid t.read (t.here ∷ t.rest) (sym e ∙ t.whole))
-definition_by k (units.Instance w) xs text mid p h q s m e t = absurd h
-definition_by k (units.Variables ds) xs text mid p h q s m e t = let r : OfVariables ≡ OfDefinition = q in cc
-definition_by k (units.Constants ds) xs text mid p h q s m e t = let r : OfConstants ≡ OfDefinition = q in cc
-definition_by k (units.Recursive ds) xs text mid p h q s m e t = let r : OfRecursive ≡ OfDefinition = q in cc
-definition_by k (units.Assume e) xs text mid p h q s m w t = let r : OfAssumption ≡ OfDefinition = q in cc
-definition_by k units.Passed xs text mid p h q s m e t = let r : OfPassed ≡ OfDefinition = q in cc
+defined_by : Defined → NoBoth → LocalDefinition → (d : UnitDefinition) (xs text mid : List Laid) (p : Place) → UnitText (units.Define d) text [] → ShallowUnit text → TextEnds mid → xs ≡ text ++ mid → IsTooNested FittingBegunDefinition ShallowDefinition xs p → ⊥
+defined_by k both local d xs text mid p h s m e t =
+    let own : form_of text ≡ OfDefinition = unit_begins (units.Define d) text [] h in
+    not_deep Definition BegunDefinition FittingBegunDefinition k true text mid t.read t.rest t.here (d.name, d.at, d.params, d.form, d.body, h, tt) (shallow_definition both local d text h own s) m t.fits t.shallow t.deep (parted text mid t.read (t.here ∷ t.rest) (sym e ∙ t.whole))
 
-pub no_deep_definition : Defined → (xs mid : List Laid) (p : Place) → ShallowWholeUnit xs mid → TextEnds mid → IsTooNested FittingBegunDefinition ShallowDefinition xs p → ⊥
-no_deep_definition k xs mid p w m t =
-    let q : unit_form w.unit ≡ OfDefinition = sym (unit_first w.unit xs w.text mid w.spelled w.whole) ∙ deep_definition_form xs p t in
-    let own : form_of w.text ≡ OfDefinition = unit_begins w.unit w.text [] w.spelled ∙ q in
-    definition_by k w.unit xs w.text mid p w.spelled q (shallow_definition w.text own w.shallow) m w.whole t
+definition_by : Defined → NoBoth → LocalText → LocalDefinition → (u : ModuleUnit) (xs text mid : List Laid) (p : Place) → UnitText u text [] → unit_form u ≡ OfDefinition → ShallowUnit text → TextEnds mid → xs ≡ text ++ mid → IsTooNested FittingBegunDefinition ShallowDefinition xs p → ⊥
+definition_by k both t l (units.Define d) xs text mid p h q s m e w = defined_by k both l d xs text mid p h s m e w
+definition_by k both t l (units.Instance i) xs text mid p h q s m e w =
+    instance_no_definition both i xs mid p (subst (λ v. InstanceText i v mid) (sym e) (before_any (InstanceText i) (local_instance t i) text [] text h (sym (append-nil text)) mid)) w
+definition_by k both t l (units.Variables ds) xs text mid p h q s m e w = let r : OfVariables ≡ OfDefinition = q in cc
+definition_by k both t l (units.Constants ds) xs text mid p h q s m e w = let r : OfConstants ≡ OfDefinition = q in cc
+definition_by k both t l (units.Recursive ds) xs text mid p h q s m e w = let r : OfRecursive ≡ OfDefinition = q in cc
+definition_by k both t l (units.Assume f) xs text mid p h q s m e w = let r : OfAssumption ≡ OfDefinition = q in cc
+definition_by k both t l units.Passed xs text mid p h q s m e w = let r : OfPassed ≡ OfDefinition = q in cc
+
+pub no_deep_definition : Defined → NoBoth → LocalText → LocalDefinition → (xs mid : List Laid) (p : Place) → ShallowWholeUnit xs mid → TextEnds mid → IsTooNested FittingBegunDefinition ShallowDefinition xs p → ⊥
+no_deep_definition k both t l xs mid p w m d =
+    let q : unit_form w.unit ≡ OfDefinition = sym (unit_first w.unit xs w.text mid w.spelled w.whole) ∙ deep_definition_form xs p d in
+    definition_by k both t l w.unit xs w.text mid p w.spelled q w.shallow m w.whole d
 
 -- ---- titles
 
@@ -234,7 +242,7 @@ shallow_behind ends none e ws bs cs (inr h) (inr g) t s = subst Shallow (sym (ti
 
 -- ---- what is assumed or stated
 
-no_deep_text : Expressions → (e : Tree) (bs mid cs : List Laid) (p : Place) → Text e bs [] → Shallow bs → TextEnds mid → cs ≡ bs ++ mid → IsTooNested FittingBegun Shallow cs p → ⊥
+pub no_deep_text : Expressions → (e : Tree) (bs mid cs : List Laid) (p : Place) → Text e bs [] → Shallow bs → TextEnds mid → cs ≡ bs ++ mid → IsTooNested FittingBegun Shallow cs p → ⊥
 no_deep_text k e bs mid cs p h s m q t = not_deep Expression Begun FittingBegun k false bs mid t.read t.rest t.here (e, h, tt) s m t.fits t.shallow t.deep (parted bs mid t.read (t.here ∷ t.rest) (sym q ∙ t.whole))
 
 -- an expression behind the title that the unit has, or another
@@ -258,6 +266,11 @@ stated_of_units : (f : Form) → OfStated f → IsOfUnits f
 stated_of_units f (inl a) = subst IsOfUnits (sym a) tt
 stated_of_units f (inr a) = subst IsOfUnits (sym a) tt
 
+-- the first token of an instance, or of the beginning of one
+shallow_instance_form : (text : List Laid) → IsOfUnits (form_of text) → ShallowInstance text → form_of text ≡ OfDefinition
+shallow_instance_form text f (inl i) = sym (form_append text i.0 f) ∙ ap form_of i.1.1.1.1.1
+shallow_instance_form text f (inr i) = ap form_of i.1.1.1.1.1
+
 -- of a unit with such a word the expression is shallow
 stated_shallow : EndsThere → NoneFollows → (e : Tree) (text ws bs : List Laid) → Worded text ws → MaybeTitle ws bs → Text e bs [] → ShallowUnit text → Shallow bs
 stated_shallow ends none e text ws bs word title t (inl b) =
@@ -268,10 +281,12 @@ stated_shallow ends none e text ws bs word title t (inr (inl s)) =
     let own = word_whole text ws word in
     let more = some_behind ws bs title (λ q. no_empty none e (subst (λ v. Text e v []) q t)) in
     absurd (no_word_open own.0 own.1 (s (word_token own.0 own.1 ∷ []) more.1 more.0 (own.2 ∙ ap (λ v. word_token own.0 own.1 ∷ v) more.2)))
-stated_shallow ends none e text ws bs word title t (inr (inr s)) =
+stated_shallow ends none e text ws bs word title t (inr (inr (inl s))) =
     let at : Stating text s.body = subst (λ v. Stating v s.body) (sym s.whole) (stating_on s.before s.body s.stated) in
     let q : at.0 ≡ ws = sym (word_tail text at.0 at.1) ∙ word_tail text ws word in
     shallow_behind ends none e ws bs s.body title (subst (λ v. MaybeTitle v s.body) q at.2) t s.shallow
+stated_shallow ends none e text ws bs word title t (inr (inr (inr i))) =
+    absurd (stated_no_definition (form_of text) (word_form text ws word) (shallow_instance_form text (stated_of_units (form_of text) (word_form text ws word)) i))
 
 deep_stating : (xs : List Laid) (p : Place) → (d : TooNestedStated xs p) → Stating xs d.body
 deep_stating xs p d = subst (λ v. Stating v d.body) (sym d.whole) (stating_on d.before d.body d.stated)
@@ -288,7 +303,7 @@ stated_by ends none k (units.Variables ds) xs text mid p h s m q d = declaring_s
 stated_by ends none k (units.Constants ds) xs text mid p h s m q d = declaring_stated (form_of xs) (inr (unit_first (units.Constants ds) xs text mid h q)) (stating_form xs d.body (deep_stating xs p d))
 stated_by ends none k (units.Recursive ds) xs text mid p h s m q d = recursive_stated (form_of xs) (unit_first (units.Recursive ds) xs text mid h q) (stating_form xs d.body (deep_stating xs p d))
 stated_by ends none k (units.Define e) xs text mid p h s m q d = stated_no_definition (form_of xs) (stating_form xs d.body (deep_stating xs p d)) (unit_first (units.Define e) xs text mid h q)
-stated_by ends none k (units.Instance w) xs text mid p h s m q d = absurd h
+stated_by ends none k (units.Instance w) xs text mid p h s m q d = stated_no_definition (form_of xs) (stating_form xs d.body (deep_stating xs p d)) (unit_first (units.Instance w) xs text mid h q)
 stated_by ends none k (units.Assume e) xs text mid p h s m q d = stated_clash ends none k e xs text mid h.0 h.2.0 p (inl h.1) h.2.1 h.2.2 s m q d
 stated_by ends none k units.Passed xs text mid p (inl h) s m q d =
     let at : Stating xs d.body = deep_stating xs p d in

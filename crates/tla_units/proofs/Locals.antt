@@ -7,6 +7,8 @@ use Rattle.tla_ast.specs.declared.laid.Laid.TheVariants.{Plain}
 use Rattle.tla_ast.specs.declared.expr.Definition.{Definition as UnitDefinition}
 use Rattle.tla_ast.specs.declared.module.Declared.{Declared}
 use Rattle.tla_ast.specs.declared.module.DeclaredOperator.{DeclaredOperator}
+use Rattle.tla_ast.specs.declared.module.With.{With}
+use Rattle.tla_ast.specs.declared.module.Made.{Made}
 use Rattle.tla_ast.specs.declared.module.Unit.TheVariants as units
 use Rattle.tla_tokens.specs.declared.token.Kind.{Kind}
 use Rattle.tla_tokens.specs.declared.token.Kind.TheVariants as kinds
@@ -15,7 +17,7 @@ use Rattle.tla_tokens.specs.declared.token.Symbol.TheVariants as symbols
 use Rattle.tla_tokens.specs.declared.token.Foreign.TheVariants as foreign
 use Rattle.tla_ast.specs.Trees.{Tree}
 use Rattle.tla_ast.specs.Grammar.{Span, ◌⨟◌, nothing, either, token, some_token, word, sign, name, NamesText, Text}
-use Rattle.tla_ast.specs.Modules.{DeclaredText, DeclaredNamesText, PlacesText, MaybePlaces, DeclaredOperatorText, DeclaredOperatorsText, underscore, recursive_word, MaybeTitle, ExtendsText, SomeExpression, UnitText, variable_word, constant_word, assume_word, theorem_word}
+use Rattle.tla_ast.specs.Modules.{DeclaredText, DeclaredNamesText, PlacesText, MaybePlaces, DeclaredOperatorText, DeclaredOperatorsText, underscore, recursive_word, MaybeTitle, ExtendsText, WithText, MoreWithsText, WithsText, InstanceText, SomeExpression, UnitText, variable_word, constant_word, assume_word, theorem_word}
 use Rattle.reader_model.specs.LawsOfExtents.{LocalText, LocalDefinition}
 use Rattle.tla_units.specs.Parts.{MarkText}
 use Rattle.tla_units.specs.Refusals.{ShallowWholeUnit, SoManyUnits, ShallowWholeUnits, SomeExtends}
@@ -66,7 +68,7 @@ local_some A R f xs ys h = let p = f h.0 xs ys h.1 in record { text = p.text; wh
 
 -- ---- tokens
 
-local_token : (at : Place) (k : Kind) → IsLocal (token at k)
+pub local_token : (at : Place) (k : Kind) → IsLocal (token at k)
 local_token at k xs ys h = record { text = Plain (record { kind = k; place = at }) ∷ []; whole = h; anywhere = λ ws. refl }
 
 pub local_kind : (k : Kind) → IsLocal (some_token k)
@@ -93,7 +95,7 @@ local_recursive_word = local_kind (kinds.Foreign foreign.Recursive)
 local_underscore : IsLocal underscore
 local_underscore = local_kind (kinds.Foreign foreign.Underscore)
 
-local_name : (n : List ℕ) → IsLocal (name n)
+pub local_name : (n : List ℕ) → IsLocal (name n)
 local_name n = local_kind (kinds.Name n)
 
 pub local_mark : (m : Mark) → IsLocal (MarkText m)
@@ -112,6 +114,9 @@ local_mark marks.Constants = local_constant
 local_mark marks.Recursive = local_recursive_word
 local_mark marks.Assume = local_assume
 local_mark marks.Theorem = local_theorem
+local_mark marks.Instance = local_kind (kinds.Foreign foreign.Instance)
+local_mark marks.With = local_kind (kinds.Foreign foreign.With)
+local_mark marks.Arrow = local_kind (kinds.Symbol symbols.LeftArrow)
 
 pub local_marked : (m : Mark) → IsLocal (Marked m)
 local_marked m [] ys h = absurd h
@@ -189,11 +194,36 @@ local_maybe_title = local_either nothing (λ xs ys. (n : List ℕ) × (name n �
 
 -- ---- units
 
-local_text : LocalText → (e : Tree) → IsLocal (Text e)
+pub local_text : LocalText → (e : Tree) → IsLocal (Text e)
 local_text local e xs ys h = let p = local e xs ys h in record { text = p.0; whole = p.1; anywhere = p.2 }
 
 local_some_expression : LocalText → IsLocal SomeExpression
 local_some_expression local xs ys h = let p = local h.0 xs ys h.1.text in record { text = p.0; whole = p.1; anywhere = λ ws. (h.0, record { text = p.2 ws; fits = h.1.fits }) }
+
+local_with : LocalText → (before : List (List ℕ)) (w : With) → IsLocal (WithText before w)
+local_with local before w xs ys h =
+    let by : IsLocal (sign symbols.LeftArrow ⨟ Text w.by) = local_then (sign symbols.LeftArrow) (Text w.by) (local_kind (kinds.Symbol symbols.LeftArrow)) (local_text local w.by) in
+    let p = local_then (token w.at (kinds.Name w.name)) (sign symbols.LeftArrow ⨟ Text w.by) (local_token w.at (kinds.Name w.name)) by xs ys h.1 in
+    record { text = p.text; whole = p.whole; anywhere = λ ws. (h.0, p.anywhere ws) }
+
+local_more : LocalText → (ws : List With) (before : List (List ℕ)) → IsLocal (MoreWithsText before ws)
+local_more local [] before = local_nothing
+local_more local (w ∷ ws) before =
+    local_then (sign symbols.Comma) (WithText before w ⨟ MoreWithsText (before ++ w.name ∷ []) ws) (local_kind (kinds.Symbol symbols.Comma))
+    (local_then (WithText before w) (MoreWithsText (before ++ w.name ∷ []) ws) (local_with local before w) (local_more local ws (before ++ w.name ∷ [])))
+
+local_withs : LocalText → (ws : List With) → IsLocal (WithsText ws)
+local_withs local [] = local_nothing
+local_withs local (w ∷ ws) =
+    local_then (some_token (kinds.Foreign foreign.With)) (WithText [] w ⨟ MoreWithsText (w.name ∷ []) ws) (local_kind (kinds.Foreign foreign.With))
+    (local_then (WithText [] w) (MoreWithsText (w.name ∷ []) ws) (local_with local [] w) (local_more local ws (w.name ∷ [])))
+
+pub local_instance : LocalText → (m : Made) → IsLocal (InstanceText m)
+local_instance local m =
+    local_then (token m.at (kinds.Name m.name)) (sign symbols.Defined ⨟ some_token (kinds.Foreign foreign.Instance) ⨟ name m.module_name ⨟ WithsText m.withs) (local_token m.at (kinds.Name m.name))
+    (local_then (sign symbols.Defined) (some_token (kinds.Foreign foreign.Instance) ⨟ name m.module_name ⨟ WithsText m.withs) (local_kind (kinds.Symbol symbols.Defined))
+    (local_then (some_token (kinds.Foreign foreign.Instance)) (name m.module_name ⨟ WithsText m.withs) (local_kind (kinds.Foreign foreign.Instance))
+    (local_then (name m.module_name) (WithsText m.withs) (local_name m.module_name) (local_withs local m.withs))))
 
 pub local_variables : (ds : List Declared) → IsLocal (UnitText (units.Variables ds))
 local_variables ds = local_then variable_word (DeclaredNamesText ds) local_variable (local_declared ds)

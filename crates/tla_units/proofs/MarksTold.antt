@@ -52,12 +52,15 @@ symbol_tells symbols.Comma = refl
 symbol_tells symbols.OpenParenthesis = refl
 symbol_tells symbols.CloseParenthesis = refl
 symbol_tells symbols.Defined = refl
+symbol_tells symbols.LeftArrow = refl
 symbol_tells _ = tt
 
 foreign_tells : (f : Foreign) → Tells (foreign_mark f) (kinds.Foreign f)
 unfolding foreign_mark
 foreign_tells foreign.Recursive = refl
 foreign_tells foreign.Underscore = refl
+foreign_tells foreign.Instance = refl
+foreign_tells foreign.With = refl
 foreign_tells _ = tt
 
 pub kind_tells : (k : Kind) → Tells (kind_mark k) k
@@ -101,6 +104,9 @@ BeginsUnit marks.Underscore = ⊥
 BeginsUnit marks.Defined = ⊥
 BeginsUnit marks.Extends = ⊥
 BeginsUnit marks.Heading = ⊥
+BeginsUnit marks.Instance = ⊥
+BeginsUnit marks.With = ⊥
+BeginsUnit marks.Arrow = ⊥
 BeginsUnit _ = Unit {0}
 
 abbrev EndsIf : Option Mark → Laid → Type 0
@@ -109,6 +115,7 @@ EndsIf (Some marks.Comma) x = Unit {0}
 EndsIf (Some marks.OpenParenthesis) x = Unit {0}
 EndsIf (Some marks.CloseParenthesis) x = Unit {0}
 EndsIf (Some marks.Defined) x = Unit {0}
+EndsIf (Some marks.Arrow) x = Unit {0}
 EndsIf (Some _) x = EndsText x
 
 word_ends : (m : Option Mark) (w : Word) (p : Place) → EndsIf m (Plain (record { kind = kinds.Word w; place = p }))
@@ -117,6 +124,7 @@ word_ends (Some marks.Comma) w p = tt
 word_ends (Some marks.OpenParenthesis) w p = tt
 word_ends (Some marks.CloseParenthesis) w p = tt
 word_ends (Some marks.Defined) w p = tt
+word_ends (Some marks.Arrow) w p = tt
 word_ends (Some _) w p = tt
 
 symbol_ends : (s : Symbol) (p : Place) → EndsIf (symbol_mark s) (Plain (record { kind = kinds.Symbol s; place = p }))
@@ -125,6 +133,7 @@ symbol_ends symbols.Comma p = tt
 symbol_ends symbols.OpenParenthesis p = tt
 symbol_ends symbols.CloseParenthesis p = tt
 symbol_ends symbols.Defined p = tt
+symbol_ends symbols.LeftArrow p = tt
 symbol_ends _ p = tt
 
 foreign_ends : (m : Option Mark) (f : Foreign) (p : Place) → EndsIf m (Plain (record { kind = kinds.Foreign f; place = p }))
@@ -133,6 +142,7 @@ foreign_ends (Some marks.Comma) f p = tt
 foreign_ends (Some marks.OpenParenthesis) f p = tt
 foreign_ends (Some marks.CloseParenthesis) f p = tt
 foreign_ends (Some marks.Defined) f p = tt
+foreign_ends (Some marks.Arrow) f p = tt
 foreign_ends (Some _) f p = tt
 
 kind_ends : (k : Kind) (p : Place) → EndsIf (kind_mark k) (Plain (record { kind = k; place = p }))
@@ -160,6 +170,9 @@ ends_if marks.Underscore x b h = absurd b
 ends_if marks.Defined x b h = absurd b
 ends_if marks.Extends x b h = absurd b
 ends_if marks.Heading x b h = absurd b
+ends_if marks.Instance x b h = absurd b
+ends_if marks.With x b h = absurd b
+ends_if marks.Arrow x b h = absurd b
 ends_if marks.Name x b h = h
 ends_if marks.Dashes x b h = h
 ends_if marks.Equals x b h = h
@@ -197,6 +210,9 @@ kind_with marks.Constants = kinds.Word words.Constant
 kind_with marks.Recursive = kinds.Foreign foreign.Recursive
 kind_with marks.Assume = kinds.Word words.Assume
 kind_with marks.Theorem = kinds.Word words.Theorem
+kind_with marks.Instance = kinds.Foreign foreign.Instance
+kind_with marks.With = kinds.Foreign foreign.With
+kind_with marks.Arrow = kinds.Symbol symbols.LeftArrow
 
 pub has_mark : (m : Mark) → mark_of (plain (kind_with m)) ≡ Some m
 unfolding mark_of kind_mark word_mark symbol_mark foreign_mark
@@ -215,6 +231,9 @@ has_mark marks.Constants = refl
 has_mark marks.Recursive = refl
 has_mark marks.Assume = refl
 has_mark marks.Theorem = refl
+has_mark marks.Instance = refl
+has_mark marks.With = refl
+has_mark marks.Arrow = refl
 
 -- ---- the token at an index
 

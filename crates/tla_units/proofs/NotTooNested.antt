@@ -14,23 +14,26 @@ use Rattle.tla_ast.specs.Grammar.{◌⨟◌, some_token}
 use Rattle.tla_ast.specs.Modules.{ExtendsText, ModuleText, UnitText, UnitsText}
 use Rattle.reader_model.specs.Beginnings.{FittingBegunDefinition}
 use Rattle.reader_model.specs.LawsOfExtents.{LocalText, LocalDefinition, NoneFollows, NoneFollowsDefinition, NoMarkInside, NoMarkInsideDefinition}
-use Rattle.reader_model.specs.LawsOfRefusals.{EndsThere}
+use Rattle.reader_model.specs.LawsOfRefusals.{EndsThere, StoppedThere}
 use Rattle.reader_model.specs.Meeting.{at_place}
 use Rattle.tla_exprs.specs.Nesting.{ShallowDefinition}
 use Rattle.tla_exprs.specs.Refusals.{IsTooNested}
 use Rattle.tla_units.specs.LawsOfModules.{ShallowNotRefused}
 use Rattle.tla_units.specs.Parts.{MarkText}
-use Rattle.tla_units.specs.Refusals.{HeadingText, ShallowWholeModule, ShallowWholeUnit, SoManyUnits, SomeExtends, TooNestedStated, TooNestedUnit}
+use Rattle.tla_units.specs.Refusals.{HeadingText, ShallowWholeModule, ShallowWholeUnit, SoManyUnits, SomeExtends, TooNestedStated, TooNestedGiven, TooNestedUnit}
 use Rattle.tla_units.specs.declared.marks.Mark.TheVariants as marks
+use Rattle.tla_units.proofs.DeepGivens.{deep_given_form, no_deep_instance}
 use Rattle.tla_units.proofs.DeepUnits.{deep_definition_form, deep_stated_form, no_deep_definition, no_deep_stated, stated_no_equals, unit_there}
 use Rattle.tla_units.proofs.Extents.{Parted, Same, Before, Behind, parted}
-use Rattle.tla_units.proofs.Locals.{IsLocal, before_any, joined, local_assumption, local_constants, local_definition, local_mark, local_nothing, local_passed, local_recursive, local_some_extends, local_then, local_variables}
+use Rattle.tla_units.proofs.InstanceTokens.{NoBoth, no_both}
+use Rattle.tla_units.proofs.Locals.{IsLocal, before_any, joined, local_assumption, local_constants, local_definition, local_instance, local_mark, local_nothing, local_passed, local_recursive, local_some_extends, local_then, local_variables}
 use Rattle.tla_units.proofs.OneModuleParts.{extends_same}
-use Rattle.tla_units.proofs.OneModuleTokens.{OfDefinition, OfEquals, IsOfUnits, TextEnds, form_ends, form_of, some_behind, tail_of}
+use Rattle.tla_units.proofs.OneModuleTokens.{OfDefinition, OfEquals, IsOfUnits, UnitEnds, form_ends, form_of, some_behind, tail_of}
 use Rattle.tla_units.proofs.OneModuleUnits.{equals_no_unit}
-use Rattle.tla_units.proofs.SameExtents.{Expressions, Defined, unit_extent}
+use Rattle.tla_units.proofs.SameExtents.{Expressions, Defined}
 use Rattle.tla_units.proofs.TextKinds.{definition_kind, expression_kind, none_titled}
 use Rattle.tla_units.proofs.Titles.{NoTitle}
+use Rattle.tla_units.proofs.UnitExtents.{unit_extent}
 
 -- ---- a heading
 
@@ -57,7 +60,7 @@ local_unit text defined (units.Variables ds) = local_variables ds
 local_unit text defined (units.Constants ds) = local_constants ds
 local_unit text defined (units.Recursive ds) = local_recursive ds
 local_unit text defined (units.Define d) = local_definition defined d
-local_unit text defined (units.Instance m) = λ xs ys h. absurd h
+local_unit text defined (units.Instance m) = local_instance text m
 local_unit text defined (units.Assume e) = local_assumption text e
 local_unit text defined units.Passed = local_passed text
 
@@ -81,15 +84,17 @@ so_many_form text defined (suc n) xs ys h q = unit_there h.1.unit xs h.0 (unit_b
 -- ---- the unit that stands too deep
 
 abbrev Deep : List Laid → Place → Type 0
-Deep xs p = IsTooNested FittingBegunDefinition ShallowDefinition xs p ⊎ TooNestedStated xs p
+Deep xs p = IsTooNested FittingBegunDefinition ShallowDefinition xs p ⊎ (TooNestedStated xs p ⊎ TooNestedGiven xs p)
 
 deep_form : (xs : List Laid) (p : Place) → Deep xs p → IsOfUnits (form_of xs)
 deep_form xs p (inl d) = subst IsOfUnits (sym (deep_definition_form xs p d)) tt
-deep_form xs p (inr d) = deep_stated_form xs p d
+deep_form xs p (inr (inl d)) = deep_stated_form xs p d
+deep_form xs p (inr (inr d)) = subst IsOfUnits (sym (deep_given_form xs p d)) tt
 
 deep_no_equals : (xs : List Laid) (p : Place) → Deep xs p → form_of xs ≡ OfEquals → ⊥
 deep_no_equals xs p (inl d) q = let e : OfDefinition ≡ OfEquals = sym (deep_definition_form xs p d) ∙ q in cc
-deep_no_equals xs p (inr d) q = stated_no_equals xs p d q
+deep_no_equals xs p (inr (inl d)) q = stated_no_equals xs p d q
+deep_no_equals xs p (inr (inr d)) q = let e : OfDefinition ≡ OfEquals = sym (deep_given_form xs p d) ∙ q in cc
 
 -- what is known of texts
 record Known : Type 0 where
@@ -98,24 +103,26 @@ record Known : Type 0 where
   ends : EndsThere
   none : NoneFollows
   titles : NoTitle
+  both : NoBoth
   expressions : Expressions
   definitions : Defined
 
-no_deep_unit : Known → (xs mid : List Laid) (p : Place) → ShallowWholeUnit xs mid → TextEnds mid → Deep xs p → ⊥
-no_deep_unit k xs mid p w m (inl d) = no_deep_definition k.definitions xs mid p w m d
-no_deep_unit k xs mid p w m (inr d) = no_deep_stated k.ends k.none k.expressions xs mid p w m d
+no_deep_unit : Known → (xs mid : List Laid) (p : Place) → ShallowWholeUnit xs mid → UnitEnds mid → Deep xs p → ⊥
+no_deep_unit k xs mid p w m (inl d) = no_deep_definition k.definitions k.both k.text k.defined xs mid p w (form_ends mid m) d
+no_deep_unit k xs mid p w m (inr (inl d)) = no_deep_stated k.ends k.none k.expressions xs mid p w (form_ends mid m) d
+no_deep_unit k xs mid p w m (inr (inr d)) = no_deep_instance (record { local = k.text; expressions = k.expressions }) k.defined k.both xs mid p w m d
 
 -- unit by unit, up to the one that stands too deep
 no_deep_units : Known → (us : List ModuleUnit) (n : ℕ) (xs body ys : List Laid) (p : Place) → UnitsText us xs body → SoManyUnits n xs ys → form_of ys ≡ OfEquals → Deep body p → ⊥
 no_deep_units k [] zero xs body ys p h g q d = deep_no_equals body p d (ap form_of (sym h ∙ g) ∙ q)
 no_deep_units k [] (suc n) xs body ys p h g q d =
     let there : IsOfUnits (form_of g.0) = so_many_form k.text k.defined n g.0 ys g.2 q in
-    no_deep_unit k xs g.0 p g.1 (form_ends g.0 there) (subst (λ v. Deep v p) (sym h) d)
+    no_deep_unit k xs g.0 p g.1 there (subst (λ v. Deep v p) (sym h) d)
 no_deep_units k (u ∷ us) zero xs body ys p h g q d = equals_no_unit u xs h.0 h.1 (ap form_of g ∙ q)
 no_deep_units k (u ∷ us) (suc n) xs body ys p h g q d =
     let here : IsOfUnits (form_of h.0) = units_form us h.0 body h.2 (deep_form body p d) in
     let there : IsOfUnits (form_of g.0) = so_many_form k.text k.defined n g.0 ys g.2 q in
-    let same : h.0 ≡ g.0 = unit_extent k.titles k.expressions k.definitions u g.1.unit xs h.0 g.0 h.1 (unit_before k.text k.defined xs g.0 g.1) here there in
+    let same : h.0 ≡ g.0 = unit_extent k.both k.titles k.expressions k.definitions u g.1.unit xs h.0 g.0 h.1 (unit_before k.text k.defined xs g.0 g.1) here there in
     no_deep_units k us n g.0 body ys p (subst (λ v. UnitsText us v body) same h.2) g.2 q d
 
 -- ---- what stands before that unit
@@ -167,8 +174,8 @@ not_deep_in k laid p s d =
     let same : r.first ≡ s.first = heading_same laid r.first s.first heading s.heading there here in
     no_deep_units k d.units.read_as.units s.units.0 s.first d.body s.last p (subst (λ v. UnitsText d.units.read_as.units v d.body) same r.units) s.units.1 q d.deep
 
-pub not_too_nested : LocalText → LocalDefinition → NoneFollows → NoneFollowsDefinition → NoMarkInside → NoMarkInsideDefinition → EndsThere → ShallowNotRefused
-not_too_nested text defined none none_defined marks marks_defined ends laid p s d =
+pub not_too_nested : LocalText → LocalDefinition → NoneFollows → NoneFollowsDefinition → NoMarkInside → NoMarkInsideDefinition → EndsThere → StoppedThere → ShallowNotRefused
+not_too_nested text defined none none_defined marks marks_defined ends stops laid p s d =
     not_deep_in
     (record {
       text = text;
@@ -176,6 +183,7 @@ not_too_nested text defined none none_defined marks marks_defined ends laid p s 
       ends = ends;
       none = none;
       titles = none_titled text none ends;
+      both = no_both text stops none;
       expressions = expression_kind text none marks;
       definitions = definition_kind defined none_defined marks_defined;
     })

@@ -1,5 +1,5 @@
 -- The rest of a module with no trees, and the grammar of modules: from the one to the other.
-use Rattle.std.proofs.Common.{◌≡◌, ℕ, zero, suc, Bool, true, false, List, [], ◌∷◌, Option, Some, inl, inr, refl, ap, subst, ◌∙◌}
+use Rattle.std.proofs.Common.{◌≡◌, ℕ, zero, suc, Bool, true, false, List, [], ◌∷◌, ◌++◌, Option, Some, inl, inr, refl, ap, subst, ◌∙◌}
 use Rattle.tla_ast.specs.declared.laid.Laid.{Laid}
 use Rattle.tla_ast.specs.declared.laid.Laid.TheVariants.{Plain}
 use Rattle.tla_tokens.specs.declared.token.Token.{Token as LaidToken}
@@ -12,12 +12,14 @@ use Rattle.tla_ast.specs.declared.module.Declared.{Declared}
 use Rattle.tla_ast.specs.declared.module.DeclaredOperator.{DeclaredOperator}
 use Rattle.tla_ast.specs.declared.module.Unit.{Unit as ModuleUnit}
 use Rattle.tla_ast.specs.declared.module.Unit.TheVariants as units
+use Rattle.tla_ast.specs.declared.module.With.{With}
+use Rattle.tla_ast.specs.declared.module.Made.{Made}
 use Rattle.tla_ast.specs.declared.module.Module.{Module}
 use Rattle.tla_ast.specs.Grammar.{Span, nothing, either, some_token, name, NamesText}
-use Rattle.tla_ast.specs.Modules.{SomeExpression, SomeText, DeclaredText, DeclaredNamesText, PlacesText, MaybePlaces, DeclaredOperatorText, DeclaredOperatorsText, underscore, MaybeTitle, ExtendsText, UnitTextBy, UnitsTextBy, UnitFits, UnitsFit, ModuleTextBy}
+use Rattle.tla_ast.specs.Modules.{SomeExpression, SomeText, DeclaredText, DeclaredNamesText, PlacesText, MaybePlaces, DeclaredOperatorText, DeclaredOperatorsText, underscore, MaybeTitle, ExtendsText, WithText, MoreWithsText, WithsText, InstanceText, WithsFit, UnitTextBy, UnitsTextBy, UnitFits, UnitsFit, ModuleTextBy}
 use Rattle.tla_units.specs.Marks.{mark_of}
 use Rattle.tla_units.specs.Parts.{MarkText, IsMark}
-use Rattle.tla_units.specs.Rests.{Marked, OthersOf, Others, Listed, Parameters, OneOperator, Operators, Extended, Title, Titled, Expression, Definition, Behind, UnitPart, Last, UnitsLeft, Whole}
+use Rattle.tla_units.specs.Rests.{Marked, OthersOf, Others, Listed, Parameters, OneOperator, Operators, Extended, Title, Titled, FitsIf, Expression, Definition, Given, MoreGiven, MaybeGiven, InstancePart, NamePart, Behind, UnitPart, Last, UnitsLeft, Whole}
 use Rattle.tla_units.specs.declared.marks.Mark.{Mark}
 use Rattle.tla_units.specs.declared.marks.Mark.TheVariants as marks
 use Rattle.tla_units.proofs.MarksTold.{told}
@@ -50,6 +52,9 @@ text_of marks.Theorem t x xs ys e (inl (inl h)) w = inl (inl (of_kind (kinds.Wor
 text_of marks.Theorem t x xs ys e (inl (inr h)) w = inl (inr (of_kind (kinds.Word words.Lemma) t x xs ys e h w))
 text_of marks.Theorem t x xs ys e (inr (inl h)) w = inr (inl (of_kind (kinds.Word words.Proposition) t x xs ys e h w))
 text_of marks.Theorem t x xs ys e (inr (inr h)) w = inr (inr (of_kind (kinds.Word words.Corollary) t x xs ys e h w))
+text_of marks.Instance t x xs ys e h w = of_kind (kinds.Foreign foreign.Instance) t x xs ys e h w
+text_of marks.With t x xs ys e h w = of_kind (kinds.Foreign foreign.With) t x xs ys e h w
+text_of marks.Arrow t x xs ys e h w = of_kind (kinds.Symbol symbols.LeftArrow) t x xs ys e h w
 
 pub marked_text : (m : Mark) (xs ys : List Laid) → Marked m xs ys → MarkText m xs ys
 marked_text m [] ys h = absurd h
@@ -153,6 +158,62 @@ defined_of : (fit : Bool) (xs ys : List Laid) → Definition fit xs ys → SomeU
 defined_of true xs ys h = (units.Define (record { name = h.0; at = h.1; params = h.2; form = h.3; body = h.4 }), h.5, h.6)
 defined_of false xs ys h = (units.Define (record { name = h.0; at = h.1; params = h.2; form = h.3; body = h.4 }), h.5, tt)
 
+-- ---- instances
+
+abbrev pub WithsFitIf : Bool → List With → Type 0
+WithsFitIf true ws = WithsFit ws
+WithsFitIf false ws = Unit {0}
+
+none_given : (fit : Bool) → WithsFitIf fit []
+none_given true = tt
+none_given false = tt
+
+and_given : (fit : Bool) (w : With) (ws : List With) → FitsIf fit w.by → WithsFitIf fit ws → WithsFitIf fit (w ∷ ws)
+and_given true w ws f g = (f, g)
+and_given false w ws f g = tt
+
+abbrev with_of : (fit : Bool) (before : List (List ℕ)) (n : List ℕ) (xs ys : List Laid) → Given fit before n xs ys → With
+with_of fit before n xs ys h = record { name = n; at = h.1.1.0; by = h.1.2.2.0 }
+
+with_text : (fit : Bool) (before : List (List ℕ)) (n : List ℕ) (xs ys : List Laid) → (h : Given fit before n xs ys) → WithText before (with_of fit before n xs ys h) xs ys
+with_text fit before n xs ys h = (h.0, (h.1.0, h.1.1.1, (h.1.2.0, marked_text marks.Arrow h.1.0 h.1.2.0 h.1.2.1, h.1.2.2.1)))
+
+more_of : (k : ℕ) (fit : Bool) (before : List (List ℕ)) (xs ys : List Laid) → MoreGiven fit before k xs ys → (ws : List With) × MoreWithsText before ws xs ys × WithsFitIf fit ws
+more_of zero fit before xs ys h = ([], h, none_given fit)
+more_of (suc k) fit before xs ys h =
+    let n : List ℕ = h.2.0 in
+    let given = h.2.1 in
+    let w : With = with_of fit before h.2.0 h.0 given.0 given.1 in
+    let more = more_of k fit (before ++ h.2.0 ∷ []) given.0 ys given.2 in
+    (w ∷ more.0, (h.0, marked_text marks.Comma xs h.0 h.1, (given.0, with_text fit before h.2.0 h.0 given.0 given.1, more.1)), and_given fit w more.0 given.1.1.2.2.2 more.2)
+
+withs_of : (fit : Bool) (xs ys : List Laid) → MaybeGiven fit xs ys → (ws : List With) × WithsText ws xs ys × WithsFitIf fit ws
+withs_of fit xs ys (inl q) = ([], q, none_given fit)
+withs_of fit xs ys (inr h) =
+    let given = h.2.1 in
+    let w : With = with_of fit [] h.2.0 h.0 given.0 given.1 in
+    let more = more_of given.2.0 fit (h.2.0 ∷ []) given.0 ys given.2.1 in
+    (w ∷ more.0, (h.0, marked_text marks.With xs h.0 h.1, (given.0, with_text fit [] h.2.0 h.0 given.0 given.1, more.1)), and_given fit w more.0 given.1.1.2.2.2 more.2)
+
+made_of : (fit : Bool) (m : Made) (xs ys : List Laid) → InstanceText m xs ys → WithsFitIf fit m.withs → SomeUnit fit xs ys
+made_of true m xs ys h f = (units.Instance m, h, f)
+made_of false m xs ys h f = (units.Instance m, h, tt)
+
+instance_of : (fit : Bool) (xs ys : List Laid) → InstancePart fit xs ys → SomeUnit fit xs ys
+instance_of fit xs ys h =
+    let own = marked_text marks.Name xs h.0 h.1 in
+    let second = h.2 in
+    let third = second.2 in
+    let fourth = third.2 in
+    let of_module = marked_text marks.Name third.0 fourth.0 fourth.1 in
+    let withs = withs_of fit fourth.0 ys fourth.2 in
+    made_of fit (record { name = own.0; at = own.1.0; module_name = of_module.0; withs = withs.0 }) xs ys
+    (h.0, own.1.1, (second.0, marked_text marks.Defined h.0 second.0 second.1, (third.0, marked_text marks.Instance second.0 third.0 third.1, (fourth.0, of_module.1, withs.1)))) withs.2
+
+name_of : (fit : Bool) (xs ys : List Laid) → NamePart fit xs ys → SomeUnit fit xs ys
+name_of fit xs ys (inl d) = defined_of fit xs ys d
+name_of fit xs ys (inr i) = instance_of fit xs ys i
+
 unit_by : (fit : Bool) (o : Option Mark) (x : Laid) (xs ys : List Laid) → mark_of x ≡ o → Behind fit o x xs ys → SomeUnit fit (x ∷ xs) ys
 unit_by fit (Some marks.Variables) x xs ys e h = let r = listed_of xs ys h in (units.Variables r.0, (xs, marked_text marks.Variables (x ∷ xs) xs (e, refl), r.1), no_fits fit (units.Variables r.0) tt)
 unit_by fit (Some marks.Constants) x xs ys e h = let r = listed_of xs ys h in (units.Constants r.0, (xs, marked_text marks.Constants (x ∷ xs) xs (e, refl), r.1), no_fits fit (units.Constants r.0) tt)
@@ -160,7 +221,7 @@ unit_by fit (Some marks.Recursive) x xs ys e h = let r = operators_of xs ys h in
 unit_by fit (Some marks.Assume) x xs ys e h = assumed_of fit x xs ys e h
 unit_by fit (Some marks.Theorem) x xs ys e h = stated_of fit x xs ys e h
 unit_by fit (Some marks.Dashes) x xs ys e h = (units.Passed, inl (marked_text marks.Dashes (x ∷ xs) ys (e, h)), no_fits fit units.Passed tt)
-unit_by fit (Some marks.Name) x xs ys e h = defined_of fit (x ∷ xs) ys h
+unit_by fit (Some marks.Name) x xs ys e h = name_of fit (x ∷ xs) ys h
 unit_by fit _ x xs ys e h = absurd h
 
 unit_of : (fit : Bool) (xs ys : List Laid) → UnitPart fit xs ys → SomeUnit fit xs ys

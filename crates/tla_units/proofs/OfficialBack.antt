@@ -1,29 +1,31 @@
 -- The grammar of modules, and the rest of a module with no trees: from the one to the other.
-use Rattle.std.proofs.Common.{◌≡◌, ℕ, zero, suc, Bool, true, false, List, [], ◌∷◌, Some, inl, inr, refl, sym, subst}
+use Rattle.std.proofs.Common.{◌≡◌, ℕ, zero, suc, Bool, true, false, List, [], ◌∷◌, ◌++◌, Some, inl, inr, refl, sym, subst}
 use Rattle.tla_ast.specs.declared.laid.Laid.{Laid}
 use Rattle.tla_ast.specs.declared.expr.Definition.{Definition as UnitDefinition}
 use Rattle.tla_ast.specs.declared.module.Declared.{Declared}
 use Rattle.tla_ast.specs.declared.module.DeclaredOperator.{DeclaredOperator}
 use Rattle.tla_ast.specs.declared.module.Unit.{Unit as ModuleUnit}
 use Rattle.tla_ast.specs.declared.module.Unit.TheVariants as units
+use Rattle.tla_ast.specs.declared.module.With.{With}
+use Rattle.tla_ast.specs.declared.module.Made.{Made}
 use Rattle.tla_ast.specs.declared.module.Module.{Module}
 use Rattle.tla_ast.specs.Trees.{Tree}
 use Rattle.tla_ast.specs.Grammar.{Span, nothing, either, NamesText}
-use Rattle.tla_ast.specs.Modules.{DeclaredNamesText, PlacesText, MaybePlaces, DeclaredOperatorText, DeclaredOperatorsText, MaybeTitle, ExtendsText, UnitTextBy, UnitsTextBy, ModuleTextBy}
+use Rattle.tla_ast.specs.Modules.{DeclaredNamesText, PlacesText, MaybePlaces, DeclaredOperatorText, DeclaredOperatorsText, MaybeTitle, ExtendsText, WithText, MoreWithsText, WithsText, UnitTextBy, UnitsTextBy, ModuleTextBy}
 use Rattle.tla_units.specs.Marks.{mark_of, kind_mark, word_mark, symbol_mark, foreign_mark}
 use Rattle.tla_units.specs.Parts.{MarkText}
-use Rattle.tla_units.specs.Rests.{Marked, ListOf, Others, Listed, Places, Parameters, OneOperator, Operators, Extended, Title, FitsIf, Expression, Behind, UnitPart, Last, Tail, Whole}
+use Rattle.tla_units.specs.Rests.{Marked, ListOf, Others, Listed, Places, Parameters, OneOperator, Operators, Extended, Title, FitsIf, Expression, Given, SomeMoreGiven, MaybeGiven, Behind, UnitPart, Last, Tail, Whole}
 use Rattle.tla_units.specs.declared.marks.Mark.{Mark}
 use Rattle.tla_units.specs.declared.marks.Mark.TheVariants as marks
-use Rattle.tla_units.proofs.Official.{some_by, UnitFitsIf, UnitsFitIf}
-use Rattle.tla_units.proofs.TailSteps.{definition_part}
+use Rattle.tla_units.proofs.Official.{some_by, WithsFitIf, UnitFitsIf, UnitsFitIf}
+use Rattle.tla_units.proofs.TailSteps.{definition_part, instance_part}
 
 -- ---- tokens
 
 set : (m : Mark) (x : Laid) (xs ys : List Laid) → xs ≡ x ∷ ys → mark_of x ≡ Some m → Marked m xs ys
 set m x xs ys e q = subst (λ v. Marked m v ys) (sym e) (q, refl)
 
-of_mark : (m : Mark) (xs ys : List Laid) → MarkText m xs ys → Marked m xs ys
+pub of_mark : (m : Mark) (xs ys : List Laid) → MarkText m xs ys → Marked m xs ys
 unfolding mark_of kind_mark word_mark symbol_mark foreign_mark
 of_mark marks.Name xs ys h = set marks.Name _ xs ys h.1.1 refl
 of_mark marks.Dashes xs ys h = set marks.Dashes _ xs ys h.1 refl
@@ -47,6 +49,9 @@ of_mark marks.Theorem xs ys (inl (inl h)) = set marks.Theorem _ xs ys h.1 refl
 of_mark marks.Theorem xs ys (inl (inr h)) = set marks.Theorem _ xs ys h.1 refl
 of_mark marks.Theorem xs ys (inr (inl h)) = set marks.Theorem _ xs ys h.1 refl
 of_mark marks.Theorem xs ys (inr (inr h)) = set marks.Theorem _ xs ys h.1 refl
+of_mark marks.Instance xs ys h = set marks.Instance _ xs ys h.1 refl
+of_mark marks.With xs ys h = set marks.With _ xs ys h.1 refl
+of_mark marks.Arrow xs ys h = set marks.Arrow _ xs ys h.1 refl
 
 -- ---- names
 
@@ -120,12 +125,46 @@ passed_from : (fit : Bool) (xs ys : List Laid) → UnitTextBy (some_by fit) unit
 passed_from fit xs ys (inl h) = unit_from marks.Dashes fit xs ys ys (of_mark marks.Dashes xs ys h) (λ x. refl)
 passed_from fit xs ys (inr h) = unit_from marks.Theorem fit xs h.0 ys (of_mark marks.Theorem xs h.0 h.1) (λ x. (h.2.0, title_from h.0 h.2.0 h.2.1, some_from fit h.2.0 ys h.2.2))
 
+-- ---- instances
+
+withs_fit : (fit : Bool) (m : Made) → UnitFitsIf fit (units.Instance m) → WithsFitIf fit m.withs
+withs_fit true m h = h
+withs_fit false m h = tt
+
+first_given : (fit : Bool) (w : With) (ws : List With) → WithsFitIf fit (w ∷ ws) → FitsIf fit w.by
+first_given true w ws h = h.0
+first_given false w ws h = tt
+
+others_given : (fit : Bool) (w : With) (ws : List With) → WithsFitIf fit (w ∷ ws) → WithsFitIf fit ws
+others_given true w ws h = h.1
+others_given false w ws h = tt
+
+given_from : (fit : Bool) (before : List (List ℕ)) (w : With) (xs ys : List Laid) → WithText before w xs ys → FitsIf fit w.by → Given fit before w.name xs ys
+given_from fit before w xs ys h f = (h.0, (h.1.0, (w.at, h.1.1), (h.1.2.0, of_mark marks.Arrow h.1.0 h.1.2.0 h.1.2.1, (w.by, h.1.2.2, f))))
+
+more_from : (ws : List With) (fit : Bool) (before : List (List ℕ)) (xs ys : List Laid) → MoreWithsText before ws xs ys → WithsFitIf fit ws → SomeMoreGiven fit before xs ys
+more_from [] fit before xs ys h f = (zero, h)
+more_from (w ∷ ws) fit before xs ys h f =
+    let given = h.2 in
+    let r = more_from ws fit (before ++ w.name ∷ []) given.0 ys given.2 (others_given fit w ws f) in
+    (suc r.0, (h.0, of_mark marks.Comma xs h.0 h.1, (w.name, (given.0, given_from fit before w h.0 given.0 given.1 (first_given fit w ws f), r.1))))
+
+maybe_from : (ws : List With) (fit : Bool) (xs ys : List Laid) → WithsText ws xs ys → WithsFitIf fit ws → MaybeGiven fit xs ys
+maybe_from [] fit xs ys h f = inl h
+maybe_from (w ∷ ws) fit xs ys h f =
+    let given = h.2 in
+    inr (h.0, of_mark marks.With xs h.0 h.1, (w.name, (given.0, given_from fit [] w h.0 given.0 given.1 (first_given fit w ws f), more_from ws fit (w.name ∷ []) given.0 ys given.2 (others_given fit w ws f))))
+
 part_from : (u : ModuleUnit) (fit : Bool) (xs ys : List Laid) → UnitTextBy (some_by fit) u xs ys → UnitFitsIf fit u → UnitPart fit xs ys
 part_from (units.Variables ds) fit xs ys h f = unit_from marks.Variables fit xs h.0 ys (of_mark marks.Variables xs h.0 h.1) (λ x. declared_from ds h.0 ys h.2)
 part_from (units.Constants ds) fit xs ys h f = unit_from marks.Constants fit xs h.0 ys (of_mark marks.Constants xs h.0 h.1) (λ x. declared_from ds h.0 ys h.2)
 part_from (units.Recursive ds) fit xs ys h f = unit_from marks.Recursive fit xs h.0 ys (of_mark marks.Recursive xs h.0 h.1) (λ x. operators_from ds h.0 ys h.2)
 part_from (units.Define d) fit xs ys h f = definition_part fit xs ys (d.name, d.at, d.params, d.form, d.body, h, fits_defined fit d f)
-part_from (units.Instance m) fit xs ys h f = absurd h
+part_from (units.Instance m) fit xs ys h f =
+    let second = h.2 in
+    let third = second.2 in
+    let fourth = third.2 in
+    instance_part fit xs ys (h.0, of_mark marks.Name xs h.0 (m.name, (m.at, h.1)), (second.0, of_mark marks.Defined h.0 second.0 second.1, (third.0, of_mark marks.Instance second.0 third.0 third.1, (fourth.0, of_mark marks.Name third.0 fourth.0 (m.module_name, fourth.1), maybe_from m.withs fit fourth.0 ys fourth.2 (withs_fit fit m f)))))
 part_from (units.Assume e) fit xs ys h f = unit_from marks.Assume fit xs h.0 ys (of_mark marks.Assume xs h.0 h.1) (λ x. (h.2.0, title_from h.0 h.2.0 h.2.1, (e, h.2.2, fits_assumed fit e f)))
 part_from units.Passed fit xs ys h f = passed_from fit xs ys h
 

@@ -43,7 +43,7 @@ token_same n m p q ws xs ys zs w h g =
     let here : Plain (record { kind = kinds.Name n; place = p }) ∷ ys ≡ Plain (record { kind = kinds.Name m; place = q }) ∷ zs = sym h ∙ w ∙ g in
     (ap head_name here, ap (head_place p) here, ap tail_of here)
 
-no_comma : (xs ys : List Laid) → UnitEnds xs → sign symbols.Comma xs ys → ⊥
+pub no_comma : (xs ys : List Laid) → UnitEnds xs → sign symbols.Comma xs ys → ⊥
 no_comma xs ys a c = subst UnitEnds c.1 a
 
 pub names_same : (ns ms : List (List ℕ)) (xs ys zs : List Laid) → NamesText ns xs ys → NamesText ms xs zs → UnitEnds ys → UnitEnds zs → (ns ≡ ms) × (ys ≡ zs)
@@ -199,7 +199,7 @@ ended_tree e f ys zs q = cc
 ended_behind : (e f : Tree) (ys zs : List Laid) → EndsAt e ys ≡ EndsAt f zs → ys ≡ zs
 ended_behind e f ys zs q = cc
 
-expression_same : SpelledRead → (e f : Tree) (xs ys zs : List Laid) → Spells e xs ys → Spells f xs zs → TextEnds ys → TextEnds zs → (e ≡ f) × (ys ≡ zs)
+pub expression_same : SpelledRead → (e f : Tree) (xs ys zs : List Laid) → Spells e xs ys → Spells f xs zs → TextEnds ys → TextEnds zs → (e ≡ f) × (ys ≡ zs)
 expression_same read e f xs [] zs s t a b = absurd a
 expression_same read e f xs (y ∷ ys) [] s t a b = absurd b
 expression_same read e f xs (y ∷ ys) (z ∷ zs) s t a b =

@@ -134,7 +134,7 @@ unit_begins (units.Variables ds) xs ys h = variable_begins xs h.0 h.1
 unit_begins (units.Constants ds) xs ys h = constant_begins xs h.0 h.1
 unit_begins (units.Recursive ds) xs ys h = ap form_of h.1.1
 unit_begins (units.Define d) xs ys h = ap form_of h.1
-unit_begins (units.Instance m) xs ys h = absurd h
+unit_begins (units.Instance m) xs ys h = ap form_of h.1
 unit_begins (units.Assume e) xs ys h = assume_begins xs h.0 h.1
 unit_begins units.Passed xs ys h = passed_begins xs ys h
 

@@ -12,6 +12,9 @@ use Rattle.tla_ast.specs.Fits.{Fits}
 use Rattle.tla_ast.specs.Modules.{DeclaredNamesText, DeclaredOperatorsText, MaybeTitle, UnitText, UnitsText, UnitFits, UnitsFit}
 use Rattle.reader_model.specs.LawsOfTrees.{SpelledRead, DefinitionRead}
 use Rattle.tla_units.proofs.OneModuleTokens.{OfEquals, form_of, TextEnds, UnitEnds, form_ends, unit_form, unit_begins, units_are, some_behind, variable_behind, constant_behind, assume_behind, theorem_behind, dashes_no_theorem}
+use Rattle.tla_units.proofs.InstanceBegins.{no_both_text}
+use Rattle.tla_units.proofs.InstanceTokens.{NoBoth}
+use Rattle.tla_units.proofs.OneModuleInstances.{instance_same}
 use Rattle.tla_units.proofs.OneModuleParts.{declared_names_same, operators_same, titled_same, definition_same}
 
 pub variables_same : (ds es : List Declared) (xs ys zs : List Laid) → UnitText (units.Variables ds) xs ys → UnitText (units.Variables es) xs zs → UnitEnds ys → UnitEnds zs → (units.Variables ds ≡ units.Variables es) × (ys ≡ zs)
@@ -48,18 +51,21 @@ passed_same read xs ys zs (inr h) (inr g) a b =
     let title : MaybeTitle h.0 g.2.0 = subst (λ v. MaybeTitle v g.2.0) (sym q) g.2.1 in
     (titled_same read h.2.2.0 g.2.2.0 h.0 h.2.0 g.2.0 ys zs h.2.1 title h.2.2.1 g.2.2.1 a b).1
 
-unit_same : SpelledRead → DefinitionRead → (u v : ModuleUnit) (xs ys zs : List Laid) → UnitText u xs ys → UnitText v xs zs → UnitFits u → UnitFits v → UnitEnds ys → UnitEnds zs → (u ≡ v) × (ys ≡ zs)
-unit_same read defined (units.Variables ds) (units.Variables es) xs ys zs h g k l a b = variables_same ds es xs ys zs h g a b
-unit_same read defined (units.Constants ds) (units.Constants es) xs ys zs h g k l a b = constants_same ds es xs ys zs h g a b
-unit_same read defined (units.Recursive ds) (units.Recursive es) xs ys zs h g k l a b = recursive_same ds es xs ys zs h g a b
-unit_same read defined (units.Define d) (units.Define e) xs ys zs h g k l a b =
+unit_same : NoBoth → SpelledRead → DefinitionRead → (u v : ModuleUnit) (xs ys zs : List Laid) → UnitText u xs ys → UnitText v xs zs → UnitFits u → UnitFits v → UnitEnds ys → UnitEnds zs → (u ≡ v) × (ys ≡ zs)
+unit_same both read defined (units.Variables ds) (units.Variables es) xs ys zs h g k l a b = variables_same ds es xs ys zs h g a b
+unit_same both read defined (units.Constants ds) (units.Constants es) xs ys zs h g k l a b = constants_same ds es xs ys zs h g a b
+unit_same both read defined (units.Recursive ds) (units.Recursive es) xs ys zs h g k l a b = recursive_same ds es xs ys zs h g a b
+unit_same both read defined (units.Define d) (units.Define e) xs ys zs h g k l a b =
     let r = definition_same defined d e xs ys zs h g k l (form_ends ys a) (form_ends zs b) in
     (ap units.Define r.0, r.1)
-unit_same read defined (units.Assume e) (units.Assume f) xs ys zs h g k l a b = assume_same read e f xs ys zs h g k l (form_ends ys a) (form_ends zs b)
-unit_same read defined units.Passed units.Passed xs ys zs h g k l a b = (refl, passed_same read xs ys zs h g (form_ends ys a) (form_ends zs b))
-unit_same read defined (units.Instance m) v xs ys zs h g k l a b = absurd h
-unit_same read defined u (units.Instance m) xs ys zs h g k l a b = absurd g
-unit_same read defined u v xs ys zs h g k l a b = absurd (let q : unit_form u ≡ unit_form v = sym (unit_begins u xs ys h) ∙ unit_begins v xs zs g in cc)
+unit_same both read defined (units.Assume e) (units.Assume f) xs ys zs h g k l a b = assume_same read e f xs ys zs h g k l (form_ends ys a) (form_ends zs b)
+unit_same both read defined units.Passed units.Passed xs ys zs h g k l a b = (refl, passed_same read xs ys zs h g (form_ends ys a) (form_ends zs b))
+unit_same both read defined (units.Instance m) (units.Instance o) xs ys zs h g k l a b =
+    let r = instance_same read m o xs ys zs h g k l a b in
+    (ap units.Instance r.0, r.1)
+unit_same both read defined (units.Instance m) (units.Define e) xs ys zs h g k l a b = absurd (no_both_text both e m xs zs ys g h)
+unit_same both read defined (units.Define e) (units.Instance m) xs ys zs h g k l a b = absurd (no_both_text both e m xs ys zs h g)
+unit_same both read defined u v xs ys zs h g k l a b = absurd (let q : unit_form u ≡ unit_form v = sym (unit_begins u xs ys h) ∙ unit_begins v xs zs g in cc)
 
 unit_no_equals : (u : ModuleUnit) → unit_form u ≡ OfEquals → ⊥
 unit_no_equals (units.Variables ds) q = cc
@@ -74,11 +80,11 @@ pub equals_no_unit : (u : ModuleUnit) (xs ys : List Laid) → UnitText u xs ys �
 equals_no_unit u xs ys h q = unit_no_equals u (sym (unit_begins u xs ys h) ∙ q)
 
 -- units with equals signs behind them
-pub units_same : SpelledRead → DefinitionRead → (us vs : List ModuleUnit) (xs ys zs : List Laid) → UnitsText us xs ys → UnitsText vs xs zs → form_of ys ≡ OfEquals → form_of zs ≡ OfEquals → UnitsFit us → UnitsFit vs → us ≡ vs
-units_same read defined [] [] xs ys zs h g a b k l = refl
-units_same read defined [] (v ∷ vs) xs ys zs h g a b k l = absurd (equals_no_unit v xs g.0 g.1 (ap form_of h ∙ a))
-units_same read defined (u ∷ us) [] xs ys zs h g a b k l = absurd (equals_no_unit u xs h.0 h.1 (ap form_of g ∙ b))
-units_same read defined (u ∷ us) (v ∷ vs) xs ys zs h g a b k l =
-    let p = unit_same read defined u v xs h.0 g.0 h.1 g.1 k.0 l.0 (units_are us h.0 ys h.2 a) (units_are vs g.0 zs g.2 b) in
-    let r : us ≡ vs = units_same read defined us vs h.0 ys zs h.2 (subst (λ w. UnitsText vs w zs) (sym p.1) g.2) a b k.1 l.1 in
+pub units_same : NoBoth → SpelledRead → DefinitionRead → (us vs : List ModuleUnit) (xs ys zs : List Laid) → UnitsText us xs ys → UnitsText vs xs zs → form_of ys ≡ OfEquals → form_of zs ≡ OfEquals → UnitsFit us → UnitsFit vs → us ≡ vs
+units_same both read defined [] [] xs ys zs h g a b k l = refl
+units_same both read defined [] (v ∷ vs) xs ys zs h g a b k l = absurd (equals_no_unit v xs g.0 g.1 (ap form_of h ∙ a))
+units_same both read defined (u ∷ us) [] xs ys zs h g a b k l = absurd (equals_no_unit u xs h.0 h.1 (ap form_of g ∙ b))
+units_same both read defined (u ∷ us) (v ∷ vs) xs ys zs h g a b k l =
+    let p = unit_same both read defined u v xs h.0 g.0 h.1 g.1 k.0 l.0 (units_are us h.0 ys h.2 a) (units_are vs g.0 zs g.2 b) in
+    let r : us ≡ vs = units_same both read defined us vs h.0 ys zs h.2 (subst (λ w. UnitsText vs w zs) (sym p.1) g.2) a b k.1 l.1 in
     ap (λ w. w ∷ us) p.0 ∙ ap (λ w. v ∷ w) r

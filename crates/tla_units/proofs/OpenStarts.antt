@@ -6,11 +6,19 @@ use Rattle.tla_ast.specs.declared.laid.Laid.TheVariants.{Plain}
 use Rattle.tla_tokens.specs.declared.token.Kind.TheVariants as kinds
 use Rattle.tla_tokens.specs.declared.token.Word.{Word}
 use Rattle.tla_tokens.specs.declared.token.Symbol.TheVariants as symbols
+use Rattle.tla_tokens.specs.declared.token.Foreign.TheVariants as foreign
 use Rattle.reader_model.specs.declared.frame.Mode.TheVariants as mode
+use Rattle.reader_model.specs.OpenFits.{in_mode}
 use Rattle.reader_model.proofs.FittingEnds.{first_mode}
-use Rattle.reader_model.proofs.Runner.{run}
-use Rattle.tla_exprs.specs.Nesting.{IsShallow}
+use Rattle.reader_model.proofs.Runner.{model, model_runs, run}
+use Rattle.reader_model.specs.Beginnings.{FittingBegun}
+use Rattle.reader_model.specs.Machine as machine
+use Rattle.reader_model.proofs.FittingEnds.{ran_fits}
+use Rattle.tla_exprs.specs.Nesting.{IsShallow, ShallowDefinition}
 use Rattle.tla_exprs.proofs.Counting.{Within, Elsewhere, counter, count_least}
+use Rattle.tla_exprs.proofs.OpenCounts.{shallow_so}
+use Rattle.tla_exprs.proofs.ReadingModes.{mode_ended}
+use Rattle.tla_exprs.proofs.ReadingOperators.{rows_go}
 
 abbrev pub name_token : List ℕ → Place → Laid
 name_token n p = Plain (record { kind = kinds.Name n; place = p })
@@ -40,3 +48,23 @@ no_word_open w p = not_open true (word_token w p ∷ []) refl
 -- before an expression nothing is unfinished
 pub nothing_open : IsShallow false []
 nothing_open = ([], mode.Want, record { text = ([], refl, refl); fit = (tt, tt); stand = (tt, tt); outermost = refl }, omega arith)
+
+abbrev pub instance_token : Place → Laid
+instance_token p = Plain (record { kind = kinds.Foreign foreign.Instance; place = p })
+
+-- nor with a name, `==` and INSTANCE
+pub no_instance_open : (n : List ℕ) (p q r : Place) → IsShallow true (name_token n p ∷ defined_token q ∷ instance_token r ∷ []) → ⊥
+no_instance_open n p q r = not_open true (name_token n p ∷ defined_token q ∷ instance_token r ∷ []) refl
+
+-- a name and `==` begin a definition, in which nothing is unfinished before them
+pub names_shallow : (n : List ℕ) (p q : Place) → ShallowDefinition (name_token n p ∷ defined_token q ∷ [])
+names_shallow n p q = shallow_so true (name_token n p ∷ defined_token q ∷ []) refl (omega arith, (omega arith, tt))
+
+-- where rows are open behind some tokens, an expression begins with these
+pub open_begun : (read : List Laid) → IsShallow false read → FittingBegun read
+open_begun read i =
+    let o = i.2 in
+    let s = rows_go model false i.0 (in_mode i.1) o.fit.0 o.stand.0 o.outermost read o.text.0 o.text.1 in
+    let t = mode_ended model false i.0 s.rows s.like i.1 o.fit.1 o.stand.1 o.outermost o.text.0 o.text.2 in
+    let runs : run model read [] mode.Want ≡ machine.StopsAt [] = s.runs ∙ t.runs in
+    ran_fits read (model_runs read [] mode.Want ∙ runs)

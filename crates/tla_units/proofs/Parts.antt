@@ -1,21 +1,31 @@
 -- Parts of the slice: one behind another, lists that grow at their end, and the units and the module that they make.
 use Rattle.std.specs.Prelude.{◌≡◌, ℕ, zero, suc, ◌+◌, ◌<◌, ◌≤◌, List, [], ◌∷◌, ◌++◌, drop, length, refl}
-use Rattle.std.proofs.Common.{sym, subst, inl, inr, arith}
+use Rattle.std.proofs.Common.{append_assoc, sym, ap, subst, ◌∙◌, inl, inr, arith}
+use Rattle.std.proofs.lemmas.List.{append-nil}
 use Rattle.tla_ast.specs.declared.laid.Laid.{Laid}
 use Rattle.tla_tokens.specs.declared.token.Kind.TheVariants as kinds
 use Rattle.tla_tokens.specs.declared.token.Word.TheVariants as words
 use Rattle.tla_tokens.specs.declared.token.Symbol.TheVariants as symbols
+use Rattle.tla_tokens.specs.declared.token.Foreign.TheVariants as foreign
 use Rattle.tla_ast.specs.declared.expr.Definition.{Definition}
 use Rattle.tla_ast.specs.declared.module.Declared.{Declared}
 use Rattle.tla_ast.specs.declared.module.DeclaredOperator.{DeclaredOperator}
+use Rattle.tla_ast.specs.declared.module.With.{With}
+use Rattle.tla_ast.specs.declared.module.Made.{Made}
 use Rattle.tla_ast.specs.declared.module.Unit.{Unit as ModuleUnit}
 use Rattle.tla_ast.specs.declared.module.Unit.TheVariants as units
 use Rattle.tla_ast.specs.Trees.{Tree}
 use Rattle.tla_ast.specs.Grammar.{◌⨟◌, token, sign, word, name, some_token, NamesText, DefinitionRest}
-use Rattle.tla_ast.specs.Fits.{Spells}
-use Rattle.tla_ast.specs.Modules.{DeclaredText, DeclaredNamesText, PlacesText, MaybePlaces, DeclaredOperatorText, DeclaredOperatorsText, underscore, recursive_word, UnitText, UnitsText, UnitFits, UnitsFit, MaybeTitle, ExtendsText, SpellsModule, variable_word, constant_word, assume_word, theorem_word}
+use Rattle.tla_ast.specs.Fits.{Fits, Spells}
+use Rattle.tla_ast.specs.Modules.{WithText, MoreWithsText, WithsText, WithsFit, DeclaredText, DeclaredNamesText, PlacesText, MaybePlaces, DeclaredOperatorText, DeclaredOperatorsText, underscore, recursive_word, UnitText, UnitsText, UnitFits, UnitsFit, MaybeTitle, ExtendsText, SpellsModule, variable_word, constant_word, assume_word, theorem_word}
 use Rattle.tla_units.specs.Parts.{Part}
+use Rattle.tla_units.specs.Reads.{GivenSoFar}
 use Rattle.tla_units.specs.Refusals.{ShallowWholeModule, ShallowWholeUnits}
+use Rattle.tla_units.specs.Rests.{InstanceBegins, Marked, names_of}
+use Rattle.tla_units.specs.declared.marks.Mark.{Mark}
+use Rattle.tla_units.specs.declared.marks.Mark.TheVariants as marks
+use Rattle.tla_units.proofs.Official.{marked_text}
+use Rattle.tla_units.proofs.OneModuleTokens.{tail_of}
 
 -- ---- lists that grow at their end
 
@@ -38,6 +48,23 @@ more_operators : (ds : List DeclaredOperator) (d : DeclaredOperator) (ws xs ys z
 more_operators [] d ws xs ys zs h c t = absurd h
 more_operators (e ∷ []) d ws xs ys zs h c t = (xs, h, (ys, c, t))
 more_operators (e ∷ f ∷ ds) d ws xs ys zs h c t = (h.0, h.1, (h.2.0, h.2.1, more_operators (f ∷ ds) d h.2.0 xs ys zs h.2.2 c t))
+
+more_withs : (ws : List With) (before : List (List ℕ)) (w : With) (xs a b c : List Laid) → MoreWithsText before ws xs a → sign symbols.Comma a b → WithText (before ++ names_of ws) w b c → MoreWithsText before (ws ++ w ∷ []) xs c
+more_withs [] before w xs a b c h k t = (b, subst (λ v. sign symbols.Comma v b) (sym h) k, (c, subst (λ v. WithText v w b c) (append-nil before) t, refl))
+more_withs (v ∷ ws) before w xs a b c h k t =
+    (h.0, h.1, (h.2.0, h.2.1, more_withs ws (before ++ v.name ∷ []) w h.2.0 a b c h.2.2 k (subst (λ u. WithText u w b c) (sym (append_assoc before (v.name ∷ []) (names_of ws))) t)))
+
+all_withs : (ws : List With) (w : With) (xs a b c : List Laid) → WithsText ws xs a → (ws ≡ [] → ⊥) → sign symbols.Comma a b → WithText (names_of ws) w b c → WithsText (ws ++ w ∷ []) xs c
+all_withs [] w xs a b c h some k t = absurd (some refl)
+all_withs (v ∷ ws) w xs a b c h some k t = (h.0, h.1, (h.2.0, h.2.1, more_withs ws (v.name ∷ []) w h.2.0 a b c h.2.2 k t))
+
+names_append : (ws : List With) (w : With) → names_of (ws ++ w ∷ []) ≡ names_of ws ++ w.name ∷ []
+names_append [] w = refl
+names_append (v ∷ ws) w = ap (λ ns. v.name ∷ ns) (names_append ws w)
+
+withs_fit : (ws : List With) (w : With) → WithsFit ws → Fits w.by → WithsFit (ws ++ w ∷ [])
+withs_fit [] w h f = (f, tt)
+withs_fit (v ∷ ws) w h f = (h.0, withs_fit ws w h.1 f)
 
 more_units : (us : List ModuleUnit) (u : ModuleUnit) (xs ys zs : List Laid) → UnitsText us xs ys → UnitText u ys zs → UnitsText (us ++ u ∷ []) xs zs
 more_units [] u xs ys zs h t = (zs, subst (λ x. UnitText u x zs) (sym h) t, refl)
@@ -109,6 +136,60 @@ one_more_operator ds es d xs a b c p q r e =
 pub some_extended : (ns : List (List ℕ)) (xs : List Laid) (a b : ℕ) → Part (word words.Extends) xs a (a + 1) → Part (NamesText ns) xs (a + 1) b → ExtendsText ns (drop a xs) (drop b xs)
 some_extended [] xs a b p q = absurd q.text
 some_extended (n ∷ ns) xs a b p q = (drop (a + 1) xs, p.text, q.text)
+
+-- ---- what an instance is given
+
+pub more_names_given : (ws vs : List With) (w : With) → vs ≡ ws ++ w ∷ [] → names_of vs ≡ names_of ws ++ w.name ∷ []
+more_names_given ws vs w e = ap names_of e ∙ names_append ws w
+
+pub one_given : (bs ws : List With) (w : With) (xs : List Laid) (a b : ℕ) → bs ≡ [] → Part (some_token (kinds.Foreign foreign.With)) xs a (a + 1) → Part (WithText (names_of bs) w) xs (a + 1) b → ws ≡ bs ++ w ∷ [] → Part (WithsText ws) xs a b
+one_given bs ws w xs a b none p q e =
+    let a_b : a + 1 < b = q.ahead in
+    let given : WithText [] w (drop (a + 1) xs) (drop b xs) = subst (λ v. WithText (names_of v) w (drop (a + 1) xs) (drop b xs)) none q.text in
+    let same : ws ≡ w ∷ [] = e ∙ ap (λ v. v ++ w ∷ []) none in
+    subst (λ l. Part (WithsText l) xs a b) (sym same) (record { text = (drop (a + 1) xs, p.text, (drop b xs, given, refl)); ahead = omega (arith, a_b); within = q.within })
+
+pub one_given_fits : (bs ws : List With) (w : With) → bs ≡ [] → Fits w.by → ws ≡ bs ++ w ∷ [] → WithsFit ws
+one_given_fits bs ws w none f e = subst WithsFit (sym (e ∙ ap (λ v. v ++ w ∷ []) none)) (f, tt)
+
+-- some were given
+some_so_far : (ws : List With) (xs ys : List Laid) → GivenSoFar (names_of ws) xs ys → ws ≡ [] → ⊥
+some_so_far ws xs ys g e = no_end_nothing g.others g.last (sym (ap names_of e) ∙ g.all)
+  where
+    no_end_nothing : (ns : List (List ℕ)) (n : List ℕ) → [] ≡ ns ++ n ∷ [] → ⊥
+    no_end_nothing [] n q = cc
+    no_end_nothing (m ∷ ns) n q = cc
+
+pub one_more_given : (ws vs : List With) (w : With) (xs : List Laid) (a b c : ℕ) → Part (WithsText ws) xs a b → GivenSoFar (names_of ws) (drop a xs) (drop b xs) → Part (sign symbols.Comma) xs b (b + 1) → Part (WithText (names_of ws) w) xs (b + 1) c → vs ≡ ws ++ w ∷ [] → Part (WithsText vs) xs a c
+one_more_given ws vs w xs a b c p g q r e =
+    let a_b : a < b = p.ahead in
+    let b_c : b + 1 < c = r.ahead in
+    subst (λ l. Part (WithsText l) xs a c) (sym e)
+    (record { text = all_withs ws w (drop a xs) (drop b xs) (drop (b + 1) xs) (drop c xs) p.text (some_so_far ws (drop a xs) (drop b xs) g) q.text r.text; ahead = omega (arith, a_b, b_c); within = r.within })
+
+pub one_more_given_fits : (ws vs : List With) (w : With) → WithsFit ws → Fits w.by → vs ≡ ws ++ w ∷ [] → WithsFit vs
+one_more_given_fits ws vs w h f e = subst WithsFit (sym e) (withs_fit ws w h f)
+
+pub instance_unit : (own of_module : Declared) (m : Made) (xs : List Laid) (a b c d e : ℕ) → Part (DeclaredText own) xs a b → Part InstanceBegins xs a c → Part (DeclaredText of_module) xs c d → WithsText m.withs (drop d xs) (drop e xs) → d ≤ e → e < length xs → m.name ≡ own.name → m.at ≡ own.at → m.module_name ≡ of_module.name
+    → Part (UnitText (units.Instance m)) xs a e
+instance_unit own of_module m xs a b c d e p q r withs le within n at called =
+    let begins = q.text in
+    let behind : drop b xs ≡ begins.0 = ap tail_of (sym p.text) ∙ marked_tail marks.Name (drop a xs) begins.0 begins.1 in
+    let here : token own.at (kinds.Name own.name) (drop a xs) begins.0 = subst (λ v. token own.at (kinds.Name own.name) (drop a xs) v) behind p.text in
+    let named : token m.at (kinds.Name m.name) (drop a xs) begins.0 =
+    subst (λ v. token v (kinds.Name m.name) (drop a xs) begins.0) (sym at) (subst (λ v. token own.at (kinds.Name v) (drop a xs) begins.0) (sym n) here) in
+    let there : name m.module_name (drop c xs) (drop d xs) = subst (λ v. name v (drop c xs) (drop d xs)) (sym called) (of_module.at, r.text) in
+    let a_c : a < c = q.ahead in
+    let c_d : c < d = r.ahead in
+    record {
+      text = (begins.0, named, (begins.2.0, marked_text marks.Defined begins.0 begins.2.0 begins.2.1, (drop c xs, marked_text marks.Instance begins.2.0 (drop c xs) begins.2.2, (drop d xs, there, withs))));
+      ahead = omega (arith, a_c, c_d, le);
+      within = within;
+    }
+  where
+    marked_tail : (m : Mark) (xs ys : List Laid) → Marked m xs ys → tail_of xs ≡ ys
+    marked_tail m [] ys h = absurd h
+    marked_tail m (x ∷ xs) ys h = h.1
 
 -- ---- units
 

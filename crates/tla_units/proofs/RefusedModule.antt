@@ -11,7 +11,7 @@ use Rattle.tla_exprs.specs.Refusals.{IsTooNested}
 use Rattle.tla_units.specs.Marks.{mark_of}
 use Rattle.tla_exprs.specs.declared.fault.ParseFault.{ParseFault}
 use Rattle.tla_exprs.specs.declared.fault.ParseFault.TheVariants.{Expected, Conflict, TooNested, OutOfProfile, NoMemory}
-use Rattle.tla_units.specs.Refusals.{CanNotFollow, ShallowModule, WholeUnits, TooNestedStated, TooNestedUnit, IsRefusedModule}
+use Rattle.tla_units.specs.Refusals.{CanNotFollow, ShallowModule, WholeUnits, TooNestedStated, TooNestedGiven, TooNestedUnit, IsRefusedModule}
 use Rattle.tla_units.specs.Reads.{Stops, IsStopped, RefusedIn, BegunBy, DeepStated, DeepUnit, DeepUnits}
 use Rattle.tla_units.specs.Rests.{Tail, Whole}
 use Rattle.tla_units.specs.declared.marks.Mark.TheVariants as marks
@@ -55,9 +55,10 @@ whole_units before units =
     let m = module_of true (before ++ last_tokens) (units last_tokens (some_tail true)) in
     record { read_as = m.0; equals = _; ends = _; spelled = record { text = m.1; fits = m.2 } }
 
-deep_in : (xs : List Laid) (p : Place) → DeepUnit xs p → IsTooNested FittingBegunDefinition ShallowDefinition xs p ⊎ TooNestedStated xs p
+deep_in : (xs : List Laid) (p : Place) → DeepUnit xs p → IsTooNested FittingBegunDefinition ShallowDefinition xs p ⊎ (TooNestedStated xs p ⊎ TooNestedGiven xs p)
 deep_in xs p (inl d) = inl d
-deep_in xs p (inr d) = inr (deep_stated xs p d)
+deep_in xs p (inr (inl d)) = inr (inl (deep_stated xs p d))
+deep_in xs p (inr (inr d)) = inr (inr d)
 
 deep_unit : (xs : List Laid) (p : Place) → DeepUnits Whole ShallowModule xs p → TooNestedUnit xs p
 deep_unit xs p d = record {

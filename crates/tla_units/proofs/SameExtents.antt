@@ -6,7 +6,6 @@ use Rattle.tla_ast.specs.declared.laid.Laid.{Laid}
 use Rattle.tla_ast.specs.declared.expr.Definition.{Definition as UnitDefinition}
 use Rattle.tla_tokens.specs.declared.token.Kind.TheVariants as kinds
 use Rattle.tla_tokens.specs.declared.token.Symbol.TheVariants as symbols
-use Rattle.tla_ast.specs.declared.module.Unit.{Unit as ModuleUnit}
 use Rattle.tla_ast.specs.declared.module.Unit.TheVariants as units
 use Rattle.tla_ast.specs.Begun.{Begun}
 use Rattle.tla_ast.specs.Trees.{Tree}
@@ -18,8 +17,7 @@ use Rattle.tla_units.specs.Rests.{Expression, Definition}
 use Rattle.tla_units.specs.declared.marks.Mark.TheVariants as marks
 use Rattle.tla_units.proofs.Extents.{TextKind, Parted, Same, Before, Behind, alone, parted, none_within, ends_first}
 use Rattle.tla_units.proofs.OneModuleParts.{title_tail}
-use Rattle.tla_units.proofs.OneModuleTokens.{TextEnds, UnitEnds, form_ends, unit_form, unit_begins, some_behind, assume_behind, theorem_behind, dashes_no_theorem}
-use Rattle.tla_units.proofs.OneModuleUnits.{variables_same, constants_same, recursive_same}
+use Rattle.tla_units.proofs.OneModuleTokens.{TextEnds, some_behind, assume_behind, theorem_behind, dashes_no_theorem}
 use Rattle.tla_units.proofs.OpenStarts.{name_token, defined_token}
 use Rattle.tla_units.proofs.Titles.{NoTitle}
 
@@ -62,7 +60,7 @@ not_titled : NoTitle → (e : Tree) (n : List ℕ) (xs vs ys : List Laid) → Te
 not_titled none e n xs vs ys s h a =
     none false (name_token n h.1.0) (defined_token h.2.0) vs ys (name_mark n h.1.0) (defined_mark h.2.0) (subst (λ v. Expression false v ys) (title_whole n xs vs h) (e, s, tt)) a
 
-text_extent : Expressions → (e f : Tree) (us vs ys zs : List Laid) → us ≡ vs → Text e us ys → Text f vs zs → TextEnds ys → TextEnds zs → ys ≡ zs
+pub text_extent : Expressions → (e f : Tree) (us vs ys zs : List Laid) → us ≡ vs → Text e us ys → Text f vs zs → TextEnds ys → TextEnds zs → ys ≡ zs
 text_extent k e f us vs ys zs q s t a b = one_extent Expression Begun FittingBegun k us ys zs (e, s, tt) (f, subst (λ v. Text f v zs) (sym q) t, tt) a b
 
 titled_extent : NoTitle → Expressions → (e f : Tree) (xs us vs ys zs : List Laid) → MaybeTitle xs us → MaybeTitle xs vs → Text e us ys → Text f vs zs → TextEnds ys → TextEnds zs → ys ≡ zs
@@ -73,12 +71,12 @@ titled_extent none k e f xs us vs ys zs (inr h) (inr g) s t a b = text_extent k 
 
 -- ---- units
 
-assume_extent : NoTitle → Expressions → (e f : Tree) (xs ys zs : List Laid) → UnitText (units.Assume e) xs ys → UnitText (units.Assume f) xs zs → TextEnds ys → TextEnds zs → ys ≡ zs
+pub assume_extent : NoTitle → Expressions → (e f : Tree) (xs ys zs : List Laid) → UnitText (units.Assume e) xs ys → UnitText (units.Assume f) xs zs → TextEnds ys → TextEnds zs → ys ≡ zs
 assume_extent none k e f xs ys zs h g a b =
     let q : h.0 ≡ g.0 = assume_behind xs h.0 g.0 h.1 g.1 in
     titled_extent none k e f h.0 h.2.0 g.2.0 ys zs h.2.1 (subst (λ v. MaybeTitle v g.2.0) (sym q) g.2.1) h.2.2 g.2.2 a b
 
-passed_extent : NoTitle → Expressions → (xs ys zs : List Laid) → UnitText units.Passed xs ys → UnitText units.Passed xs zs → TextEnds ys → TextEnds zs → ys ≡ zs
+pub passed_extent : NoTitle → Expressions → (xs ys zs : List Laid) → UnitText units.Passed xs ys → UnitText units.Passed xs zs → TextEnds ys → TextEnds zs → ys ≡ zs
 passed_extent none k xs ys zs (inl h) (inl g) a b = some_behind kinds.Dashes xs xs ys zs refl h g
 passed_extent none k xs ys zs (inl h) (inr g) a b = absurd (dashes_no_theorem xs ys g.0 h g.1)
 passed_extent none k xs ys zs (inr h) (inl g) a b = absurd (dashes_no_theorem xs zs h.0 g h.1)
@@ -86,17 +84,5 @@ passed_extent none k xs ys zs (inr h) (inr g) a b =
     let q : h.0 ≡ g.0 = theorem_behind xs h.0 g.0 h.1 g.1 in
     titled_extent none k h.2.2.0 g.2.2.0 h.0 h.2.0 g.2.0 ys zs h.2.1 (subst (λ v. MaybeTitle v g.2.0) (sym q) g.2.1) h.2.2.1.text g.2.2.1.text a b
 
-definition_extent : Defined → (d e : UnitDefinition) (xs ys zs : List Laid) → UnitText (units.Define d) xs ys → UnitText (units.Define e) xs zs → TextEnds ys → TextEnds zs → ys ≡ zs
+pub definition_extent : Defined → (d e : UnitDefinition) (xs ys zs : List Laid) → UnitText (units.Define d) xs ys → UnitText (units.Define e) xs zs → TextEnds ys → TextEnds zs → ys ≡ zs
 definition_extent k d e xs ys zs h g a b = one_extent Definition BegunDefinition FittingBegunDefinition k xs ys zs (d.name, d.at, d.params, d.form, d.body, h, tt) (e.name, e.at, e.params, e.form, e.body, g, tt) a b
-
--- two units from one point on end at one point
-pub unit_extent : NoTitle → Expressions → Defined → (u v : ModuleUnit) (xs ys zs : List Laid) → UnitText u xs ys → UnitText v xs zs → UnitEnds ys → UnitEnds zs → ys ≡ zs
-unit_extent none k l (units.Variables ds) (units.Variables es) xs ys zs h g a b = (variables_same ds es xs ys zs h g a b).1
-unit_extent none k l (units.Constants ds) (units.Constants es) xs ys zs h g a b = (constants_same ds es xs ys zs h g a b).1
-unit_extent none k l (units.Recursive ds) (units.Recursive es) xs ys zs h g a b = (recursive_same ds es xs ys zs h g a b).1
-unit_extent none k l (units.Define d) (units.Define e) xs ys zs h g a b = definition_extent l d e xs ys zs h g (form_ends ys a) (form_ends zs b)
-unit_extent none k l (units.Assume e) (units.Assume f) xs ys zs h g a b = assume_extent none k e f xs ys zs h g (form_ends ys a) (form_ends zs b)
-unit_extent none k l units.Passed units.Passed xs ys zs h g a b = passed_extent none k xs ys zs h g (form_ends ys a) (form_ends zs b)
-unit_extent none k l (units.Instance m) v xs ys zs h g a b = absurd h
-unit_extent none k l u (units.Instance m) xs ys zs h g a b = absurd g
-unit_extent none k l u v xs ys zs h g a b = absurd (let q : unit_form u ≡ unit_form v = sym (unit_begins u xs ys h) ∙ unit_begins v xs zs g in cc)

@@ -1,5 +1,5 @@
 -- Tokens of units and of headings that stand inside few enough constructs, one part behind another.
-use Rattle.std.proofs.Common.{◌≡◌, ◌⊎◌, ℕ, zero, suc, List, [], ◌∷◌, ◌++◌, append_assoc, drop, inl, inr, refl, sym, ap, subst, ◌∙◌}
+use Rattle.std.proofs.Common.{◌≡◌, ℕ, zero, suc, List, [], ◌∷◌, ◌++◌, append_assoc, drop, inl, inr, refl, sym, ap, subst, ◌∙◌}
 use Rattle.std.proofs.lemmas.List.{append-nil}
 use Rattle.tla_ast.specs.declared.laid.Laid.{Laid}
 use Rattle.tla_ast.specs.declared.expr.Definition.{Definition as UnitDefinition}
@@ -18,7 +18,7 @@ use Rattle.reader_model.specs.LawsOfExtents.{LocalText, LocalDefinition}
 use Rattle.tla_exprs.specs.Nesting.{Shallow, ShallowDefinition}
 use Rattle.tla_exprs.specs.Refusals.{GoesAsFar}
 use Rattle.tla_units.specs.Reads.{ShallowTitled}
-use Rattle.tla_units.specs.Refusals.{Begins, DeclarationText, RecursiveText, ShallowUnit, ShallowWholeUnit, SoManyUnits, ShallowWholeUnits, ShallowUnits, SomeExtends}
+use Rattle.tla_units.specs.Refusals.{Begins, BeginsThen, DeclarationText, RecursiveText, ShallowUnit, ShallowWholeUnit, SoManyUnits, ShallowWholeUnits, ShallowUnits, SomeExtends}
 use Rattle.tla_units.specs.Rests.{Listed, Operators, Title, Extended}
 use Rattle.tla_units.proofs.Locals.{IsLocal, before_any, all_alone, joined, local_either, local_kind, local_variable, local_constant, local_recursive_word, local_recursive, local_assume, local_theorem, local_title, local_some_extends, local_maybe_title, local_variables, local_constants, local_definition, local_assumption, local_passed, local_whole_units}
 use Rattle.tla_units.proofs.MarksTold.{plain}
@@ -50,17 +50,17 @@ pub shallow_titled : (xs ys text : List Laid) → Title xs ys → xs ≡ text ++
 shallow_titled xs ys text h e l s = record { title = text; body = l; whole = refl; titled = inr (all_alone Title local_title xs ys text h e); shallow = s }
 
 pub shallow_stated : (xs ws text : List Laid) → either assume_word theorem_word xs ws → xs ≡ text ++ ws → (l : List Laid) → ShallowTitled l → ShallowUnit (text ++ l)
-shallow_stated xs ws text h e l s = inr (inr (record {
+shallow_stated xs ws text h e l s = inr (inr (inl (record {
   before = text ++ s.title;
   body = s.body;
   whole = ap (λ v. text ++ v) s.whole ∙ sym (append_assoc text s.title s.body);
   stated = (s.title, before_any (either assume_word theorem_word) local_stating xs ws text h e s.title, title_of s.title [] s.titled);
   shallow = s.shallow;
-}))
+})))
 
 -- ---- whole units
 
-whole_unit : (u : ModuleUnit) → IsLocal (UnitText u) → (xs ys text : List Laid) → UnitText u xs ys → xs ≡ text ++ ys → ShallowUnit text → ShallowWholeUnit xs ys
+pub whole_unit : (u : ModuleUnit) → IsLocal (UnitText u) → (xs ys text : List Laid) → UnitText u xs ys → xs ≡ text ++ ys → ShallowUnit text → ShallowWholeUnit xs ys
 whole_unit u local xs ys text h e s = record { text = text; whole = e; unit = u; spelled = all_alone (UnitText u) local xs ys text h e; shallow = s }
 
 declaration_alone : (ds : List Declared) (text : List Laid) → (either variable_word constant_word ⨟ DeclaredNamesText ds) text [] → ShallowUnit text
@@ -91,7 +91,7 @@ dashes_shallow xs ys h =
     record { text = p.text; whole = p.whole; unit = units.Passed; spelled = inl w; shallow = inl ([], inr (inr (inl (subst (λ v. some_token kinds.Dashes v []) (sym (append-nil p.text)) w)))) }
 
 -- what was read as far as a text goes
-as_far : (B F H : List Laid → Type 0) (laid : List Laid) (from behind : ℕ) → GoesAsFar B F H laid from behind → (text : List Laid) × (drop from laid ≡ text ++ drop behind laid) × H text
+pub as_far : (B F H : List Laid → Type 0) (laid : List Laid) (from behind : ℕ) → GoesAsFar B F H laid from behind → (text : List Laid) × (drop from laid ≡ text ++ drop behind laid) × H text
 as_far B F H laid from behind g = (g.3.read, g.3.whole ∙ ap (λ v. g.3.read ++ v) (sym g.2), g.3.shallow)
 
 pub defined_shallow : LocalDefinition → (d : UnitDefinition) (laid : List Laid) (from behind : ℕ) → UnitText (units.Define d) (drop from laid) (drop behind laid) → GoesAsFar BegunDefinition FittingBegunDefinition ShallowDefinition laid from behind → ShallowWholeUnit (drop from laid) (drop behind laid)
@@ -100,13 +100,13 @@ defined_shallow local d laid from behind h g =
     whole_unit (units.Define d) (local_definition local d) (drop from laid) (drop behind laid) r.0 h r.1 (inr (inl r.2))
 
 stated_alone : (xs ws ss text title body : List Laid) → either assume_word theorem_word xs ws → xs ≡ text ++ ws → MaybeTitle ws ss → ws ≡ title ++ ss → Shallow body → ShallowUnit ((text ++ title) ++ body)
-stated_alone xs ws ss text title body h e t q s = inr (inr (record {
+stated_alone xs ws ss text title body h e t q s = inr (inr (inl (record {
   before = text ++ title;
   body = body;
   whole = refl;
   stated = (title, before_any (either assume_word theorem_word) local_stating xs ws text h e title, all_alone MaybeTitle local_maybe_title ws ss title t q);
   shallow = s;
-}))
+})))
 
 stated_unit : (u : ModuleUnit) → IsLocal (UnitText u) → (laid xs ws : List Laid) (start behind : ℕ) → either assume_word theorem_word xs ws → MaybeTitle ws (drop start laid) → UnitText u xs (drop behind laid) → GoesAsFar Begun FittingBegun Shallow laid start behind → ShallowWholeUnit xs (drop behind laid)
 stated_unit u local laid xs ws start behind word title h g =
@@ -144,17 +144,22 @@ shallow_equals xs ys text h e l q =
     let there : some_token kinds.Equals (text ++ l) [] = subst (λ v. some_token kinds.Equals (text ++ v) []) (sym q) w in
     inl ([], inr (inr (inr (subst (λ v. some_token kinds.Equals v []) (sym (append-nil (text ++ l))) there))))
 
+-- ---- a part behind another
+
+pub shallow_after : (A B : Span) (J : List Laid → Type 0) → IsLocal A → (xs ys text : List Laid) → A xs ys → xs ≡ text ++ ys → (l : List Laid) → BeginsThen B J l → BeginsThen (A ⨟ B) J (text ++ l)
+shallow_after A B J local xs ys text h e l (inl b) =
+    let whole : (A ⨟ B) (text ++ (l ++ b.0)) [] = (l ++ b.0, before_any A local xs ys text h e (l ++ b.0), b.1) in
+    inl (b.0, subst (λ v. (A ⨟ B) v []) (sym (append_assoc text l b.0)) whole)
+shallow_after A B J local xs ys text h e l (inr b) = inr (b.0, (l, before_any A local xs ys text h e l, b.1), b.2)
+
 -- ---- the heading
 
 -- these are the beginning of such a part of the heading, or all of it and units behind it
 abbrev pub ShallowBehind : Span → List Laid → Type 0
-ShallowBehind R l = Begins R l ⊎ ((behind : List Laid) × R l behind × ShallowUnits behind)
+ShallowBehind R l = BeginsThen R ShallowUnits l
 
 pub shallow_behind : (A B : Span) → IsLocal A → (xs ys text : List Laid) → A xs ys → xs ≡ text ++ ys → (l : List Laid) → ShallowBehind B l → ShallowBehind (A ⨟ B) (text ++ l)
-shallow_behind A B local xs ys text h e l (inl b) =
-    let whole : (A ⨟ B) (text ++ (l ++ b.0)) [] = (l ++ b.0, before_any A local xs ys text h e (l ++ b.0), b.1) in
-    inl (b.0, subst (λ v. (A ⨟ B) v []) (sym (append_assoc text l b.0)) whole)
-shallow_behind A B local xs ys text h e l (inr b) = inr (b.0, (l, before_any A local xs ys text h e l, b.1), b.2)
+shallow_behind A B local xs ys text h e l s = shallow_after A B ShallowUnits local xs ys text h e l s
 
 pub shallow_extended : (xs ys text : List Laid) → SomeExtends xs ys → xs ≡ text ++ ys → (l : List Laid) → ShallowUnits l → ShallowBehind SomeExtends (text ++ l)
 shallow_extended xs ys text h e l s = inr (l, before_any SomeExtends local_some_extends xs ys text h e l, s)

@@ -142,7 +142,7 @@ some_worded : (fit : Bool) → Worded fit (plain (kind_with marks.Heading) ∷ p
 some_worded fit = (plain (kind_with marks.Name) ∷ plain (kind_with marks.Dashes) ∷ last_tokens, (has_mark marks.Heading, refl), some_called fit)
 
 -- a token of a mark begins a part that begins with one
-begun_then : (m : Mark) (B : Span) → Begins B [] → Begins (MarkText m ⨟ B) []
+pub begun_then : (m : Mark) (B : Span) → Begins B [] → Begins (MarkText m ⨟ B) []
 begun_then m B b = (plain (kind_with m) ∷ b.0, (b.0, marked_text m (plain (kind_with m) ∷ b.0) b.0 (has_mark m, refl), b.1))
 
 begun_extends : Begins SomeExtends []

@@ -1,5 +1,5 @@
 -- The first token of a unit, and what stands behind it in the rest of a module.
-use Rattle.std.proofs.Common.{◌≡◌, ℕ, zero, suc, Bool, false, List, [], ◌∷◌, Option, Some, None, refl, sym, ap, subst, ◌∙◌}
+use Rattle.std.proofs.Common.{◌≡◌, ℕ, zero, suc, Bool, false, List, [], ◌∷◌, Option, Some, None, inl, inr, refl, sym, ap, subst, ◌∙◌}
 use Rattle.trace_base.specs.declared.place.Place.{Place}
 use Rattle.tla_ast.specs.declared.laid.Laid.{Laid}
 use Rattle.tla_ast.specs.declared.laid.Laid.TheVariants.{Plain}
@@ -8,7 +8,7 @@ use Rattle.tla_ast.specs.Grammar.{nothing}
 use Rattle.tla_exprs.specs.declared.fault.ParseFault.{ParseFault}
 use Rattle.tla_exprs.specs.Refused.{IsRefusedAt}
 use Rattle.tla_units.specs.Marks.{mark_of, kind_mark, first_mark}
-use Rattle.tla_units.specs.Rests.{Rest, ◌▹◌, Then, Marked, Listed, Operators, Titled, Definition, Behind, UnitPart, Last, UnitsLeft, Tail}
+use Rattle.tla_units.specs.Rests.{Rest, ◌▹◌, Then, Marked, Listed, Operators, Titled, Definition, InstancePart, NamePart, Behind, UnitPart, Last, UnitsLeft, Tail}
 use Rattle.tla_units.specs.Reads.{SameHead, Leads, RefusedIn, BegunBy}
 use Rattle.tla_units.specs.declared.marks.Mark.{Mark}
 use Rattle.tla_units.specs.declared.marks.Mark.TheVariants as marks
@@ -109,7 +109,7 @@ pub tail_dashes : (xs ws : List Laid) → Marked marks.Dashes xs ws → Leads Ta
 tail_dashes [] ws h = absurd h
 tail_dashes (x ∷ xs) ws h = subst (λ v. Leads Tail Tail (x ∷ xs) v) h.1 (leads_on Tail (nothing ▹ Tail) Tail (x ∷ xs) xs xs (tail_token marks.Dashes x xs h.0 (λ q. cc)) (nothing_leads Tail xs))
 
--- ---- definitions
+-- ---- what begins with a name
 
 plain_name : (n : List ℕ) (at : Place) → mark_of (Plain (record { kind = kinds.Name n; place = at })) ≡ Some marks.Name
 unfolding mark_of kind_mark
@@ -127,23 +127,31 @@ pub definition_part : (fit : Bool) (zs ys : List Laid) → Definition fit zs ys 
 definition_part fit [] ys d = absurd (subst IsSomething (sym d.5.1) tt)
 definition_part fit (z ∷ zs) ys d =
     let e : mark_of z ≡ Some marks.Name = ap (λ v. mark_of (first_or z v)) d.5.1 ∙ plain_name d.0 d.1 in
-    subst (λ o. Behind fit o z zs ys) (sym e) d
+    subst (λ o. Behind fit o z zs ys) (sym e) (inl d)
 
-definition_first : (n : ℕ) (fit : Bool) (z : Laid) (zs : List Laid) → mark_of z ≡ Some marks.Name → UnitsLeft n fit (z ∷ zs) → Then Definition Tail fit (z ∷ zs)
-definition_first zero fit z zs e h = absurd (let q : marks.Name ≡ marks.Equals = same_some marks.Name marks.Equals (sym e ∙ h.1.0) in cc)
-definition_first (suc n) fit z zs e h = (h.0, subst (λ o. Behind fit o z zs h.0) e h.1, (n, h.2))
+pub instance_part : (fit : Bool) (zs ys : List Laid) → InstancePart fit zs ys → UnitPart fit zs ys
+instance_part fit [] ys i = absurd i.1
+instance_part fit (z ∷ zs) ys i = subst (λ o. Behind fit o z zs ys) (sym i.1.0) (inr i)
 
-definition_comes : (xs : List Laid) → first_mark xs ≡ Some marks.Name → (fit : Bool) (zs : List Laid) → SameHead xs zs → Tail fit zs → Then Definition Tail fit zs
-definition_comes [] e fit zs s t = absurd s
-definition_comes (x ∷ xs) e fit [] s t = absurd s
-definition_comes (x ∷ xs) e fit (z ∷ zs) s t = definition_first t.0 fit z zs (ap mark_of (sym s) ∙ e) t.1
+name_part : (fit : Bool) (zs ys : List Laid) → NamePart fit zs ys → UnitPart fit zs ys
+name_part fit zs ys (inl d) = definition_part fit zs ys d
+name_part fit zs ys (inr i) = instance_part fit zs ys i
 
-pub tail_definition : (xs : List Laid) → first_mark xs ≡ Some marks.Name → Leads Tail (Then Definition Tail) xs xs
-tail_definition xs e = record {
+name_first : (n : ℕ) (fit : Bool) (z : Laid) (zs : List Laid) → mark_of z ≡ Some marks.Name → UnitsLeft n fit (z ∷ zs) → Then NamePart Tail fit (z ∷ zs)
+name_first zero fit z zs e h = absurd (let q : marks.Name ≡ marks.Equals = same_some marks.Name marks.Equals (sym e ∙ h.1.0) in cc)
+name_first (suc n) fit z zs e h = (h.0, subst (λ o. Behind fit o z zs h.0) e h.1, (n, h.2))
+
+name_comes : (xs : List Laid) → first_mark xs ≡ Some marks.Name → (fit : Bool) (zs : List Laid) → SameHead xs zs → Tail fit zs → Then NamePart Tail fit zs
+name_comes [] e fit zs s t = absurd s
+name_comes (x ∷ xs) e fit [] s t = absurd s
+name_comes (x ∷ xs) e fit (z ∷ zs) s t = name_first t.0 fit z zs (ap mark_of (sym s) ∙ e) t.1
+
+pub tail_name : (xs : List Laid) → first_mark xs ≡ Some marks.Name → Leads Tail (Then NamePart Tail) xs xs
+tail_name xs e = record {
   text = [];
   whole = refl;
-  goes = λ fit zs u. (suc u.2.0, (u.0, definition_part fit zs u.0 u.1, u.2.1));
-  comes = definition_comes xs e;
+  goes = λ fit zs u. (suc u.2.0, (u.0, name_part fit zs u.0 u.1, u.2.1));
+  comes = name_comes xs e;
 }
 
 -- ---- the end of the units, and another token

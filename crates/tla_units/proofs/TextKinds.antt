@@ -97,10 +97,10 @@ definition_open xs NoMemory h = tt
 
 -- ---- titles
 
-named : (x : Laid) → mark_of x ≡ Some marks.Name → (n : List ℕ) × (at : Place) × (x ≡ Plain (record { kind = kinds.Name n; place = at }))
+pub named : (x : Laid) → mark_of x ≡ Some marks.Name → (n : List ℕ) × (at : Place) × (x ≡ Plain (record { kind = kinds.Name n; place = at }))
 named x e = let t = told marks.Name x e in (t.2.0, t.0.place, t.1 ∙ ap (λ k. Plain (record { kind = k; place = t.0.place })) t.2.1)
 
-defined : (x : Laid) → mark_of x ≡ Some marks.Defined → (at : Place) × (x ≡ Plain (record { kind = kinds.Symbol symbols.Defined; place = at }))
+pub defined : (x : Laid) → mark_of x ≡ Some marks.Defined → (at : Place) × (x ≡ Plain (record { kind = kinds.Symbol symbols.Defined; place = at }))
 defined x e = let t = told marks.Defined x e in (t.0.place, t.1 ∙ ap (λ k. Plain (record { kind = k; place = t.0.place })) t.2)
 
 -- none begins with a name and `==`

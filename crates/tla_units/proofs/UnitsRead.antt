@@ -21,14 +21,15 @@ use Rattle.tla_exprs.specs.Refused.{IsRefusedAt}
 use Rattle.tla_units.specs.Marks.{first_mark}
 use Rattle.tla_units.specs.Reads.{Leads, ReadsTitle, RefusedIn, NeverDeep, DeepExpression, DeepDefinition, DeepTitled, DeepStated, DeepUnit, DeepUnits, ShallowTitled}
 use Rattle.tla_units.specs.Refusals.{Begins, ShallowUnit, ShallowUnits, ShallowWholeUnits}
-use Rattle.tla_units.specs.Rests.{◌▹◌, Then, Marked, Listed, Operators, Titled, Expression, Definition, Last, Tail}
+use Rattle.tla_units.specs.Rests.{◌▹◌, Then, Marked, Listed, Operators, Titled, Expression, Definition, NoInstance, NamePart, Last, Tail}
 use Rattle.tla_units.specs.declared.marks.Mark.{Mark}
 use Rattle.tla_units.specs.declared.marks.Mark.TheVariants as marks
-use Rattle.tla_units.proofs.Extents.{LastIsEnd, Passed, passed, part_refused}
+use Rattle.tla_units.proofs.Extents.{LastIsEnd, Local, Passed, passed, part_refused}
+use Rattle.tla_units.proofs.InstanceTokens.{NoBoth, definition_leads, definition_refused}
 use Rattle.tla_units.proofs.Leading.{leads_on, refused_on, stay}
 use Rattle.tla_units.proofs.Official.{marked_text}
 use Rattle.tla_units.proofs.ShallowRead.{shallow_nothing, shallow_declared, shallow_recursive, shallow_stated, shallow_units}
-use Rattle.tla_units.proofs.TailSteps.{NoUnit, tail_ending, tail_variables, tail_constants, tail_recursive, tail_assume, tail_theorem, tail_definition, tail_last, some_tail, last_tokens, unit_refused}
+use Rattle.tla_units.proofs.TailSteps.{NoUnit, tail_ending, tail_variables, tail_constants, tail_recursive, tail_assume, tail_theorem, tail_name, tail_last, some_tail, last_tokens, unit_refused}
 use Rattle.tla_units.proofs.TextKinds.{expression_kind, expression_open, definition_kind, definition_open, none_titled}
 use Rattle.tla_units.proofs.Titles.{titled_passed, titled_refused}
 
@@ -103,12 +104,12 @@ deep_stated (x ∷ xs) ws p m d = record { word = x; behind = ws; whole = ap (λ
 pub assumed_refused : Laws → (laid xs ws : List Laid) (start : ℕ) (e : ParseFault) → LaidEndsOnce laid → start < length laid → Marked marks.Assume xs ws → ReadsTitle ws (drop start laid) → IsRefused Begun FittingBegun Shallow (drop start laid) e × IsUnended EndedText (drop start laid) e → RefusedIn Tail (DeepUnit xs) ShallowUnit xs e
 assumed_refused k laid xs ws start e ends inside m t r =
     let there : Leads Tail (Then Titled Tail) xs ws = tail_assume xs ws m in
-    refused_on Tail (Then Titled Tail) (DeepUnit xs) (DeepTitled ws) ShallowUnit ShallowTitled xs ws e there (λ p d. inr (deep_assumed xs ws p m d)) (shallow_stated xs ws there.text (inl (marked_text marks.Assume xs ws m)) there.whole) (titled_stops k laid ws start e ends inside t r.0 r.1)
+    refused_on Tail (Then Titled Tail) (DeepUnit xs) (DeepTitled ws) ShallowUnit ShallowTitled xs ws e there (λ p d. inr (inl (deep_assumed xs ws p m d))) (shallow_stated xs ws there.text (inl (marked_text marks.Assume xs ws m)) there.whole) (titled_stops k laid ws start e ends inside t r.0 r.1)
 
 pub stated_refused : Laws → (laid xs ws : List Laid) (start : ℕ) (e : ParseFault) → LaidEndsOnce laid → start < length laid → Marked marks.Theorem xs ws → ReadsTitle ws (drop start laid) → IsRefused Begun FittingBegun Shallow (drop start laid) e × IsUnended EndedText (drop start laid) e → RefusedIn Tail (DeepUnit xs) ShallowUnit xs e
 stated_refused k laid xs ws start e ends inside m t r =
     let there : Leads Tail (Then Titled Tail) xs ws = tail_theorem xs ws m in
-    refused_on Tail (Then Titled Tail) (DeepUnit xs) (DeepTitled ws) ShallowUnit ShallowTitled xs ws e there (λ p d. inr (deep_stated xs ws p m d)) (shallow_stated xs ws there.text (inr (marked_text marks.Theorem xs ws m)) there.whole) (titled_stops k laid ws start e ends inside t r.0 r.1)
+    refused_on Tail (Then Titled Tail) (DeepUnit xs) (DeepTitled ws) ShallowUnit ShallowTitled xs ws e there (λ p d. inr (inl (deep_stated xs ws p m d))) (shallow_stated xs ws there.text (inr (marked_text marks.Theorem xs ws m)) there.whole) (titled_stops k laid ws start e ends inside t r.0 r.1)
 
 pub err_both : {T : Type 0} (r : Result T ParseFault) (P Q : ParseFault → Type 0) → IfErr r P → IfErr r Q → IfErr r (λ e. P e × Q e)
 err_both (Ok x) P Q p q = tt
@@ -121,17 +122,24 @@ pub record DefinitionLaws : Type 0 where
   pub local : LocalDefinition
   pub none_follows : NoneFollowsDefinition
   pub no_mark : NoMarkInsideDefinition
+  pub none_both : NoBoth
+
+-- the text of a definition, wherever it stands
+definition_anywhere : LocalDefinition → (d : UnitDefinition) (xs ys : List Laid) → DefinitionText d.name d.at d.params d.form d.body xs ys → Local (Definition false) xs ys
+definition_anywhere local d xs ys s = let l = local d.name d.at d.params d.form d.body xs ys s in record { text = l.0; whole = l.1; anywhere = λ zs. (d.name, d.at, d.params, d.form, d.body, l.2 zs, tt) }
 
 pub defined_far : DefinitionLaws → (d : UnitDefinition) (laid : List Laid) (from behind : ℕ) → first_mark (drop from laid) ≡ Some marks.Name → DefinitionText d.name d.at d.params d.form d.body (drop from laid) (drop behind laid) → Fits d.body → GoesAsFar BegunDefinition FittingBegunDefinition ShallowDefinition laid from behind → Leads Tail Tail (drop from laid) (drop behind laid)
 defined_far k d laid from behind m s f g =
     let p = passed Definition BegunDefinition FittingBegunDefinition (definition_kind k.local k.none_follows k.no_mark) Tail tail_ending (drop from laid) (drop behind laid) g.1 g.0 ShallowDefinition (d.name, d.at, d.params, d.form, d.body, s, f) g.2 g.3 in
-    leads_on Tail (Then Definition Tail) Tail (drop from laid) (drop from laid) (drop behind laid) (tail_definition (drop from laid) m) p.0
+    let here : Leads (Then NamePart Tail) Tail (drop from laid) (drop behind laid) = definition_leads k.none_both (drop from laid) (drop behind laid) p.0 (definition_anywhere k.local d (drop from laid) (drop behind laid) s) in
+    leads_on Tail (Then NamePart Tail) Tail (drop from laid) (drop from laid) (drop behind laid) (tail_name (drop from laid) m) here
 
-pub defined_refused : DefinitionLaws → (laid : List Laid) (from : ℕ) (e : ParseFault) → LaidEndsOnce laid → from < length laid → first_mark (drop from laid) ≡ Some marks.Name → IsRefused BegunDefinition FittingBegunDefinition ShallowDefinition (drop from laid) e × IsUnended EndedDefinition (drop from laid) e → RefusedIn Tail (DeepUnit (drop from laid)) ShallowUnit (drop from laid) e
-defined_refused k laid from e ends inside m r =
+pub defined_refused : DefinitionLaws → (laid : List Laid) (from : ℕ) (e : ParseFault) → LaidEndsOnce laid → from < length laid → first_mark (drop from laid) ≡ Some marks.Name → NoInstance (drop from laid) → IsRefused BegunDefinition FittingBegunDefinition ShallowDefinition (drop from laid) e × IsUnended EndedDefinition (drop from laid) e → RefusedIn Tail (DeepUnit (drop from laid)) ShallowUnit (drop from laid) e
+defined_refused k laid from e ends inside m not r =
     let there : RefusedIn (Then Definition Tail) (DeepDefinition (drop from laid)) ShallowDefinition (drop from laid) e = part_refused Definition BegunDefinition FittingBegunDefinition (definition_kind k.local k.none_follows k.no_mark) Tail tail_ending last_tokens (some_tail false) (some_tail true) ShallowDefinition (drop from laid) e (last_of laid from ends inside) (definition_open (drop from laid) e r.1) r.0 in
-    let begins : Leads Tail (Then Definition Tail) (drop from laid) (drop from laid) = tail_definition (drop from laid) m in
-    refused_on Tail (Then Definition Tail) (DeepUnit (drop from laid)) (DeepDefinition (drop from laid)) ShallowUnit ShallowDefinition (drop from laid) (drop from laid) e begins (λ p d. inl d) (λ l s. stay ShallowUnit (drop from laid) begins.text begins.whole l (inr (inl s))) there
+    let named : RefusedIn (Then NamePart Tail) (DeepDefinition (drop from laid)) ShallowDefinition (drop from laid) e = definition_refused ShallowDefinition (drop from laid) e not there in
+    let begins : Leads Tail (Then NamePart Tail) (drop from laid) (drop from laid) = tail_name (drop from laid) m in
+    refused_on Tail (Then NamePart Tail) (DeepUnit (drop from laid)) (DeepDefinition (drop from laid)) ShallowUnit ShallowDefinition (drop from laid) (drop from laid) e begins (λ p d. inl d) (λ l s. stay ShallowUnit (drop from laid) begins.text begins.whole l (inr (inl s))) named
 
 -- ---- units
 

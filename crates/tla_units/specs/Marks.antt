@@ -12,7 +12,7 @@ use Rattle.tla_tokens.specs.declared.token.Foreign.{Foreign}
 use Rattle.tla_tokens.specs.declared.token.Foreign.TheVariants as foreign
 use Rattle.tla_ast.specs.Opens.{is_end}
 use Rattle.tla_units.specs.declared.marks.Mark.{Mark}
-use Rattle.tla_units.specs.declared.marks.Mark.TheVariants.{Name, Dashes, Equals, Comma, OpenParenthesis, CloseParenthesis, Underscore, Defined, Heading, Extends, Variables, Constants, Recursive, Assume, Theorem}
+use Rattle.tla_units.specs.declared.marks.Mark.TheVariants.{Name, Dashes, Equals, Comma, OpenParenthesis, CloseParenthesis, Underscore, Defined, Heading, Extends, Variables, Constants, Recursive, Assume, Theorem, Instance, With, Arrow}
 
 unfoldable pub word_mark : Word → Option Mark
 word_mark words.Module = Some Heading
@@ -35,11 +35,14 @@ symbol_mark symbols.Comma = Some Comma
 symbol_mark symbols.OpenParenthesis = Some OpenParenthesis
 symbol_mark symbols.CloseParenthesis = Some CloseParenthesis
 symbol_mark symbols.Defined = Some Defined
+symbol_mark symbols.LeftArrow = Some Arrow
 symbol_mark _ = None
 
 unfoldable pub foreign_mark : Foreign → Option Mark
 foreign_mark foreign.Recursive = Some Recursive
 foreign_mark foreign.Underscore = Some Underscore
+foreign_mark foreign.Instance = Some Instance
+foreign_mark foreign.With = Some With
 foreign_mark _ = None
 
 unfoldable pub kind_mark : Kind → Option Mark

@@ -12,7 +12,7 @@ use Rattle.tla_tokens.specs.declared.token.Foreign.TheVariants as foreign
 use Rattle.tla_ast.specs.Grammar.{Span, some_token, word, sign, name}
 use Rattle.tla_ast.specs.Modules.{underscore, variable_word, constant_word, recursive_word, assume_word, theorem_word}
 use Rattle.tla_units.specs.declared.marks.Mark.{Mark}
-use Rattle.tla_units.specs.declared.marks.Mark.TheVariants.{Name, Dashes, Equals, Comma, OpenParenthesis, CloseParenthesis, Underscore, Defined, Heading, Extends, Variables, Constants, Recursive, Assume, Theorem}
+use Rattle.tla_units.specs.declared.marks.Mark.TheVariants.{Name, Dashes, Equals, Comma, OpenParenthesis, CloseParenthesis, Underscore, Defined, Heading, Extends, Variables, Constants, Recursive, Assume, Theorem, Instance, With, Arrow}
 
 pub record Part (R : Span) (laid : List Laid) (from to : ℕ) : Type 0 where
   pub text : R (drop from laid) (drop to laid)
@@ -35,6 +35,9 @@ MarkText Constants = constant_word
 MarkText Recursive = recursive_word
 MarkText Assume = assume_word
 MarkText Theorem = theorem_word
+MarkText Instance = some_token (kinds.Foreign foreign.Instance)
+MarkText With = some_token (kinds.Foreign foreign.With)
+MarkText Arrow = sign symbols.LeftArrow
 
 -- a token of this kind has this mark
 abbrev pub IsMark : Mark → Kind → Type 0
@@ -53,3 +56,6 @@ IsMark Constants k = (k ≡ kinds.Word words.Constant) ⊎ (k ≡ kinds.Word wor
 IsMark Recursive k = k ≡ kinds.Foreign foreign.Recursive
 IsMark Assume k = (k ≡ kinds.Word words.Assume) ⊎ ((k ≡ kinds.Word words.Assumption) ⊎ (k ≡ kinds.Word words.Axiom))
 IsMark Theorem k = ((k ≡ kinds.Word words.Theorem) ⊎ (k ≡ kinds.Word words.Lemma)) ⊎ ((k ≡ kinds.Word words.Proposition) ⊎ (k ≡ kinds.Word words.Corollary))
+IsMark Instance k = k ≡ kinds.Foreign foreign.Instance
+IsMark With k = k ≡ kinds.Foreign foreign.With
+IsMark Arrow k = k ≡ kinds.Symbol symbols.LeftArrow

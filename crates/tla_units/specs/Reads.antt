@@ -1,8 +1,11 @@
 -- What is read of the rest of a module, and why it is refused.
-use Rattle.std.specs.Prelude.{◌≡◌, ◌⊎◌, Bool, true, false, List, [], ◌∷◌, ◌++◌, Some}
+use Rattle.std.specs.Prelude.{◌≡◌, ◌⊎◌, ℕ, Bool, true, false, List, [], ◌∷◌, ◌++◌, Some}
 use Rattle.trace_base.specs.declared.place.Place.{Place}
 use Rattle.tla_ast.specs.declared.laid.Laid.{Laid}
-use Rattle.tla_ast.specs.Grammar.{either, nothing}
+use Rattle.tla_tokens.specs.declared.token.Kind.TheVariants as kinds
+use Rattle.tla_tokens.specs.declared.token.Foreign.TheVariants as foreign
+use Rattle.tla_ast.specs.Grammar.{Span, ◌⨟◌, either, nothing, some_token}
+use Rattle.tla_ast.specs.Modules.{IsNoneOf}
 use Rattle.reader_model.specs.Beginnings.{FittingBegun, FittingBegunDefinition}
 use Rattle.reader_model.specs.Meeting.{Meets}
 use Rattle.tla_exprs.specs.Nesting.{Shallow, ShallowDefinition}
@@ -11,6 +14,7 @@ use Rattle.tla_exprs.specs.Refused.{IsRefusedAt, refusal_of}
 use Rattle.tla_exprs.specs.declared.fault.ParseFault.{ParseFault}
 use Rattle.tla_exprs.specs.declared.fault.ParseFault.TheVariants.{Expected, Conflict, TooNested, OutOfProfile, NoMemory}
 use Rattle.tla_units.specs.Marks.{first_mark}
+use Rattle.tla_units.specs.Refusals.{GivingText, ShallowExpression, ShallowGivens, TooNestedGiven}
 use Rattle.tla_units.specs.Rests.{Rest, Title, Tail}
 use Rattle.tla_units.specs.declared.marks.Mark.{Mark}
 use Rattle.tla_units.specs.declared.marks.Mark.TheVariants as marks
@@ -46,6 +50,11 @@ second_mark_is m (x ∷ xs) = first_mark xs ≡ Some m
 -- a name and `==` are read, or nothing where no such two tokens stand
 abbrev pub ReadsTitle : List Laid → List Laid → Type 0
 ReadsTitle xs ys = Title xs ys ⊎ ((xs ≡ ys) × (first_mark xs ≡ Some marks.Name → second_mark_is marks.Defined xs → ⊥))
+
+-- it tells whether the name is none of these
+abbrev pub TellsNew : Bool → List (List ℕ) → List ℕ → Type 0
+TellsNew true names n = IsNoneOf names n
+TellsNew false names n = IsNoneOf names n → ⊥
 
 -- ---- why it is refused
 
@@ -124,7 +133,22 @@ pub record DeepStated (xs : List Laid) (p : Place) : Type 0 where
   pub deep : DeepTitled behind p
 
 abbrev pub DeepUnit : List Laid → Place → Type 0
-DeepUnit xs p = DeepDefinition xs p ⊎ DeepStated xs p
+DeepUnit xs p = DeepDefinition xs p ⊎ (DeepStated xs p ⊎ TooNestedGiven xs p)
+
+-- a name that is none of those before, `<-`, and a whole expression, each of its tokens inside few enough
+abbrev pub ShallowGiven : List (List ℕ) → List ℕ → Span
+ShallowGiven before n = GivingText before n ⨟ ShallowExpression
+
+-- WITH, and what these names are given so
+pub record GivenSoFar (names : List (List ℕ)) (xs ys : List Laid) : Type 0 where
+  pub others : List (List ℕ)
+  pub last : List ℕ
+  pub all : names ≡ others ++ last ∷ []
+  pub text : (some_token (kinds.Foreign foreign.With) ⨟ ShallowGivens [] others ⨟ ShallowGiven others last) xs ys
+
+-- the same, or nothing
+abbrev pub WholeWiths : Span
+WholeWiths xs ys = (xs ≡ ys) ⊎ ((names : List (List ℕ)) × GivenSoFar names xs ys)
 
 -- the same behind units that fit; Held tells that no token of those is too deep
 pub record DeepUnits (T : Rest) (Held : List Laid → Type 0) (xs : List Laid) (p : Place) : Type 0 where

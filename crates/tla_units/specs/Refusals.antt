@@ -8,9 +8,13 @@ use Rattle.tla_ast.specs.declared.module.Module.{Module}
 use Rattle.tla_ast.specs.declared.module.Unit.{Unit as ModuleUnit}
 use Rattle.tla_tokens.specs.declared.token.Kind.TheVariants as kinds
 use Rattle.tla_tokens.specs.declared.token.Word.TheVariants as words
+use Rattle.tla_tokens.specs.declared.token.Symbol.TheVariants as symbols
+use Rattle.tla_tokens.specs.declared.token.Foreign.TheVariants as foreign
+use Rattle.tla_ast.specs.Trees.{Tree}
+use Rattle.tla_ast.specs.Fits.{Spells}
 use Rattle.tla_ast.specs.Begun.{BegunModule, FittingBegunModule}
-use Rattle.tla_ast.specs.Grammar.{Span, ◌⨟◌, nothing, either, some_token, word, name}
-use Rattle.tla_ast.specs.Modules.{DeclaredNamesText, DeclaredOperatorsText, ExtendsText, MaybeTitle, SpellsModule, UnitText, variable_word, constant_word, recursive_word, assume_word, theorem_word}
+use Rattle.tla_ast.specs.Grammar.{Span, ◌⨟◌, nothing, either, some_token, word, sign, name}
+use Rattle.tla_ast.specs.Modules.{DeclaredNamesText, DeclaredOperatorsText, ExtendsText, IsNoneOf, MaybeTitle, SpellsModule, UnitText, variable_word, constant_word, recursive_word, assume_word, theorem_word}
 use Rattle.reader_model.specs.Beginnings.{FittingBegun, FittingBegunDefinition}
 use Rattle.reader_model.specs.Meeting.{Meets, at_place}
 use Rattle.tla_exprs.specs.Nesting.{Shallow, ShallowDefinition}
@@ -49,10 +53,58 @@ pub record ShallowStated (read : List Laid) : Type 0 where
   pub stated : StatedText before
   pub shallow : Shallow body
 
+-- the beginning of such a part, or all of it and then tokens of which that holds
+abbrev pub BeginsThen : Span → (List Laid → Type 0) → List Laid → Type 0
+BeginsThen R Held read = Begins R read ⊎ ((behind : List Laid) × R read behind × Held behind)
+
+-- a name, whichever it is
+abbrev pub SomeName : Span
+SomeName xs ys = (n : List ℕ) × name n xs ys
+
+-- `I == INSTANCE`
+abbrev pub InstanceStart : Span
+InstanceStart = SomeName ⨟ sign symbols.Defined ⨟ some_token (kinds.Foreign foreign.Instance)
+
+-- `I == INSTANCE M WITH`
+abbrev pub InstanceHead : Span
+InstanceHead = InstanceStart ⨟ SomeName ⨟ some_token (kinds.Foreign foreign.With)
+
+-- a name that is none of those before, and `<-`
+abbrev pub GivingText : List (List ℕ) → List ℕ → Span
+GivingText before n xs ys = IsNoneOf before n × (name n ⨟ sign symbols.LeftArrow) xs ys
+
+abbrev pub SomeGiving : List (List ℕ) → Span
+SomeGiving before xs ys = (n : List ℕ) × GivingText before n xs ys
+
+-- a whole expression, each of its tokens inside at most 100
+pub record ShallowExpression (xs ys : List Laid) : Type 0 where
+  pub text : List Laid
+  pub whole : xs ≡ text ++ ys
+  pub tree : Tree
+  pub spelled : Spells tree text []
+  pub shallow : Shallow text
+
+-- what these names are given, behind what those before are given: `<-`, such an expression and a comma behind each
+abbrev pub ShallowGivens : List (List ℕ) → List (List ℕ) → Span
+ShallowGivens before [] = nothing
+ShallowGivens before (n ∷ ns) = GivingText before n ⨟ ShallowExpression ⨟ sign symbols.Comma ⨟ ShallowGivens (before ++ n ∷ []) ns
+
+-- some names with what they are given, and then one more name and `<-`
+abbrev pub SomeGivings : Span
+SomeGivings xs ys = (ns : List (List ℕ)) × (ShallowGivens [] ns ⨟ SomeGiving ns) xs ys
+
+-- what some names are given, and the beginning of one more: of a name and `<-`, or of the expression behind them
+abbrev pub ShallowWiths : List Laid → Type 0
+ShallowWiths read = (ns : List (List ℕ)) × (last : List Laid) × ShallowGivens [] ns read last × BeginsThen (SomeGiving ns) Shallow last
+
+-- `I == INSTANCE M WITH`, or the beginning of it, and then what names are given
+abbrev pub ShallowInstance : List Laid → Type 0
+ShallowInstance read = BeginsThen InstanceHead ShallowWiths read
+
 -- These tokens are a unit or the beginning of one, perhaps with no token, and each of them stands inside at most 100 unfinished constructs:
--- no expression is there, or it is so of a definition, or of what is assumed or stated.
+-- no expression is there, or it is so of a definition, of what is assumed or stated, or of what an instance is given.
 abbrev pub ShallowUnit : List Laid → Type 0
-ShallowUnit read = Begins BareUnit read ⊎ (ShallowDefinition read ⊎ ShallowStated read)
+ShallowUnit read = Begins BareUnit read ⊎ (ShallowDefinition read ⊎ (ShallowStated read ⊎ ShallowInstance read))
 
 -- a whole unit, each of its tokens inside at most 100
 pub record ShallowWholeUnit (xs ys : List Laid) : Type 0 where
@@ -138,14 +190,27 @@ pub record TooNestedStated (laid : List Laid) (p : Place) : Type 0 where
   pub stated : StatedText before
   pub deep : IsTooNested FittingBegun Shallow body p
 
--- behind whole units the token here is the first of a definition, or of what is assumed or stated, that stands inside too many
+-- behind such a part an expression begins, and the token here is the first of it that stands inside too many
+pub record TooNestedBehind (R : Span) (laid : List Laid) (p : Place) : Type 0 where
+  pub before : List Laid
+  pub body : List Laid
+  pub whole : laid ≡ before ++ body
+  pub part : R before []
+  pub deep : IsTooNested FittingBegun Shallow body p
+
+-- the same of an expression that a name of an instance's module is given, where those before it fit and none of their tokens is so
+abbrev pub TooNestedGiven : List Laid → Place → Type 0
+TooNestedGiven laid p = TooNestedBehind (InstanceHead ⨟ SomeGivings) laid p
+
+-- behind whole units the token here is the first of a definition, of what is assumed or stated, or of what an instance is given, that stands
+-- inside too many
 pub record TooNestedUnit (laid : List Laid) (p : Place) : Type 0 where
   pub before : List Laid
   pub body : List Laid
   pub whole : laid ≡ before ++ body
   pub units : WholeUnits before
   pub shallow : ShallowModule before
-  pub deep : IsTooNested FittingBegunDefinition ShallowDefinition body p ⊎ TooNestedStated body p
+  pub deep : IsTooNested FittingBegunDefinition ShallowDefinition body p ⊎ (TooNestedStated body p ⊎ TooNestedGiven body p)
 
 -- why the laid tokens are refused as a module
 abbrev pub IsRefusedModule : List Laid → ParseFault → Type 0

@@ -1,14 +1,16 @@
 -- The grammar of modules as a reader meets it, by the marks of its tokens and with no trees: what stands from one point of a module to
 -- another, and the rest of a module from a point on. Where `fit` is true, the operators of the expressions fit their ranges; where it is
 -- false, ranges play no part.
-use Rattle.std.specs.Prelude.{◌≡◌, ℕ, zero, suc, Bool, true, false, List, [], ◌∷◌, Option, Some}
+use Rattle.std.specs.Prelude.{◌≡◌, ℕ, zero, suc, Bool, true, false, List, [], ◌∷◌, ◌++◌, Option, Some}
 use Rattle.trace_base.specs.declared.place.Place.{Place}
 use Rattle.tla_ast.specs.declared.form.DefinitionForm.{DefinitionForm}
 use Rattle.tla_ast.specs.declared.laid.Laid.{Laid}
+use Rattle.tla_ast.specs.declared.module.With.{With}
 use Rattle.tla_ast.specs.Trees.{Tree}
 use Rattle.tla_ast.specs.Fits.{Fits}
 use Rattle.tla_tokens.specs.declared.token.Kind.TheVariants as kinds
-use Rattle.tla_ast.specs.Grammar.{Span, ◌⨟◌, nothing, never, either, some_token, Text}
+use Rattle.tla_ast.specs.Grammar.{Span, ◌⨟◌, nothing, never, either, some_token, name, Text}
+use Rattle.tla_ast.specs.Modules.{IsNoneOf}
 use Rattle.reader_model.specs.Beginnings.{DefinitionText}
 use Rattle.tla_units.specs.Marks.{mark_of}
 use Rattle.tla_units.specs.declared.marks.Mark.{Mark}
@@ -80,6 +82,48 @@ Definition fit xs ys = (n : List ℕ) × (at : Place) × (ns : List (List ℕ)) 
 abbrev pub Titled : Bool → Span
 Titled fit = either nothing Title ⨟ Expression fit
 
+-- ---- instances
+
+-- the names that are given
+abbrev pub names_of : List With → List (List ℕ)
+names_of [] = []
+names_of (w ∷ ws) = w.name ∷ names_of ws
+
+-- a name that is none of those given before, `<-` and an expression
+abbrev pub Given : Bool → List (List ℕ) → List ℕ → Span
+Given fit before n xs ys = IsNoneOf before n × (name n ⨟ Marked marks.Arrow ⨟ Expression fit) xs ys
+
+-- so many further ones, each with a comma before it
+abbrev pub MoreGiven : Bool → List (List ℕ) → ℕ → Span
+MoreGiven fit before zero = nothing
+MoreGiven fit before (suc k) = Marked marks.Comma ⨟ (λ xs ys. (n : List ℕ) × (Given fit before n ⨟ MoreGiven fit (before ++ n ∷ []) k) xs ys)
+
+abbrev pub SomeMoreGiven : Bool → List (List ℕ) → Span
+SomeMoreGiven fit before xs ys = (k : ℕ) × MoreGiven fit before k xs ys
+
+-- one or more, with commas between them
+abbrev pub AllGiven : Bool → List (List ℕ) → Span
+AllGiven fit before xs ys = (n : List ℕ) × (Given fit before n ⨟ SomeMoreGiven fit (before ++ n ∷ [])) xs ys
+
+-- WITH and what it gives, or nothing
+abbrev pub MaybeGiven : Bool → Span
+MaybeGiven fit = either nothing (Marked marks.With ⨟ AllGiven fit [])
+
+-- a name, `==` and INSTANCE
+abbrev pub InstanceBegins : Span
+InstanceBegins = Marked marks.Name ⨟ Marked marks.Defined ⨟ Marked marks.Instance
+
+-- no instance begins there
+abbrev pub NoInstance : List Laid → Type 0
+NoInstance xs = (ws : List Laid) → InstanceBegins xs ws → ⊥
+
+abbrev pub InstancePart : Bool → Span
+InstancePart fit = Marked marks.Name ⨟ Marked marks.Defined ⨟ Marked marks.Instance ⨟ Marked marks.Name ⨟ MaybeGiven fit
+
+-- what begins with a name
+abbrev pub NamePart : Bool → Span
+NamePart fit = either (Definition fit) (InstancePart fit)
+
 -- what stands behind the first token of a unit, by its mark
 abbrev pub Behind : Bool → Option Mark → Laid → Span
 Behind fit (Some marks.Variables) x = Listed
@@ -88,7 +132,7 @@ Behind fit (Some marks.Recursive) x = Operators
 Behind fit (Some marks.Assume) x = Titled fit
 Behind fit (Some marks.Theorem) x = Titled fit
 Behind fit (Some marks.Dashes) x = nothing
-Behind fit (Some marks.Name) x = λ xs ys. Definition fit (x ∷ xs) ys
+Behind fit (Some marks.Name) x = λ xs ys. NamePart fit (x ∷ xs) ys
 Behind fit _ x = never
 
 abbrev pub UnitPart : Bool → Span
@@ -132,6 +176,20 @@ OperatorsLeft = SomeOthersOf OneOperator ▹ Tail
 -- behind the places of its parameters
 abbrev pub Closing : Rest
 Closing = Marked marks.CloseParenthesis ▹ OperatorsLeft
+
+-- behind the name of an instance's module, behind WITH or a comma, and behind an expression that was given
+abbrev pub NamedLeft : Rest
+NamedLeft = Then MaybeGiven Tail
+
+abbrev pub GivenLeft : List (List ℕ) → Rest
+GivenLeft before = Then (λ fit. AllGiven fit before) Tail
+
+abbrev pub MoreLeft : List (List ℕ) → Rest
+MoreLeft before = Then (λ fit. SomeMoreGiven fit before) Tail
+
+-- behind a name that is given
+abbrev pub ArrowLeft : List (List ℕ) → List ℕ → Rest
+ArrowLeft before n = Marked marks.Arrow ▹ Then Expression (MoreLeft (before ++ n ∷ []))
 
 -- a whole module
 abbrev pub Whole : Rest

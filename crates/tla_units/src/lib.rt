@@ -2,6 +2,7 @@
 #![tactic(auto)]
 
 mod extends;
+mod instances;
 mod laid_ends;
 mod marks;
 mod module_laws;

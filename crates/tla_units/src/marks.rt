@@ -44,6 +44,12 @@ pub enum Mark {
     Assume,
     /// `THEOREM`, `LEMMA`, `PROPOSITION` or `COROLLARY`
     Theorem,
+    /// `INSTANCE`
+    Instance,
+    /// `WITH`
+    With,
+    /// `<-`
+    Arrow,
 }
 
 #[tactic(auto, unfolding(crate::specs::Marks::word_mark))]
@@ -72,6 +78,7 @@ fn symbol_mark(symbol: Symbol) -> Option<Mark>
         Symbol::OpenParenthesis => Some(Mark::OpenParenthesis),
         Symbol::CloseParenthesis => Some(Mark::CloseParenthesis),
         Symbol::Defined => Some(Mark::Defined),
+        Symbol::LeftArrow => Some(Mark::Arrow),
         _ => None,
     }
 }
@@ -84,6 +91,8 @@ fn foreign_mark(foreign: Foreign) -> Option<Mark>
     match foreign {
         Foreign::Recursive => Some(Mark::Recursive),
         Foreign::Underscore => Some(Mark::Underscore),
+        Foreign::Instance => Some(Mark::Instance),
+        Foreign::With => Some(Mark::With),
         _ => None,
     }
 }
@@ -208,6 +217,18 @@ pub fn close_parenthesis(laid: &[Laid], from: usize) -> Result<usize, ParseFault
     ensures refused { IfErr result (λ e. IsRefusedAt (drop from laid.now) e) }
 {
     expect(laid, from, Mark::CloseParenthesis)
+}
+
+/// Reads a `<-`.
+pub fn arrow(laid: &[Laid], from: usize) -> Result<usize, ParseFault>
+    requires ends { LaidEndsOnce laid.now }
+    requires inside { from < length laid.now }
+    ensures part { IfOk result (λ to. Part (sign symbols.LeftArrow) laid.now from to) }
+    ensures token { IfOk result (λ to. Marked marks.Arrow (drop from laid.now) (drop to laid.now)) }
+    ensures lacks { OnErr result (Lacks marks.Arrow (drop from laid.now)) }
+    ensures refused { IfErr result (λ e. IsRefusedAt (drop from laid.now) e) }
+{
+    expect(laid, from, Mark::Arrow)
 }
 
 /// Reads the End.

@@ -9,6 +9,8 @@ pub fn one_module()
     ensures { OneModule }
 {
     laws_of_trees();
+    laws_of_extents();
+    laws_of_refusals();
 }
 
 /// Where each token of a module stands inside few enough unfinished constructs, none is refused because it stands

@@ -6,9 +6,10 @@ ghost use Rattle.tla_units.specs.Marks.{first_mark};
 ghost use Rattle.tla_units.specs.Parts.{Part};
 ghost use Rattle.tla_units.specs.Reads.{Leads, Lacks, ReadsTitle, RefusedIn, DeepUnit, DeepUnits};
 ghost use Rattle.tla_units.specs.Refusals.{ShallowUnit, ShallowUnits, ShallowWholeUnit, ShallowWholeUnits};
-ghost use Rattle.tla_units.specs.Rests.{Marked, Last, Tail};
+ghost use Rattle.tla_units.specs.Rests.{Marked, NoInstance, Last, Tail};
 ghost use Rattle.tla_units.specs.declared.marks.Mark.TheVariants as marks;
 
+use crate::instances::{behind_instance, instance};
 use crate::marks::{Mark, mark_at};
 use crate::names::declared_names;
 use crate::operators::declared_operators;
@@ -80,8 +81,26 @@ fn recursive(alloc: Global, laid: &[Laid], from: usize) -> Result<(Unit, usize),
     Ok((Unit::Recursive(operators), next))
 }
 
-/// Reads a definition.
+/// Reads a definition, where no instance begins.
 fn defined(alloc: Global, laid: &[Laid], from: usize) -> Result<(Unit, usize), ParseFault>
+    requires ends { LaidEndsOnce laid.now }
+    requires inside { from < length laid.now }
+    requires token { first_mark (drop from laid.now) ≡ Some marks.Name }
+    requires apart { NoInstance (drop from laid.now) }
+    ensures part { IfOk result (λ r. Part (UnitText r.0) laid.now from r.1) }
+    ensures fits { IfOk result (λ r. UnitFits r.0) }
+    ensures far { IfOk result (λ r. Leads Tail Tail (drop from laid.now) (drop r.1 laid.now)) }
+    ensures shallow { IfOk result (λ r. ShallowWholeUnit (drop from laid.now) (drop r.1 laid.now)) }
+    ensures refused { IfErr result (λ e. RefusedIn Tail (DeepUnit (drop from laid.now)) ShallowUnit (drop from laid.now) e) }
+{
+    laws_of_extents();
+    laws_of_refusals();
+    let (definition, next) = definition(alloc, laid, from)?;
+    Ok((Unit::Define(definition), next))
+}
+
+/// Reads an instance, or else a definition.
+fn named(alloc: Global, laid: &[Laid], from: usize) -> Result<(Unit, usize), ParseFault>
     requires ends { LaidEndsOnce laid.now }
     requires inside { from < length laid.now }
     requires token { first_mark (drop from laid.now) ≡ Some marks.Name }
@@ -91,9 +110,10 @@ fn defined(alloc: Global, laid: &[Laid], from: usize) -> Result<(Unit, usize), P
     ensures shallow { IfOk result (λ r. ShallowWholeUnit (drop from laid.now) (drop r.1 laid.now)) }
     ensures refused { IfErr result (λ e. RefusedIn Tail (DeepUnit (drop from laid.now)) ShallowUnit (drop from laid.now) e) }
 {
-    laws_of_extents();
-    let (definition, next) = definition(alloc, laid, from)?;
-    Ok((Unit::Define(definition), next))
+    match behind_instance(laid, from) {
+        Some(behind) => instance(alloc, laid, from, behind),
+        None => defined(alloc, laid, from),
+    }
 }
 
 /// Reads what is assumed, behind its word and its name, if it has one.
@@ -148,7 +168,7 @@ fn unit(alloc: Global, laid: &[Laid], from: usize) -> Result<(Unit, usize), Pars
         Some(Mark::Variables) => variables(alloc, laid, from),
         Some(Mark::Constants) => constants(alloc, laid, from),
         Some(Mark::Recursive) => recursive(alloc, laid, from),
-        Some(Mark::Name) => defined(alloc, laid, from),
+        Some(Mark::Name) => named(alloc, laid, from),
         Some(Mark::Assume) => assumption(alloc, laid, from),
         Some(Mark::Theorem) => theorem(alloc, laid, from),
         Some(Mark::Dashes) => Ok((Unit::Passed, from + 1)),
@@ -160,6 +180,9 @@ fn unit(alloc: Global, laid: &[Laid], from: usize) -> Result<(Unit, usize), Pars
         Some(Mark::Defined) => Err(fault_at(laid, from)),
         Some(Mark::Heading) => Err(fault_at(laid, from)),
         Some(Mark::Extends) => Err(fault_at(laid, from)),
+        Some(Mark::Instance) => Err(fault_at(laid, from)),
+        Some(Mark::With) => Err(fault_at(laid, from)),
+        Some(Mark::Arrow) => Err(fault_at(laid, from)),
         None => Err(fault_at(laid, from)),
     }
 }

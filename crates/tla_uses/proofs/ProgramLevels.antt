@@ -19,7 +19,7 @@ use Rattle.tla_scopes.specs.Scopes.{among}
 use Rattle.tla_scopes.proofs.LevelLoops.{cut_at, cut_end}
 use Rattle.tla_program.specs.Entries.{variable_entries, constant_entries, definition_entries, standard_entries}
 use Rattle.tla_program.specs.InUnits.{variables_in, constants_in, definitions_in}
-use Rattle.tla_program.specs.Names.{AreNames, by_index, constant_index, constant_means, declared_meaning, definition_index, definition_means, first_of, meant_or, replacement, standard_means, value_at, variable_index, variable_means}
+use Rattle.tla_program.specs.Names.{AreNames, by_index, constant_index, constant_means, declared_meaning, definition_index, definition_means, first_of, meant_or, replacement, standard_means, value_at, variable_means, variable_named}
 use Rattle.tla_program.specs.Recursion.{AreLevelsOf, AreTold, IsAbove, meant_rises, named_rises}
 use Rattle.tla_program.specs.Standard.{brought}
 use Rattle.tla_program.proofs.NameLemmas.{are_names, by_index_is}
@@ -59,7 +59,7 @@ variables_rise bs p c vs ws n (Some i) rest = refl
 
 rises_with_other_values : (bs : List Bool) (p : Program) (c : Config) (vs ws : List Val) (n : List ℕ) → named_rises bs (declared_meaning p c vs n) ≡ named_rises bs (declared_meaning p c ws n)
 rises_with_other_values bs p c vs ws n =
-    variables_rise bs p c vs ws n (variable_index p n) (first_of (definition_means p c n (definition_index p n)) (standard_means p c n (among (brought p.standard) n)))
+    variables_rise bs p c vs ws n (variable_named p n) (first_of (definition_means p c n (definition_index p n)) (standard_means p c n (among (brought p.standard) n)))
 
 pub are_told : (p : Program) (c : Config) (values : List Val) (names : List Entry) → AreNames p c values by_index names → AreTold p c (told_names names)
 are_told p c values names are bs n =

@@ -168,6 +168,7 @@ index_same i j q = grind (arith, nat_tests)
 
 form_function : (f : DefinitionForm) → is_function f ≡ true → f ≡ forms.Function
 form_function forms.Operator q = absurd (cc)
+form_function forms.Constant q = absurd (cc)
 form_function forms.Function q = refl
 
 application : (d : Definition) (n : List ℕ) → AppliesItself d n → applies_itself d n ≡ true

@@ -14,6 +14,7 @@ use Rattle.tla_uses.specs.UsedNames.{number_in}
 abbrev pub is_function : DefinitionForm → Bool
 is_function forms.Operator = false
 is_function forms.Function = true
+is_function forms.Constant = false
 
 -- the name is that of a function that only applies it in its own body
 abbrev pub applies_itself : Definition → List ℕ → Bool

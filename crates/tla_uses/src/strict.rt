@@ -89,7 +89,7 @@ fn applies_itself(definition: &Definition, name: &Text) -> bool
     ensures { result ≡ applies_itself definition.now name.now }
 {
     match definition.form {
-        DefinitionForm::Operator => false,
+        DefinitionForm::Operator | DefinitionForm::Constant => false,
         DefinitionForm::Function => {
             if *name == definition.name {
                 return applies(name, &definition.body);

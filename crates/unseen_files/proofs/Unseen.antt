@@ -4,14 +4,17 @@ use Rattle.trace_base.specs.Device.{File, IsLonger, IsWhole, Lacks, found}
 use Rattle.trace_base.specs.declared.reading.ReadFault.{ReadFault}
 use Rattle.trace_base.specs.declared.reading.ReadFault.TheVariants.{Failed, Missing, NoMemory, TooLong}
 use Rattle.tla_ast.specs.declared.config.Config.{Config}
+use Rattle.tla_ast.specs.declared.module.Made.{Made}
 use Rattle.tla_ast.specs.declared.module.Module.{Module}
 use Rattle.tla_ast.specs.declared.module.Program.{Program}
+use Rattle.tla_ast.specs.declared.module.Unit.{Unit as ModuleUnit}
+use Rattle.tla_ast.specs.declared.module.WholeProgram.{WholeProgram}
 use Rattle.tla_core.specs.declared.state.Shown.{Shown}
 use Rattle.tla_modules.specs.declared.fault.LoadWhy.{LoadWhy}
 use Rattle.tla_modules.specs.declared.fault.LoadWhy.TheVariants.{Read}
 use Rattle.tla_modules.specs.declared.notes.Noted.{Noted}
 use Rattle.tla_modules.specs.declared.so_far.Gathered.{Gathered}
-use Rattle.tla_modules.specs.Flattened.{Follows, FlattenedBy, Meets, OutcomeOf, Visits, all_met, closes_cycle, is_listed, is_refused, is_visited, is_whole, nothing_read, one_too_many, stopped, stopped_below, was_read, went_on, with_module}
+use Rattle.tla_modules.specs.Flattened.{Follows, FlattenedBy, Makes, MakesAll, Meets, OutcomeOf, Visits, all_made, all_met, begun_of_instance, closes_cycle, has_program, is_listed, is_made, is_nested, is_refused, is_visited, is_whole, makes_none, not_made, nothing_read, number_of, one_too_many, passed_over, stopped, stopped_below, stopped_in_instance, stopped_inside, was_read, went_on, with_module, with_name}
 use Rattle.tla_modules.specs.Loads.{IsProgramBy}
 use Rattle.tla_modules.specs.Paths.{IsPath, file_of}
 use Rattle.tla_modules.specs.Readings.{Reading}
@@ -86,7 +89,7 @@ module _ (A B W : List File) (pick : (X : List File → Type 0) → X A → X B 
       -- the file of a module that is visited is asked for
       visited : (path : List (List ℕ)) (so : Gathered N) (name : List ℕ) → ((e : Error) → Visits reading (Some W) folder path so name (Err e) → Ends e) → Same (file_of folder name)
       visited path so name up =
-          same (file_of folder name) (so.modules ++ name ∷ []) (up (so.modules ++ name ∷ [], Read (file_of folder name) Failed) (is_refused path so name (Read (file_of folder name) Failed) (not_read Failed tt)))
+          same (file_of folder name) (with_name so.modules name) (up (with_name so.modules name, Read (file_of folder name) Failed) (is_refused path so name (Read (file_of folder name) Failed) (not_read Failed tt)))
 
       mutual
         meets_so : (path : List (List ℕ)) (so : Gathered N) (name : List ℕ) (o : OutcomeOf N) → ((e : Error) → Meets reading (Some W) folder path so name (Err e) → Ends e)
@@ -109,20 +112,60 @@ module _ (A B W : List File) (pick : (X : List File → Type 0) → X A → X B 
 
         visits_so : (path : List (List ℕ)) (so : Gathered N) (name : List ℕ) (o : OutcomeOf N) → ((e : Error) → Visits reading (Some W) folder path so name (Err e) → Ends e)
             → Visits reading (Some A) folder path so name o → Visits reading (Some B) folder path so name o
-        visits_so _ _ _ _ up (is_refused path so name why r) = is_refused path so name why (refuses_so (length so.modules) name why (visited path so name up) r)
-        visits_so _ _ _ _ up (stopped_below path so name m notes d is f) =
-            let there : IsModule reading (Some B) folder (length so.modules) name m notes = module_so (length so.modules) name m notes (visited path so name up) is in
-            let beside : IsModule reading (Some W) folder (length so.modules) name m notes = pick (λ h. IsModule reading (Some h) folder (length so.modules) name m notes) is there in
-            stopped_below path so name m notes d there (follows_so (path ++ name ∷ []) (with_module so name) m.extends (Err d) (λ e w. up e (stopped_below path so name m notes e beside w)) f)
-        visits_so _ _ _ _ up (is_whole path so below name m notes is f) =
-            let there : IsModule reading (Some B) folder (length so.modules) name m notes = module_so (length so.modules) name m notes (visited path so name up) is in
-            let beside : IsModule reading (Some W) folder (length so.modules) name m notes = pick (λ h. IsModule reading (Some h) folder (length so.modules) name m notes) is there in
-            is_whole path so below name m notes there (follows_so (path ++ name ∷ []) (with_module so name) m.extends (Ok below) (λ e w. up e (stopped_below path so name m notes e beside w)) f)
+        visits_so _ _ _ _ up (is_refused path so name why r) = is_refused path so name why (refuses_so (number_of name so.modules) name why (visited path so name up) r)
+        visits_so _ _ _ _ up (is_nested path so name m notes made is asked inside first) =
+            is_nested path so name m notes made (module_so (number_of name so.modules) name m notes (visited path so name up) is) asked inside first
+        visits_so _ _ _ _ up (stopped_below path so name m notes d is allowed f) =
+            let n : ℕ = number_of name so.modules in
+            let there : IsModule reading (Some B) folder n name m notes = module_so n name m notes (visited path so name up) is in
+            let beside : IsModule reading (Some W) folder n name m notes = pick (λ h. IsModule reading (Some h) folder n name m notes) is there in
+            stopped_below path so name m notes d there allowed
+            (follows_so (path ++ name ∷ []) (with_module so name) m.extends (Err d) (λ e w. up e (stopped_below path so name m notes e beside allowed w)) f)
+        visits_so _ _ _ _ up (stopped_in_instance path so below name m notes d is allowed f g) =
+            let n : ℕ = number_of name so.modules in
+            let inner : List (List ℕ) = path ++ name ∷ [] in
+            let there : IsModule reading (Some B) folder n name m notes = module_so n name m notes (visited path so name up) is in
+            let beside : IsModule reading (Some W) folder n name m notes = pick (λ h. IsModule reading (Some h) folder n name m notes) is there in
+            let under : Follows reading (Some B) folder inner (with_module so name) m.extends (Ok below) =
+            follows_so inner (with_module so name) m.extends (Ok below) (λ e w. up e (stopped_below path so name m notes e beside allowed w)) f in
+            let under_both : Follows reading (Some W) folder inner (with_module so name) m.extends (Ok below) =
+            pick (λ h. Follows reading (Some h) folder inner (with_module so name) m.extends (Ok below)) f under in
+            stopped_in_instance path so below name m notes d there allowed under
+            (all_so inner below m.units (Err d) (λ e w. up e (stopped_in_instance path so below name m notes e beside allowed under_both w)) g)
+        visits_so _ _ _ _ up (is_whole path so below all name m notes is allowed f g) =
+            let n : ℕ = number_of name so.modules in
+            let inner : List (List ℕ) = path ++ name ∷ [] in
+            let there : IsModule reading (Some B) folder n name m notes = module_so n name m notes (visited path so name up) is in
+            let beside : IsModule reading (Some W) folder n name m notes = pick (λ h. IsModule reading (Some h) folder n name m notes) is there in
+            let under : Follows reading (Some B) folder inner (with_module so name) m.extends (Ok below) =
+            follows_so inner (with_module so name) m.extends (Ok below) (λ e w. up e (stopped_below path so name m notes e beside allowed w)) f in
+            let under_both : Follows reading (Some W) folder inner (with_module so name) m.extends (Ok below) =
+            pick (λ h. Follows reading (Some h) folder inner (with_module so name) m.extends (Ok below)) f under in
+            is_whole path so below all name m notes there allowed under
+            (all_so inner below m.units (Ok all) (λ e w. up e (stopped_in_instance path so below name m notes e beside allowed under_both w)) g)
+
+        all_so : (path : List (List ℕ)) (so : Gathered N) (units : List ModuleUnit) (o : OutcomeOf N) → ((e : Error) → MakesAll reading (Some W) folder path so units (Err e) → Ends e)
+            → MakesAll reading (Some A) folder path so units o → MakesAll reading (Some B) folder path so units o
+        all_so _ _ _ _ up (all_made path so) = all_made path so
+        all_so _ _ _ _ up (makes_none path so u us o none g) = makes_none path so u us o none (all_so path so us o (λ e w. up e (makes_none path so u us (Err e) none w)) g)
+        all_so _ _ _ _ up (not_made path so u us made d is m) = not_made path so u us made d is (makes_so path so made (Err d) (λ e w. up e (not_made path so u us made e is w)) m)
+        all_so _ _ _ _ up (is_made path so next u us made o is m g) =
+            let there : Makes reading (Some B) folder path so made (Ok next) = makes_so path so made (Ok next) (λ e w. up e (not_made path so u us made e is w)) m in
+            let beside : Makes reading (Some W) folder path so made (Ok next) = pick (λ h. Makes reading (Some h) folder path so made (Ok next)) m there in
+            is_made path so next u us made o is there (all_so path next us o (λ e w. up e (is_made path so next u us made (Err e) is beside w)) g)
+
+        makes_so : (path : List (List ℕ)) (so : Gathered N) (made : Made) (o : OutcomeOf N) → ((e : Error) → Makes reading (Some W) folder path so made (Err e) → Ends e)
+            → Makes reading (Some A) folder path so made o → Makes reading (Some B) folder path so made o
+        makes_so _ _ _ _ up (passed_over path so made t) = passed_over path so made t
+        makes_so _ _ _ _ up (stopped_inside path so made d t m) =
+            stopped_inside path so made d t (meets_so path (begun_of_instance so.modules) made.module_name (Err d) (λ e w. up e (stopped_inside path so made e t w)) m)
+        makes_so _ _ _ _ up (has_program path so inner made t m) =
+            has_program path so inner made t (meets_so path (begun_of_instance so.modules) made.module_name (Ok inner) (λ e w. up e (stopped_inside path so made e t w)) m)
 
       flattened_so : (o : OutcomeOf N) → FlattenedBy reading (Some A) folder main o → FlattenedBy reading (Some B) folder main o
       flattened_so o h = visits_so [] nothing_read main o (λ e w. w) h
 
-      program_so : (p : Program) (notes : List (Noted N)) → IsProgramBy reading (Some A) folder main p notes → IsProgramBy reading (Some B) folder main p notes
+      program_so : (p : WholeProgram) (notes : List (Noted N)) → IsProgramBy reading (Some A) folder main p notes → IsProgramBy reading (Some B) folder main p notes
       program_so p notes h = record { all = h.all; flattened = flattened_so (Ok h.all) h.flattened; program = h.program; noted = h.noted; names = h.names }
 
   -- ---- all that a job reads
@@ -143,7 +186,7 @@ module _ (A B W : List File) (pick : (X : List File → Type 0) → X A → X B 
     reaches_so _ (reads_configuration p unread name text c before some has reads) =
         let there : Reaches (Some B) job (loaded p unread) = reaches_so (loaded p unread) before in
         reads_configuration p unread name text c there some (has_so name config_limit text (next_same (loaded p unread) name config_limit before there (config_next p unread name some)) has) reads
-    reaches_so _ (passes p q unread c d before is) = passes p q unread c d (reaches_so _ before) is
+    reaches_so _ (passes w p q unread c d before expands is) = passes w p q unread c d (reaches_so _ before) expands is
     reaches_so _ (resolves p c s before is) = resolves p c s (reaches_so _ before) is
     reaches_so _ (has_forms p c s before whole) = has_forms p c s (reaches_so _ before) whole
     reaches_so _ (reads_log p c s read name names text f before log says) =
@@ -171,7 +214,8 @@ module _ (A B W : List File) (pick : (X : List File → Type 0) → X A → X B 
     rejects_so _ _ reaches (refusal.in_the_configuration p unread name text kind at some has reads) =
         let sees : Same name = next_same (loaded p unread) name config_limit reaches (reaches_so (loaded p unread) reaches) (config_next p unread name some) in
         refusal.in_the_configuration p unread name text kind at some (has_so name config_limit text sees has) reads
-    rejects_so _ _ reaches (refusal.in_a_piece p unread c index root wide needs) = refusal.in_a_piece p unread c index root wide needs
+    rejects_so _ _ reaches (refusal.in_an_instance w unread c fault is) = refusal.in_an_instance w unread c fault is
+    rejects_so _ _ reaches (refusal.in_a_piece w p unread c index root expands wide needs) = refusal.in_a_piece w p unread c index root expands wide needs
     rejects_so _ _ reaches (refusal.in_names p c fault is) = refusal.in_names p c fault is
     rejects_so _ _ reaches (refusal.in_forms p c s fault is) = refusal.in_forms p c s fault is
     rejects_so _ _ reaches (refusal.in_a_log p c s read name names text why log says) =

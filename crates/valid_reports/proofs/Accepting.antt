@@ -5,6 +5,7 @@ use Rattle.std.proofs.lemmas.List.Elements.{All-nil}
 use Rattle.trace_base.specs.Device.{File}
 use Rattle.tla_ast.specs.declared.config.Config.{Config}
 use Rattle.tla_ast.specs.declared.module.Program.{Program}
+use Rattle.tla_ast.specs.declared.module.WholeProgram.{WholeProgram}
 use Rattle.tla_modules.specs.declared.notes.Noted.{Noted}
 use Rattle.wide_modules.specs.declared.unread.Unread.{Unread}
 use Rattle.tla_terms.specs.declared.spec.Spec.{Spec}
@@ -33,14 +34,14 @@ pub record LinesKnown : Type 0 where
   pub read : UncheckedAreLines
   pub passed : PassedAreLines
 
-given_lines : (holds : Option (List File)) (job : Job) (p : Program) (unread : List (Noted Unread)) (c : Config) → LinesKnown → Reaches holds job (given p unread c)
+given_lines : (holds : Option (List File)) (job : Job) (p : WholeProgram) (unread : List (Noted Unread)) (c : Config) → LinesKnown → Reaches holds job (given p unread c)
     → All HasNoFeed c.unchecked
 given_lines holds job _ _ _ law (needs_no_configuration p unread reaches none) = All-nil HasNoFeed
-given_lines holds job _ _ _ law (reads_configuration p unread name text c reaches some has reads) = law.read job.wide (length p.files) name text c reads
+given_lines holds job _ _ _ law (reads_configuration p unread name text c reaches some has reads) = law.read job.wide (length p.program.files) name text c reads
 
 configured_lines : (holds : Option (List File)) (job : Job) (p : Program) (c : Config) → LinesKnown → Reaches holds job (configured p c) → All HasNoFeed c.unchecked
-configured_lines holds job _ _ law (passes p q unread c d reaches is) =
-    law.passed job.wide p q c d job.silent unread is (given_lines holds job p unread c law reaches)
+configured_lines holds job _ _ law (passes w p q unread c d reaches expands is) =
+    law.passed job.wide p q c d job.silent unread is (given_lines holds job w unread c law reaches)
 
 -- a specification leaves unchecked what its configuration does
 same_unchecked : (p : Program) (c : Config) (silent : Option (List ℕ)) (s : Spec) → Resolved p c silent (Ok s) → s.unchecked ≡ c.unchecked

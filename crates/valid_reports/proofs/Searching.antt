@@ -33,7 +33,7 @@ module _ (limit : ℕ) (why near : Option ℕ) where
   reaches_so holds job _ (needs_no_configuration p unread before none) = needs_no_configuration p unread (reaches_so holds job _ before) none
   reaches_so holds job _ (reads_configuration p unread name text c before some has reads) =
       reads_configuration p unread name text c (reaches_so holds job _ before) some has reads
-  reaches_so holds job _ (passes p q unread c d before is) = passes p q unread c d (reaches_so holds job _ before) is
+  reaches_so holds job _ (passes w p q unread c d before expands is) = passes w p q unread c d (reaches_so holds job _ before) expands is
   reaches_so holds job _ (resolves p c s before is) = resolves p c s (reaches_so holds job _ before) is
   reaches_so holds job _ (has_forms p c s before whole) = has_forms p c s (reaches_so holds job _ before) whole
   reaches_so holds job _ (reads_log p c s read name names text f before log says) = reads_log p c s read name names text f (reaches_so holds job _ before) log says

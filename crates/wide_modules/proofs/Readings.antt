@@ -5,7 +5,7 @@ use Rattle.tla_ast.specs.declared.module.Module.{Module}
 use Rattle.tla_ast.specs.Laid.{NeverBoth, OneLaid}
 use Rattle.tla_ast.specs.Modules.{SpellsModule}
 use Rattle.tla_modules.specs.declared.fault.LoadWhy.{LoadWhy}
-use Rattle.tla_modules.specs.declared.fault.LoadWhy.TheVariants.{Read, Lex, Lay, Parse, Cycle, TooMany, Twice, WrongName}
+use Rattle.tla_modules.specs.declared.fault.LoadWhy.TheVariants.{Read, Lex, Lay, Parse, Cycle, TooMany, Twice, WrongName, Nested}
 use Rattle.tla_units.specs.LawsOfModules.{OneModule, ShallowNotRefused}
 use Rattle.tla_units.specs.Refusals.{ShallowWholeModule}
 use Rattle.one_program.proofs.Texts.{refused_never}
@@ -22,6 +22,7 @@ read_never one never deep tokens m (Cycle names) h r = r
 read_never one never deep tokens m (TooMany name) h r = r
 read_never one never deep tokens m (Twice name later earlier) h r = r
 read_never one never deep tokens m (WrongName name at) h r = r
+read_never one never deep tokens m (Nested name at) h r = r
 
 pub read_same : OneLaid → OneModule → (tokens : List Token) (m n : Module) → ReadAs tokens m → ReadAs tokens n → m ≡ n
 read_same laid one tokens m n h g =

@@ -7,7 +7,7 @@ use Rattle.tla_tokens.specs.declared.token.Token.{Token}
 use Rattle.tla_tokens.specs.Tokens.{OneOutcome, Tokens}
 use Rattle.tla_ast.specs.declared.module.Module.{Module}
 use Rattle.tla_modules.specs.declared.fault.LoadWhy.{LoadWhy}
-use Rattle.tla_modules.specs.declared.fault.LoadWhy.TheVariants.{Read, Lex, Lay, Parse, Cycle, TooMany, Twice, WrongName}
+use Rattle.tla_modules.specs.declared.fault.LoadWhy.TheVariants.{Read, Lex, Lay, Parse, Cycle, TooMany, Twice, WrongName, Nested}
 use Rattle.tla_modules.specs.Refusals.{Misspells, SpelledBy}
 use Rattle.one_program.proofs.Refused.{IsOk}
 use Rattle.one_program.proofs.Spelling.{ok_same}
@@ -29,6 +29,7 @@ misspelled_by number bytes tokens (Cycle names) t r = absurd r
 misspelled_by number bytes tokens (TooMany name) t r = absurd r
 misspelled_by number bytes tokens (Twice name later earlier) t r = absurd r
 misspelled_by number bytes tokens (WrongName name at) t r = absurd r
+misspelled_by number bytes tokens (Nested name at) t r = absurd r
 
 pub no_parts : OneOutcome → (number : ℕ) (bytes : List ℕ) (tokens : List Token) (why : LoadWhy) → Misspells number bytes why → Tokens true number bytes (Ok tokens) → HasNoPieces tokens
     → MisspelledWide number bytes why

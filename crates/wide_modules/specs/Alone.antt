@@ -12,7 +12,7 @@ use Rattle.tla_ast.specs.Laid.{IsLaid, IsLeftOfList}
 use Rattle.tla_ast.specs.Modules.{SpellsModule}
 use Rattle.tla_units.specs.Refusals.{ShallowWholeModule}
 use Rattle.tla_modules.specs.declared.fault.LoadWhy.{LoadWhy}
-use Rattle.tla_modules.specs.declared.fault.LoadWhy.TheVariants.{Read, Lex, Lay, Parse, Cycle, TooMany, Twice, WrongName}
+use Rattle.tla_modules.specs.declared.fault.LoadWhy.TheVariants.{Read, Lex, Lay, Parse, Cycle, TooMany, Twice, WrongName, Nested}
 use Rattle.tla_modules.specs.Refusals.{IsUnparsed}
 
 -- the tokens, with their junction lists marked, spell this module, and none of them stands too deep
@@ -32,6 +32,7 @@ RefusedFor tokens (Cycle names) = ⊥
 RefusedFor tokens (TooMany name) = ⊥
 RefusedFor tokens (Twice name later earlier) = ⊥
 RefusedFor tokens (WrongName name at) = ⊥
+RefusedFor tokens (Nested name at) = ⊥
 
 -- equals signs at a place, and the End at another
 abbrev pub ending : Place → Place → List Token

@@ -31,7 +31,7 @@ pub record MisspelledWide (number : ℕ) (bytes : List ℕ) (why : LoadWhy) : Ty
 
 -- with it: what is unread is noted
 abbrev pub wide : Reading Unread
-wide = record { Spells = SpelledWide; Misspells = MisspelledWide; of_text = λ number bytes file fault h. h.misspelled }
+wide = record { Spells = SpelledWide; Misspells = MisspelledWide; of_text = λ number bytes file fault h. h.misspelled; refuses_nested = false }
 
 -- without it: a text is read as a whole, and nothing is unread
 abbrev pub plain : Reading Unread
@@ -39,6 +39,7 @@ plain = record {
   Spells = λ number bytes m unread. SpelledBy number bytes m × (unread ≡ []);
   Misspells = Misspells;
   of_text = λ number bytes file fault h. h;
+  refuses_nested = true;
 }
 
 abbrev pub reading_by : Bool → Reading Unread

@@ -37,6 +37,13 @@ impl ModuleReader for TextReader {
             notes: Vec::new(alloc),
         })
     }
+
+    fn refuses_nested(&self) -> bool {
+        if self.wide {
+            return false;
+        }
+        true
+    }
 }
 
 /// Reads the module of that path and those that it extends, with the word `--wide` or without it. What is not read of them is noted.

@@ -127,7 +127,7 @@ fn pieces_are_read(rt: HostRuntime) -> Result<(), Fail> {
     let rows = [
         (STEPS, "4 []"),
         (LEAVES, "5 [] [] [] []"),
-        (FOREIGN, "7 [N,F] [K] [Each] [Some] [I] []"),
+        (FOREIGN, "8 [N,F] [K] [Each] [Some] []"),
         (UNFINISHED, "3 [Init] [Last]"),
         (NO_COMMA, "P1 Expected"),
         (NESTED, "P4 OutOfProfile"),
@@ -156,7 +156,7 @@ fn files(alloc: Global) -> Result<Vec<(Text, Vec<u8>)>, AllocError>
 }
 
 fn told_of_all(alloc: Global, loaded: &Loaded<Unread>) -> Result<String, AllocError> {
-    let mut told = format!(in alloc; "{}", loaded.program.units.len())?;
+    let mut told = format!(in alloc; "{}", loaded.program.program.units.len())?;
     for noted in loaded.notes.items() {
         let file = format!(in alloc; " {}", noted.file)?;
         told.push_str(file.as_str())?;

@@ -16,7 +16,7 @@ use Rattle.tla_scopes.specs.declared.meant.Named.{Named}
 use Rattle.tla_scopes.specs.Mentions.{is_one_of, mentions}
 use Rattle.tla_scopes.specs.Scopes.{among, named}
 use Rattle.tla_program.specs.InUnits.{definitions_in}
-use Rattle.tla_program.specs.Names.{AreNames, by_index, constant_index, constant_means, declared_meaning, definition_index, definition_means, definition_meant, first_of, program_meaning, standard_means, variable_index, variable_means}
+use Rattle.tla_program.specs.Names.{AreNames, by_index, constant_index, constant_means, declared_meaning, definition_index, definition_means, definition_meant, first_of, program_meaning, standard_means, variable_means, variable_named}
 use Rattle.tla_program.specs.Standard.{brought}
 use Rattle.tla_program.specs.Uses.{MeansDefinition, UsesDefinition}
 use Rattle.tla_program.proofs.NameLemmas.{by_index_is}
@@ -42,7 +42,7 @@ none_of_variables p c vs ws n (Some i) rest h = absurd (cc)
 none_with_other_values : (p : Program) (c : Config) (vs ws : List Val) (n : List ℕ) → program_meaning p c vs by_index n ≡ None → program_meaning p c ws by_index n ≡ None
 none_with_other_values p c vs ws n h =
     by_index_is (declared_meaning p c ws n)
-    ∙ none_of_variables p c vs ws n (variable_index p n) (first_of (definition_means p c n (definition_index p n)) (standard_means p c n (among (brought p.standard) n)))
+    ∙ none_of_variables p c vs ws n (variable_named p n) (first_of (definition_means p c n (definition_index p n)) (standard_means p c n (among (brought p.standard) n)))
     (sym (by_index_is (declared_meaning p c vs n)) ∙ h)
 
 is_none_is : {A : Type 0} (o : Option A) → is_none o ≡ true → o ≡ None

@@ -22,7 +22,7 @@ use Rattle.tla_scopes.specs.Mentions.{is_one_of, mentions}
 use Rattle.tla_scopes.specs.Scopes.{among, named}
 use Rattle.tla_scopes.specs.Standing.{IsIn}
 use Rattle.tla_program.specs.InUnits.{constants_in, definitions_in, variables_in}
-use Rattle.tla_program.specs.Names.{constant_index, constant_means, declared_meaning, definition_index, definition_means, definition_meant, first_of, fitting, fitting_index, given_for, index_among, meant_or, names_declared, names_defined, params_at, put_for, replacement, standard_means, value_at, variable_index, variable_means}
+use Rattle.tla_program.specs.Names.{constant_index, constant_means, declared_meaning, definition_index, definition_means, definition_meant, first_of, fitting, fitting_index, given_for, index_among, meant_or, names_declared, names_defined, params_at, put_for, replacement, standard_means, value_at, variable_among, variable_means, variable_named}
 use Rattle.tla_program.specs.Standard.{StandardName, brought, brought_from, entry, is_brought, replaceable, standard_names}
 use Rattle.tla_program.specs.Uses.{UsesDefinition}
 use Rattle.tla_program.proofs.NameLemmas.{by_index_is}
@@ -266,10 +266,10 @@ module _ (p : Program) (c : Config) (n : List ℕ) where
   from_declared None (Some k) o own standard s h = replaced_sense 0 (meant.Known (value_at [] k))
   from_declared None None o own standard s h = from_definition o own standard s h
 
-  pub sense_is : sense p c n ≡ sense_from (variable_index p n) (constant_index p n) (own_in ds n) (among (brought p.standard) n) put n
+  pub sense_is : sense p c n ≡ sense_from (variable_named p n) (constant_index p n) (own_in ds n) (among (brought p.standard) n) put n
   sense_is =
       ap (sense_of ds) (by_index_is (declared_meaning p c [] n))
-      ∙ from_declared (variable_index p n) (constant_index p n) (definition_index p n) (own_in ds n) (among (brought p.standard) n) (own_stands ds n)
+      ∙ from_declared (variable_named p n) (constant_index p n) (definition_index p n) (own_in ds n) (among (brought p.standard) n) (own_stands ds n)
       (λ w e. brought_plain p.standard standard_names all_plain n w e)
 
 -- the same from the same
@@ -350,7 +350,7 @@ module _ (p : Program) (c : Config) (silent : Option (List ℕ)) (unread : List 
   module _ (i : ℕ) (d : Definition) (n : List ℕ) (needed : IsNeeded p c roots i) (stands : slice_get (definitions_in p.units) i ≡ Some d) (mentioned : mentions n d.body ≡ true)
       (no_parameter : is_one_of n d.params ≡ false) where
     -- it uses its own definition, where nothing stands in its place
-    uses_own : (j : ℕ) → variable_index p n ≡ None → constant_index p n ≡ None → definition_index p n ≡ Some j
+    uses_own : (j : ℕ) → variable_named p n ≡ None → constant_index p n ≡ None → definition_index p n ≡ Some j
         → ((k : ℕ) → replacement p c n k ≡ None) → UsesDefinition p c i j
     uses_own j v k e none =
         let args = params_at (slice_get (definitions_in p.units) j) in
@@ -368,7 +368,7 @@ module _ (p : Program) (c : Config) (silent : Option (List ℕ)) (unread : List 
           means = (args, by_index_is (declared_meaning p c [] n) ∙ meaning);
         }
 
-    own_is_needed : (g : Option Given) → given_for c.givens n ≡ g → (j : ℕ) → variable_index p n ≡ None → constant_index p n ≡ None → definition_index p n ≡ Some j → IsNeeded p c roots j
+    own_is_needed : (g : Option Given) → given_for c.givens n ≡ g → (j : ℕ) → variable_named p n ≡ None → constant_index p n ≡ None → definition_index p n ≡ Some j → IsNeeded p c roots j
     own_is_needed None g j v k e = is_used i j needed (uses_own j v k e (λ args. ap (λ h. put_for (definitions_in p.units) args h) g))
     own_is_needed (Some (Constant l)) g j v k e = is_used i j needed (uses_own j v k e (λ args. ap (λ h. put_for (definitions_in p.units) args h) g))
     own_is_needed (Some (Replaced m at)) g j v k e = is_root n j (is_asked n (given_roots c.givens n m at g).0) e
@@ -376,10 +376,10 @@ module _ (p : Program) (c : Config) (silent : Option (List ℕ)) (unread : List 
     same_sense : sense q c n ≡ sense p c n
     same_sense =
         sense_is q c n
-        ∙ ap (λ (ds : List Declared). sense_from (index_among (names_declared ds) n) (constant_index q n) (own_in (definitions_in q.units) n) (among (brought q.standard) n) (put q c n) n) variables_same
-        ∙ ap (λ (ds : List Declared). sense_from (variable_index p n) (index_among (names_declared ds) n) (own_in (definitions_in q.units) n) (among (brought q.standard) n) (put q c n) n) constants_same
-        ∙ ap (λ (ms : List (List ℕ)). sense_from (variable_index p n) (constant_index p n) (own_in (definitions_in q.units) n) (among (brought ms) n) (put q c n) n) without.standard
-        ∙ from_same (variable_index p n) (constant_index p n) (own_in (definitions_in q.units) n) (own_in (definitions_in p.units) n) (among (brought p.standard) n) (put q c n) (put p c n) n
+        ∙ ap (λ (ds : List Declared). sense_from (variable_among ds n) (constant_index q n) (own_in (definitions_in q.units) n) (among (brought q.standard) n) (put q c n) n) variables_same
+        ∙ ap (λ (ds : List Declared). sense_from (variable_named p n) (index_among (names_declared ds) n) (own_in (definitions_in q.units) n) (among (brought q.standard) n) (put q c n) n) constants_same
+        ∙ ap (λ (ms : List (List ℕ)). sense_from (variable_named p n) (constant_index p n) (own_in (definitions_in q.units) n) (among (brought ms) n) (put q c n) n) without.standard
+        ∙ from_same (variable_named p n) (constant_index p n) (own_in (definitions_in q.units) n) (own_in (definitions_in p.units) n) (among (brought p.standard) n) (put q c n) (put p c n) n
         (put_same n) (λ v k. own_needed n (λ j e. own_is_needed (given_for c.givens n) refl j v k e))
         ∙ sym (sense_is p c n)
 

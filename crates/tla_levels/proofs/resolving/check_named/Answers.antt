@@ -15,3 +15,6 @@ returns-in_err-check_levels-clause-refused c =
 pub returns-clause-refused : goal.returns-clause-refused
 returns-clause-refused c =
     refuses_operator c.args.program.now c.args.config.now (option_map (λ (n : Bor Text). n.now) c.args.silent) c.requires.named.0 (numbers_of c.args.named.now.table.numbers.items) c.args.named.now.table.operators (terms_list c.args.named.now.assumes) c.check_operators.result c.requires.named.1 c.in_ok-check_levels.ensures.givens c.in_ok-check_levels.ensures.levels c.check_operators.ensures.refused
+
+pub check_levels-requires-clause-ordered : goal.check_levels-requires-clause-ordered
+check_levels-requires-clause-ordered c = c.requires.named.1.table.smaller

@@ -5,4 +5,4 @@ use Rattle.tla_levels.proofs.unit_levels.body_fault.Goals as goal
 
 pub returns-in-Some : goal.returns-in-Some
 returns-in-Some c =
-    noted (numbers_of c.args.table.now.numbers.items) c.args.table.now.operators c.args.notes.now c.args.index c.in-Some.number (sym c.number_at.ensures ∙ c.in-Some.is) c.requires.noted c.requires.all c.noted_fault.result c.noted_fault.ensures
+    noted (numbers_of c.args.table.now.numbers.items) c.args.table.now.operators c.args.form c.args.index c.in-Some.number c.numbered_fault.result (sym c.number_at.ensures ∙ c.in-Some.is) c.numbered_fault.ensures

@@ -50,6 +50,21 @@ returns-in-Some-Extends-clause-refused c =
     let q : Some marks.Extends ≡ first_mark (drop c.args.from c.args.laid.now) = search rules in
     other_refused (DeepUnit (drop c.args.from c.args.laid.now)) (drop c.args.from c.args.laid.now) _ (Some marks.Extends) q (λ b. b) c.fault_at-in-Some-Extends.ensures
 
+pub returns-in-Some-Instance-clause-refused : goal.returns-in-Some-Instance-clause-refused
+returns-in-Some-Instance-clause-refused c =
+    let q : Some marks.Instance ≡ first_mark (drop c.args.from c.args.laid.now) = search rules in
+    other_refused (DeepUnit (drop c.args.from c.args.laid.now)) (drop c.args.from c.args.laid.now) _ (Some marks.Instance) q (λ b. b) c.fault_at-in-Some-Instance.ensures
+
+pub returns-in-Some-With-clause-refused : goal.returns-in-Some-With-clause-refused
+returns-in-Some-With-clause-refused c =
+    let q : Some marks.With ≡ first_mark (drop c.args.from c.args.laid.now) = search rules in
+    other_refused (DeepUnit (drop c.args.from c.args.laid.now)) (drop c.args.from c.args.laid.now) _ (Some marks.With) q (λ b. b) c.fault_at-in-Some-With.ensures
+
+pub returns-in-Some-Arrow-clause-refused : goal.returns-in-Some-Arrow-clause-refused
+returns-in-Some-Arrow-clause-refused c =
+    let q : Some marks.Arrow ≡ first_mark (drop c.args.from c.args.laid.now) = search rules in
+    other_refused (DeepUnit (drop c.args.from c.args.laid.now)) (drop c.args.from c.args.laid.now) _ (Some marks.Arrow) q (λ b. b) c.fault_at-in-Some-Arrow.ensures
+
 pub returns-in-None-clause-refused : goal.returns-in-None-clause-refused
 returns-in-None-clause-refused c =
     let q : None ≡ first_mark (drop c.args.from c.args.laid.now) = search rules in

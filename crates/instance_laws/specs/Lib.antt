@@ -1,0 +1,4 @@
+pub mod Programs
+pub mod Rows
+pub mod Standing
+pub mod Trees

@@ -1,0 +1,3 @@
+pub mod Alikeness
+pub mod Laws
+pub mod Seen

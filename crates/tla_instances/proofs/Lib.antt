@@ -1,0 +1,4 @@
+pub mod Adding
+pub mod Items
+pub mod Keeping
+pub mod Rewriting

@@ -1,0 +1,4 @@
+pub mod Instances
+pub mod Made
+pub mod Renamed
+pub mod Rows
