@@ -69,7 +69,9 @@ PASSED_OVER = [
     row("one inside it", "I == INSTANCE Other\n", told(), Other="---- MODULE Other ----\nJ == INSTANCE Lacking\n" + END),
     passed("an instance with parameters", "I(y) == INSTANCE Other\n", f"DEFINITION I {at(6)}"),
     row("a name that an instance lacks", "I == INSTANCE Other\nD == I!Spec\n", told(f"DEFINITION D {at(7)}"), Other="---- MODULE Other ----\n" + END),
-    passed("LOCAL", "LOCAL D == 1\n", f"DEFINITION D {at(6)}"),
+    passed("LOCAL and what is not read", f"LOCAL D == {BAD}\n", f"DEFINITION D {at(6)}"),
+    passed("LOCAL and an operator for a symbol", "LOCAL a ++ b == 1\n", f"DEFINITION a {at(6)}"),
+    passed("LOCAL alone", "LOCAL\nASSUME 1 = 1\n", f"DEFINITION {at(6)}"),
     passed("a local instance", "LOCAL INSTANCE Other\n", f"DEFINITION {at(6)}"),
     passed("RECURSIVE that is not read, and the definition of its name", "RECURSIVE D(y)\nD(n) == n\n", f"DEFINITION D {at(7)}"),
     passed("RECURSIVE of a definition that is not read", f"RECURSIVE D(_)\nD(n) == IF n = 0 THEN D(n - 1) ELSE {BAD}\n", f"DEFINITION D {at(7)}"),
@@ -104,7 +106,8 @@ NEEDED = [
     row("beside one that is not needed", f"E == I!N\nD == {BAD}\n", refused(f"{EE} {at(7, 6)}", "Next"), base=NEXT_OF_D),
     row("a variable", "VARIABLES y(_)\n", refused(f"P1 Expected {at(6, 12)}", "Next"), base=BASE.replace("x + 1", "x + 1 /\\ y' = y")),
     row("a constant that is an operator", "CONSTANT D(_)\n", refused(f"P1 Expected {at(6, 11)}", "Next"), base=BASE.replace("x + 1", "D(x)")),
-    row("LOCAL", "LOCAL D == 1\n", refused(f"P4 OutOfProfile LOCAL {at(6)}", "Next"), base=NEXT_OF_D),
+    row("LOCAL", f"LOCAL D == {BAD}\n", refused(f"{EE} {at(6, 12)}", "Next"), base=NEXT_OF_D),
+    row("LOCAL and an operator for a symbol", "LOCAL a ++ b == 1\n", refused(f"P4 OutOfProfile ++ {at(6, 9)}", "Next"), base=BASE.replace("x + 1", "x + a")),
     row("RECURSIVE", "RECURSIVE D(y)\nD(n) == 1\n", refused(f"P1 Expected {at(6, 13)}", "Next"), base=BASE.replace("x + 1", "D(x)")),
     row("what RECURSIVE declares", f"RECURSIVE D(_)\nD(n) == IF n = 0 THEN 1 ELSE D({BAD})\n", refused(f"{EE} {at(7, 32)}", "Next"), base=BASE.replace("x + 1", "D(x)")),
     row("an instance of a module that is not there", "I == INSTANCE Other\n", (3, "REFUSED Missing Other.tla\n")),
@@ -138,6 +141,38 @@ EXTENDED = [
     row("an assumption", "", told(f"ASSUME {at(6, file='Base')}"), base=ABOVE, Base=BELOW + f"ASSUME {BAD}\n" + END),
     row("what the heading names is missing", f"E == {BAD}\n", (3, "REFUSED Missing Base.tla\n"), base=ABOVE),
     row("a cycle", f"E == {BAD}\n", (3, "REFUSED M5 Cycle Counter Base Counter\n"), base=ABOVE, Base=BELOW.replace("Integers", "Integers, Counter") + END),
+]
+
+NEXT_OF_LEN = BASE.replace("x + 1", "x + Len(<<7>>)")
+# LOCAL before a definition is left away.
+LOCAL = [
+    row("a definition", "LOCAL D == 1\n", told(), base=NEXT_OF_D),
+    row("one with a parameter", "LOCAL D(a) == a\n", told(), base=BASE.replace("x + 1", "x + D(1)")),
+    row("a function", "LOCAL D[i \\in 0 .. 3] == i + 1\n", told(), base=BASE.replace("x + 1", "D[x]")),
+    row("what RECURSIVE declares", "RECURSIVE D(_)\nLOCAL D(n) == IF n = 0 THEN 1 ELSE D(n - 1)\n", told(), base=BASE.replace("x + 1", "x + D(2)")),
+    row("an instance with a name", "LOCAL I == INSTANCE Other\n", told(), base=BASE.replace("x + 1", "I!D(x)"), Other="---- MODULE Other ----\nEXTENDS Integers\nD(n) == n + 1\n" + END),
+    row("one that no step needs", "LOCAL D == 1\nE == D\n", told()),
+    row("what it uses can not be read", f"LOCAL D == E\nE == {BAD}\n", refused(f"{EE} {at(7, 6)}", "Next"), base=NEXT_OF_D),
+    row("an event", "LOCAL Grown == x' = x + 1 /\\ x' > x\n", told(), log='{"event":"Grown"}\n'),
+    row("its name twice", "LOCAL D == 1\nD == 2\n", refused(f"M7 Twice D {at(7)} and Counter.tla:6:7")),
+    row("its name again in a module above", "D == 2\n", refused(f"M7 Twice D {at(4)} and Base.tla:5:7"), base=ABOVE, Base=BELOW.replace("D == 1", "LOCAL D == 1") + END),
+]
+# An instance without a name of a standard module or one of the library is as if the module stood under EXTENDS.
+BROUGHT = [
+    row("an instance", "INSTANCE Sequences\n", told(), base=NEXT_OF_LEN),
+    row("a local one", "LOCAL INSTANCE Sequences\n", told(), base=NEXT_OF_LEN),
+    row("of no module under EXTENDS", "", told(), base=BASE.replace("EXTENDS", "INSTANCE").replace("x = 0", "x = 0 /\\ x \\in Int")),
+    row("two of them", "LOCAL INSTANCE FiniteSets\nD == Cardinality({1})\nLOCAL INSTANCE Sequences\n", told(), base=NEXT_OF_D.replace("x = 0", "x = Len(<<>>)")),
+    row("of one that EXTENDS has too", "LOCAL INSTANCE Integers\n", told()),
+    row("the same twice", "LOCAL INSTANCE Sequences\nINSTANCE Sequences\n", told(), base=NEXT_OF_LEN),
+    row("in a module that is extended", "", told(), base=ABOVE.replace("x + D", "x + Len(<<D>>)"), Base=BELOW + "LOCAL INSTANCE Sequences\n" + END),
+    row("beside what can not be read", f"LOCAL INSTANCE Sequences\nD == {BAD}\n", told(f"DEFINITION D {at(7)}"), base=NEXT_OF_LEN),
+    row("a name of it again", "LOCAL INSTANCE Sequences\nLen(s) == 1\n", refused(f"M7 Twice Len {at(7)} and standard")),
+    row("with what stands for its names", "LOCAL INSTANCE Sequences WITH y <- x\n", refused(f"V1 UnknownName Len {at(5, 18)}"), base=NEXT_OF_LEN),
+    row("of a user's file with the name of one of the library", "LOCAL INSTANCE FiniteSetsExt\n", told(), base=NEXT_OF_D, FiniteSetsExt="---- MODULE FiniteSetsExt ----\nD == 1\n" + END),
+    row("of a module of the user's", "INSTANCE Other\n", told(f"INSTANCE {at(6)}"), Other="---- MODULE Other ----\nVARIABLE x\nD == 1\n" + END),
+    row("a local one of such a module", "LOCAL INSTANCE Other\n", told(f"DEFINITION {at(6)}"), Other="---- MODULE Other ----\nVARIABLE x\nD == 1\n" + END),
+    row("of such a module, which a step needs", "INSTANCE Other\n", refused(f"V1 UnknownName D {at(5, 18)}"), base=BASE.replace("x + 1", "x + D"), Other="---- MODULE Other ----\nD == 1\n" + END),
 ]
 
 GROWS = "Grown == x' = x + 1 /\\ x' > x\n"
@@ -203,12 +238,90 @@ STRICT_FIRST = [
     row("the same, and a piece", f"USE == 1\nD == {BAD}\n", refused(f"P1 Expected {at(5, 18)}", "Next"), base=BASE.replace("x + 1", "x + USE")),
 ]
 
+# Calls of TLC's operators for assertions and for printing.
+TLC = BASE.replace("Integers", "Integers, TLC")
+
+
+def next_is(action):
+    return TLC.replace("x' = x + 1", action)
+
+
+def faults(line, column, state='{"x":0}'):
+    return 4, f'FAULT E11 NoCase {at(line, column)} after=0 silent=0\n{{"state":{state},"step":"fault"}}\n'
+
+
+# As the translator writes an algorithm with `assert` and `print`.
+TRANSLATED = """---- MODULE Counter ----
+EXTENDS Integers, TLC
+(* --algorithm Counter
+variables x = 0;
+begin
+  A: assert x < LIMIT;
+     print <<"x", x>>;
+     x := x + 1;
+end algorithm *)
+\\* BEGIN TRANSLATION
+VARIABLES x, pc
+vars == << x, pc >>
+Init == (* Global variables *)
+        /\\ x = 0
+        /\\ pc = "A"
+A == /\\ pc = "A"
+     /\\ Assert(x < LIMIT, "Failure of assertion at line 6, column 6.")
+     /\\ PrintT(<<"x", x>>)
+     /\\ x' = x + 1
+     /\\ pc' = "Done"
+Next == A \\/ (pc = "Done" /\\ UNCHANGED vars)
+Spec == Init /\\ [][Next]_vars
+\\* END TRANSLATION
+"""
+TOLD_ALGORITHM = (
+    0,
+    'EXPLAINED lines=1 widest=1\n{"state":{"pc":"A","x":0},"step":"init"}\n{"file":1,"line":1,"state":{"pc":"Done","x":1},"step":"line"}\n',
+)
+
+TLC_CALLS = [
+    row("Assert that holds", "", told(), base=next_is('Assert(x >= 0, "no") /\\ x\' = x + 1')),
+    row("Assert that does not", "", faults(5, 9), base=next_is('Assert(x > 0, "no") /\\ x\' = x + 1')),
+    row("behind what it speaks of", "", told(), base=next_is('x\' = x + 1 /\\ Assert(x\' > x, "no")')),
+    row("PrintT", "", told(), base=next_is('PrintT("x") /\\ x\' = x + 1')),
+    row("Print", "", told(), base=next_is("x' = Print(x, x + 1)")),
+    row("TLCEval", "", told(), base=next_is("x' = TLCEval(x) + 1")),
+    row("TLCEval of an action", "", told(), base=next_is("TLCEval(x' = x + 1)")),
+    row("one in another", "", told(), base=next_is("x' = TLCEval(Print(PrintT(x), TLCEval(x + 1)))")),
+    row("in an operator", 'Grows(n) == Assert(n > 0, "no") /\\ x\' = x + n\n', told(), base=next_is("Grows(1)")),
+    row("in an assumption", 'ASSUME PrintT("begun")\nASSUME Assert(1 = 1, "no")\n', told(), base=TLC),
+    row("in an assumption that does not hold", 'ASSUME Assert(1 = 2, "no")\n', (4, f"ASSUME FAULT E11 NoCase {at(6, 8)}\n"), base=TLC),
+    row("in what no step needs, which is left", 'D == PrintT("x")\n', told(), base=TLC),
+    row("beside what can not be read", f"D == {BAD}\n", told(f"DEFINITION D {at(6)}"), base=next_is('Assert(x >= 0, "no") /\\ x\' = x + 1')),
+    row("of what can not be read", f"D == {BAD}\n", refused(f"{EE} {at(6, 6)}", "Next"), base=next_is('Assert(D, "no") /\\ x\' = x + 1')),
+    row("what is printed is dropped", f"D == {BAD}\n", told(f"DEFINITION D {at(6)}"), base=next_is("PrintT(D) /\\ x' = x + 1")),
+    row("without TLC", "", refused(f"V1 UnknownName Assert {at(5, 9)}"), base=next_is('Assert(TRUE, "no") /\\ x\' = x + 1').replace(", TLC", "")),
+    row("with another number of arguments", "", refused(f"V1 UnknownName Assert {at(5, 9)}"), base=next_is("Assert(TRUE) /\\ x' = x + 1")),
+    row("an operator of its own", f"Assert(a, b) == b = 1\nD == {BAD}\n", told(f"DEFINITION D {at(7)}"), base=next_is("Assert(FALSE, 1) /\\ x' = x + 1")),
+    row("one of its own that is not read", f"Assert(a, b) == {BAD}\n", refused(f"{EE} {at(6, 17)}", "Next"), base=next_is("Assert(TRUE, 1) /\\ x' = x + 1")),
+    row("one of a LET", f"D == {BAD}\n", told(f"DEFINITION D {at(6)}"), base=next_is("LET Assert(a, b) == b = 1 IN Assert(FALSE, 1) /\\ x' = x + 1")),
+    row("a bound name", f"D == {BAD}\n", told(f"DEFINITION D {at(6)}"), base=next_is("\\E PrintT \\in {1} : x' = x + PrintT")),
+    row("another of a LET, behind it", "", faults(5, 60), base=next_is('(LET Assert(a, b) == b = 1 IN Assert(FALSE, 1)) /\\ Assert(FALSE, 1) /\\ x\' = x + 1')),
+    row("a parameter of its name", "F(PrintT, n) == n + PrintT\n", told(), base=next_is("PrintT(x) /\\ x' = F(1, x)")),
+    row("in a module that is extended", "", told(), base="---- MODULE Counter ----\nEXTENDS Base\nNext == x' = x + 1 /\\ D\n", Base=BELOW.replace("Integers", "Integers, TLC").replace("D == 1", "D == PrintT(x)") + END),
+    row("in the module of an instance, where the name means nothing", "I == INSTANCE Other WITH y <- x\n", told(f"DEFINITION I!D {at(4, file='Other')}"), base=TLC,
+        Other="---- MODULE Other ----\nEXTENDS TLC\nVARIABLE y\nD == PrintT(y)\n" + END),
+    row("what the configuration puts in its place", "Held(a, b) == TRUE\n", refused(f"V1 UnknownName Assert {at(5, 9)}"),
+        base=next_is('Assert(FALSE, "no") /\\ x\' = x + 1'), A="INIT Init\nNEXT Next\nCONSTANT Assert <- Held\n"),
+    row("an algorithm whose assertion holds", "", TOLD_ALGORITHM, base=TRANSLATED.replace("LIMIT", "3")),
+    row("an algorithm whose assertion fails", "", faults(17, 9, '{"pc":"A","x":0}'), base=TRANSLATED.replace("LIMIT", "0")),
+]
+
 ROWS = {
     "passed over": PASSED_OVER,
     "needed": NEEDED,
     "extended": EXTENDED,
+    "local": LOCAL,
+    "brought": BROUGHT,
     "pruned": PRUNED,
     "alone": ALONE,
     "as ever": AS_EVER,
     "strict first": STRICT_FIRST,
+    "TLC's calls": TLC_CALLS,
 }

@@ -19,7 +19,7 @@ use Rattle.log_files.proofs.PlaceLemmas.{mapped, some_is}
 use Rattle.tied_logs.specs.Lines.{HaveOwnPlaces, StandsIn}
 use Rattle.tied_logs.specs.declared.logs.Lined.{Lined}
 use Rattle.tied_logs.specs.declared.logs.Lined.TheVariants.{Sequence, Tied}
-use Rattle.lined_specs.specs.Beside.{AreTellable}
+use Rattle.steps_lined.specs.Beside.{AreTellable}
 use Rattle.spec_names.specs.Names.{names_of}
 use Rattle.run_words.specs.declared.job.Job.{Job}
 use Rattle.run_reading.specs.Texts.{LogsRead, are_several, steps_left}

@@ -5,7 +5,7 @@ use Rattle.tla_ast.specs.declared.config.Config.{Config}
 use Rattle.tla_ast.specs.declared.module.Program.{Program}
 use Rattle.tla_terms.specs.declared.spec.Spec.{Spec}
 use Rattle.tied_logs.specs.declared.logs.Lined.{Lined}
-use Rattle.lined_specs.specs.Beside.{AreTellable}
+use Rattle.steps_lined.specs.Beside.{AreTellable}
 use Rattle.run_words.specs.declared.job.Job.{Job}
 use Rattle.run_reading.specs.Reaches.{AllRead}
 

@@ -20,14 +20,14 @@ use Rattle.tied_logs.specs.declared.logs.Lined.TheVariants.{Sequence, Tied}
 use Rattle.tied_steps.specs.Laws.{RunsOverOrders}
 use Rattle.tied_steps.specs.Tied.{tied_system}
 use Rattle.ready_specs.specs.Ready.{IsReadySpec}
-use Rattle.lined_specs.specs.Answers.{IsTrueOf}
-use Rattle.lined_specs.specs.Beside.{IsReadyOver}
+use Rattle.steps_lined.specs.Answers.{IsTrueOf}
+use Rattle.steps_lined.specs.Beside.{IsReadyOver}
 use Rattle.state_files.specs.Files.{StateFileSays}
 use Rattle.state_layers.specs.declared.answer.Answer.TheVariants.{Explained}
 use Rattle.run_texts.specs.Answers.{answer_text}
 use Rattle.state_file_laws.specs.Laws.{AreNames, ExplainedReadsBack, IsMark, IsShown}
-use Rattle.lined_verdicts.specs.Laws.{ExplainedAreStates, ExplainedIsJudgedValid}
-use Rattle.held_readings.specs.Held.{ArePlaced, IsPlaced}
+use Rattle.judge_verdicts.specs.LinedLaws.{ExplainedAreStates, ExplainedIsJudgedValid}
+use Rattle.steps_lined.specs.Held.{ArePlaced, IsPlaced}
 use Rattle.printed_laws.specs.Laws.{PrintedIsValid}
 
 all_at : {X : Type 0} (P : X → Type 0) (xs : List X) (n : ℕ) (x : X) → All P xs → slice_get xs n ≡ Some x → P x

@@ -9,9 +9,9 @@ use Rattle.state_files.specs.Files.{StateFileSays}
 use Rattle.state_file_laws.specs.Laws.{IsOneLine}
 use Rattle.state_verdicts.specs.declared.verdict.Verdict.TheVariants.{Valid}
 use Rattle.run_texts.specs.Answers.{Named, answer_text}
-use Rattle.lined_specs.specs.Answers.{IsTrueOf}
-use Rattle.lined_verdicts.specs.Verdicts.{IsJudgedOf}
-use Rattle.held_readings.specs.Held.{ArePlaced}
+use Rattle.steps_lined.specs.Answers.{IsTrueOf}
+use Rattle.judge_verdicts.specs.Lined.{IsJudgedOf}
+use Rattle.steps_lined.specs.Held.{ArePlaced}
 
 -- what a report names is that of the specification, its names are texts, no line feed stands in what is not checked, and the lines have their places
 pub record IsPrinted (l : Named) (g : Spec) (lined : Lined) : Type 0 where

@@ -1,8 +1,8 @@
 ghost use Rattle.printed_laws.specs.Laws.{PrintedIsValid};
 ghost use Rattle.line_steps.specs.Logs.{Asked};
-ghost use Rattle.lined_specs.specs.Beside.{IsReadyOver};
+ghost use Rattle.steps_lined.specs.Beside.{IsReadyOver};
 
-use lined_verdicts::lined_laws;
+use judge_verdicts::lined_laws;
 use state_file_laws::printed_law;
 use tied_logs::Lined;
 use tied_steps::tied_laws;

@@ -9,12 +9,12 @@ use Rattle.line_steps.specs.Logs.{Asked, system}
 use Rattle.tied_logs.specs.declared.logs.Lined.{Lined}
 use Rattle.tied_logs.specs.declared.logs.Lined.TheVariants.{Sequence, Tied}
 use Rattle.tied_steps.specs.Tied.{tied_system}
-use Rattle.lined_specs.specs.Answers.{IsTrueOf}
+use Rattle.steps_lined.specs.Answers.{IsTrueOf}
 use Rattle.state_layers.specs.Answers.{IsAnswer, fault}
 use Rattle.state_layers.specs.declared.answer.Answer.{Answer}
 use Rattle.state_layers.specs.declared.answer.Answer.TheVariants.{AssumeFalse, AssumeFault, Explained, Fault, InitFault, LayerLimit, NoInitial, NotExplained, TotalLimit}
-use Rattle.alike_lined.specs.Beside.{AreBesideLined}
-use Rattle.alike_lined.specs.Laws.{LinedAnswersAlike}
+use Rattle.twice_logs.specs.LinedBeside.{AreBesideLined}
+use Rattle.twice_logs.specs.Lined.{LinedAnswersAlike}
 use Rattle.run_words.specs.declared.job.Job.{Job}
 use Rattle.run_words.specs.declared.job.Words.TheVariants.{Check, SelfRun, Validate}
 use Rattle.run_words.specs.Words.{AreWords, OneCommand}
@@ -23,8 +23,8 @@ use Rattle.trace_cli.specs.Calls.{Answers, Calls, asked_by, is_answered, is_refu
 use Rattle.trace_cli.specs.Run.{HasFailed, HoldsReport, Runs, checks, in_no_form, tests_itself, validates}
 use Rattle.trace_cli.specs.declared.call.Status.{Status}
 use Rattle.trace_cli.specs.declared.call.Status.TheVariants as status
-use Rattle.one_reading.specs.Laws.{AreSame, ReadingIsOne}
-use Rattle.not_refused.specs.Laws.{ReadNotRefused}
+use Rattle.twice_readings.specs.Readings.{AreSame, ReadingIsOne}
+use Rattle.twice_readings.specs.NotRefused.{ReadNotRefused}
 use Rattle.run_laws.specs.Ends.{Ends}
 use Rattle.run_laws.specs.Decided.{EndsDecided, IsDecided, IsUnhindered, IsUnhinderedOf, RunsDecide, is_decided, wants_memory}
 use Rattle.run_laws.proofs.Following.{job_is, no_check, no_test}

@@ -9,7 +9,7 @@ use Rattle.tla_terms.specs.declared.spec.Spec.{Spec}
 use Rattle.tied_logs.specs.declared.logs.Lined.{Lined}
 use Rattle.tied_logs.specs.declared.logs.Lined.TheVariants.{Sequence, Tied}
 use Rattle.line_steps.specs.Logs.{Asked}
-use Rattle.lined_specs.specs.Answers.{IsTrueOf}
+use Rattle.steps_lined.specs.Answers.{IsTrueOf}
 use Rattle.state_layers.specs.declared.answer.Answer.{Answer}
 use Rattle.state_layers.specs.declared.answer.Answer.TheVariants.{AssumeFalse, AssumeFault, Explained, Fault, InitFault, LayerLimit, NoInitial, NotExplained, TotalLimit}
 use Rattle.state_verdicts.specs.declared.verdict.Verdict.TheVariants as verdict
@@ -22,14 +22,14 @@ use Rattle.run_reading.specs.Given.{states_limit}
 use Rattle.run_reading.specs.Reaches.{AllRead}
 use Rattle.run_reading.specs.Refusals.{is_missing}
 use Rattle.run_reading.specs.Texts.{HasText}
-use Rattle.held_readings.specs.Held.{IsHeldSo}
+use Rattle.steps_lined.specs.Held.{IsHeldSo}
 use Rattle.trace_cli.specs.Calls.{Answers, Calls, CallsGiven, IsReportOf, asked_by, is_answered, is_refused, named_in, status_of}
 use Rattle.trace_cli.specs.Run.{AsksFor, HasFailed, HoldsReport, Runs, checks, in_no_form, tests_itself, validates}
 use Rattle.trace_cli.specs.declared.call.Status.{Status}
 use Rattle.trace_cli.specs.declared.call.Status.TheVariants as status
-use Rattle.valid_reports.specs.Laws.{searching}
-use Rattle.answered_valid.specs.Laws.{CheckIsValid}
-use Rattle.not_refused.specs.Laws.{ReadNotRefused}
+use Rattle.twice_checks.specs.Printed.{searching}
+use Rattle.twice_checks.specs.Answered.{CheckIsValid}
+use Rattle.twice_readings.specs.NotRefused.{ReadNotRefused}
 use Rattle.unseen_files.specs.Laws.{ReadUnseen}
 use Rattle.run_laws.specs.Ends.{Ends}
 use Rattle.run_laws.specs.AfterExplained.{AreWith, ChecksAfter, ChecksValid, EndsValid, IsFree, TellsExplained, has_failed, is_valid, wants_memory}

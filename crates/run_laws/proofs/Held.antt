@@ -15,7 +15,7 @@ use Rattle.tied_logs.specs.declared.logs.Lined.{Lined}
 use Rattle.tied_steps.specs.Laws.{RunsOverOrders}
 use Rattle.action_truth_laws.specs.Laws.{FaultsStay}
 use Rattle.form_growth.specs.Laws.{FormsStay}
-use Rattle.lined_verdicts.proofs.Judging.{explained_states, explained_valid, have_one}
+use Rattle.judge_verdicts.proofs.LinedJudging.{explained_states, explained_valid, have_one}
 use Rattle.state_files.specs.Laws.{StateFileSaysOne}
 use Rattle.state_file_laws.specs.Laws.{ExplainedReadsBack}
 use Rattle.printed_laws.proofs.Printing.{printed_valid, spec_of}
@@ -24,16 +24,16 @@ use Rattle.run_reading.specs.Reaches.{AllRead, Reaches, configured, given, has_f
 use Rattle.run_reading.specs.Texts.{LogsRead}
 use Rattle.unchecked_laws.specs.Laws.{HasNoFeed, UncheckedAreLines}
 use Rattle.wide_reading.specs.Laws.{PassedAreLines}
-use Rattle.held_readings.specs.Held.{IsHeldSo}
+use Rattle.steps_lined.specs.Held.{IsHeldSo}
 use Rattle.trace_cli.specs.Calls.{asked_by, named_in}
-use Rattle.valid_reports.specs.Laws.{PrintsValid}
-use Rattle.alike_lined.specs.Laws.{LinedAnswersAlike, LinedVerdictsAlike}
-use Rattle.one_reading.specs.Laws.{ReadingIsOne}
+use Rattle.twice_checks.specs.Printed.{PrintsValid}
+use Rattle.twice_logs.specs.Lined.{LinedAnswersAlike, LinedVerdictsAlike}
+use Rattle.twice_readings.specs.Readings.{ReadingIsOne}
 use Rattle.own_place_laws.specs.Laws.{ReadAreTellable}
 use Rattle.assumed_laws.specs.Laws.{AssumedAreNotUnassumed}
-use Rattle.not_refused.specs.Laws.{GivenNotRefused}
-use Rattle.answered_valid.specs.Laws.{CheckIsValid}
-use Rattle.answered_valid.proofs.Answering as answering
+use Rattle.twice_readings.specs.NotRefused.{GivenNotRefused}
+use Rattle.twice_checks.specs.Answered.{CheckIsValid}
+use Rattle.twice_checks.proofs.Answering as answering
 use Rattle.run_laws.specs.AfterExplained.{ChecksAfter}
 use Rattle.run_laws.proofs.Following.{Known, checks_after}
 

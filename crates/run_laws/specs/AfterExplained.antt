@@ -14,7 +14,7 @@ use Rattle.run_reading.specs.Given.{states_limit}
 use Rattle.trace_cli.specs.Run.{IsWanted}
 use Rattle.trace_cli.specs.declared.call.Status.{Status}
 use Rattle.trace_cli.specs.declared.call.Status.TheVariants.{Done, Device, Memory}
-use Rattle.valid_reports.specs.Laws.{searching}
+use Rattle.twice_checks.specs.Printed.{searching}
 use Rattle.run_laws.specs.Ends.{Ends}
 
 -- The files hold this text under the name, in place of what they held under it before, if anything; of every other name they tell the same.

@@ -2,16 +2,15 @@ ghost use Rattle.run_laws.specs.AfterExplained.{ChecksAfter, OneMoreIsKept};
 ghost use Rattle.run_laws.specs.Decided.{RunsDecide};
 
 use action_truth_laws::fault_law;
-use alike_lined::alike_lined_laws;
 use assumed_laws::assumed_law;
 use form_growth::staying_laws;
-use not_refused::not_refused_laws;
-use one_reading::reading_laws;
 use own_place_laws::own_place_law;
 use run_words::one_command;
 use state_file_laws::printed_law;
 use state_files::state_laws;
 use tied_steps::tied_laws;
+use twice_logs::alike_lined_laws;
+use twice_readings::{not_refused_laws, reading_laws};
 use unchecked_laws::unchecked_law;
 use unseen_files::unseen_law;
 use wide_reading::passing_laws;

@@ -19,7 +19,7 @@ use Rattle.log_cuts.specs.Cuts.{total}
 use Rattle.log_cuts.specs.Orders.{Order, by_clock, by_vectors, sizes, sizes_of}
 use Rattle.tied_logs.specs.declared.logs.Lined.{Lined}
 use Rattle.tied_logs.specs.declared.logs.Lined.TheVariants.{Sequence, Tied}
-use Rattle.lined_specs.specs.Beside.{lines_of}
+use Rattle.steps_lined.specs.Beside.{lines_of}
 use Rattle.log_files.specs.Lined.{IsLinedOf}
 use Rattle.log_files.specs.Logs.{AreFew, NoneFalls, StandsAt, are_vectors, clocks_in, numbers_in, vectors_in}
 use Rattle.log_files.proofs.KeptFiles as kept

@@ -26,7 +26,7 @@ use Rattle.tied_logs.specs.declared.logs.Lined.{Lined}
 use Rattle.tied_logs.specs.declared.logs.Lined.TheVariants.{Sequence, Tied}
 use Rattle.log_files.specs.Lined.{AreMadeSo}
 use Rattle.ready_specs.specs.Ready.{IsReadySpec}
-use Rattle.lined_specs.specs.Beside.{IsReadyOver}
+use Rattle.steps_lined.specs.Beside.{IsReadyOver}
 use Rattle.ready_lines.specs.Laws.{FilesAreReady, IsReadyFile, IsReadyLined}
 use Rattle.run_words.specs.declared.job.Job.{Job}
 use Rattle.run_reading.specs.Texts.{LogsRead, are_several, steps_left}

@@ -1,6 +1,6 @@
 ghost use Rattle.std.specs.Prelude.{◌≡◌, ◌≤◌, All, Err, IfErr, IfOk, Ok, length};
 ghost use Rattle.line_steps.specs.Says.{IsState};
-ghost use Rattle.lined_specs.specs.Beside.{IsReadyOver, lines_of};
+ghost use Rattle.steps_lined.specs.Beside.{IsReadyOver, lines_of};
 ghost use Rattle.state_files.specs.Files.{StateFileSays};
 ghost use Rattle.state_files.specs.declared.refusal.StateRefusal.{StateRefusal};
 ghost use Rattle.run_words.specs.Words.{JobMeets};

@@ -1,6 +1,6 @@
 ghost use Rattle.std.specs.Prelude.{◌≡◌, ◌≤◌, ◌∷◌, ℕ, List, IfOk, IfErr, length};
 ghost use Rattle.log_files.specs.Lined.{AreMadeSo};
-ghost use Rattle.lined_specs.specs.Beside.{lines_of};
+ghost use Rattle.steps_lined.specs.Beside.{lines_of};
 ghost use Rattle.spec_laws.specs.IsSpec.{IsSpec};
 ghost use Rattle.spec_names.specs.Names.{names_of};
 ghost use Rattle.run_reading.specs.Texts.{LogsRead, no_logs};

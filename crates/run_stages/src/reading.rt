@@ -1,5 +1,5 @@
 ghost use Rattle.std.specs.Prelude.{◌≡◌, ◌≤◌, IfOk, IfErr};
-ghost use Rattle.lined_specs.specs.Beside.{IsReadyOver, lines_of};
+ghost use Rattle.steps_lined.specs.Beside.{IsReadyOver, lines_of};
 ghost use Rattle.run_words.specs.Words.{JobMeets};
 ghost use Rattle.run_reading.specs.Reaches.{AllRead};
 ghost use Rattle.run_stages.specs.Stops.{StopsBy};

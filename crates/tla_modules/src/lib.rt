@@ -20,4 +20,5 @@ pub use loading::{Loaded, load, load_by};
 pub use notes::{Noted, Notes};
 pub use path::parts_of;
 pub use reader::{ModuleReader, SpelledModule, StrictReader};
+pub use standard::is_standard;
 pub use strict::spelled;

@@ -4,6 +4,7 @@ use Rattle.std.specs.Prelude.{ℕ, Bool, true, false, not, ◌&&◌, ◌||◌, L
 use Rattle.std.specs.Str.{bytes_eq}
 use Rattle.tla_scopes.specs.Mentions.{binds, defines, is_one_of, mentions_bounds}
 use Rattle.tla_scopes.specs.Scopes.{at_sign}
+use Rattle.tla_ast.specs.TreeViews.{are_none}
 use Rattle.tla_ast.specs.Trees.{Tree, Name, Call, Qualified, At, Parenthesized, Junction, Prefix, Infix, Postfix, SetOf, Filter, Map, Tuple, Function, FunctionSet, Record, RecordSet, Except, Quantified, Choose, If, Case, CaseOther, Let, BoxAction, AngleAction, Fairness, Trees, NoTrees, MoreTrees, Operands, First, Next, Step, Index, Steps, NoSteps, MoreSteps, Bounds, NoBounds, MoreBounds, Fields, NoFields, MoreFields, Changes, NoChanges, MoreChanges, Arms, NoArms, MoreArms, Definitions, NoDefinitions, MoreDefinitions}
 
 abbrev pub is_index : Step → Bool
@@ -15,9 +16,10 @@ abbrev pub begins_with_index : Steps → Step → Bool
 begins_with_index NoSteps s = is_index s
 begins_with_index (MoreSteps ss at t) s = begins_with_index ss t
 
--- whether that counts of which steps are taken
+-- whether that counts of which steps are taken: not where it is a name, or a name of an instance, that is applied
 abbrev pub counts_base : Tree → Steps → Step → Bool
 counts_base (Name at n) ss s = not (begins_with_index ss s)
+counts_base (Qualified at n es) ss s = not (are_none es && begins_with_index ss s)
 counts_base e ss s = true
 
 abbrev mutual

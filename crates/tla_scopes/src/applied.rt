@@ -53,12 +53,15 @@ fn begins_with_index(steps: &Steps, last: &Step) -> bool
     }
 }
 
-/// Whether that counts of which steps are taken: not where it is a name that is applied.
+/// Whether that counts of which steps are taken: not where it is a name, or a name of an instance as `I!f`, that is applied.
 fn counts_base(base: &Expr, steps: &Steps, last: &Step) -> bool
     ensures { result ≡ counts_base base.now steps.now (step_view last.now) }
 {
     match &*base.node {
         Node::Name(_) => !begins_with_index(steps, last),
+        Node::Qualified(_, arguments) => {
+            !(arguments.is_empty() && begins_with_index(steps, last))
+        }
         _ => true,
     }
 }

@@ -1,11 +1,12 @@
 //! `tlatrace`: whether the logs of a distributed system can come from its TLA+ specification.
 #![tactic(auto)]
 
+use library_calls::{WithLibrary, run_with_library};
 use std::env;
 use std::io::{self, ErrorKind};
 use std::process::ExitCode;
 use trace_base::{HostFiles, HostSink};
-use trace_cli::{Status, run};
+use trace_cli::Status;
 
 fn main(rt: HostRuntime) -> ExitCode {
     let words = match words(&rt) {
@@ -18,9 +19,9 @@ fn main(rt: HostRuntime) -> ExitCode {
             Vec::new(rt.alloc())
         }
     };
-    let mut files = HostFiles::new(&rt);
+    let mut files = WithLibrary::new(HostFiles::new(&rt));
     let mut out = HostSink::new(&rt);
-    let status = run(rt.alloc(), &words, &mut files, &mut out);
+    let status = run_with_library(rt.alloc(), &words, &mut files, &mut out);
     ExitCode::from(status.code())
 }
 

@@ -15,14 +15,14 @@ use Rattle.tied_logs.specs.declared.logs.Logs.{Logs}
 use Rattle.tla_core.specs.declared.state.Shown.{Shown}
 use Rattle.line_steps.specs.Logs.{Asked, system}
 use Rattle.state_layers.specs.Answers.{IsAnswer}
-use Rattle.lined_specs.specs.Answers.{AreAssumedOf, IsTrueOf, IsUnassumedOf}
-use Rattle.lined_specs.specs.Beside.{lines_of}
+use Rattle.steps_lined.specs.Answers.{AreAssumedOf, IsTrueOf, IsUnassumedOf}
+use Rattle.steps_lined.specs.Beside.{lines_of}
 use Rattle.state_layers.specs.declared.answer.Answer.{Answer}
 use Rattle.state_layers.specs.declared.answer.Answer.TheVariants.{Explained, NotExplained, NoInitial, InitFault, Fault, AssumeFault, AssumeFalse, LayerLimit, TotalLimit}
 use Rattle.state_verdicts.specs.declared.verdict.Verdict.{Verdict}
 use Rattle.state_verdicts.specs.declared.verdict.Verdict.TheVariants as verdict
-use Rattle.lined_verdicts.specs.Verdicts.{IsJudgedOf}
-use Rattle.held_readings.specs.Held.{IsHeldSo}
+use Rattle.judge_verdicts.specs.Lined.{IsJudgedOf}
+use Rattle.steps_lined.specs.Held.{IsHeldSo}
 use Rattle.ring_files.specs.Ring.{ring_files, ring_job}
 use Rattle.run_words.specs.declared.job.Job.{Job}
 use Rattle.run_words.specs.declared.job.Words.TheVariants.{Validate, Check, SelfRun}

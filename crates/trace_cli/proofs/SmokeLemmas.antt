@@ -13,17 +13,17 @@ use Rattle.log_lines.specs.declared.file.FileLines.{FileLines}
 use Rattle.log_files.specs.Lined.{IsLinedOf}
 use Rattle.tied_logs.specs.declared.logs.Lined.{Lined}
 use Rattle.tied_logs.specs.declared.logs.Lined.TheVariants.{Sequence, Tied}
-use Rattle.lined_specs.specs.Answers.{IsTrueOf}
-use Rattle.lined_specs.specs.Beside.{AreTellable}
+use Rattle.steps_lined.specs.Answers.{IsTrueOf}
+use Rattle.steps_lined.specs.Beside.{AreTellable}
 use Rattle.state_layers.specs.declared.answer.Answer.{Answer}
 use Rattle.state_layers.specs.declared.answer.Answer.TheVariants.{Explained}
 use Rattle.state_verdicts.specs.Laws.{AreOne}
 use Rattle.state_verdicts.specs.declared.verdict.Reason.{Reason}
 use Rattle.state_verdicts.specs.declared.verdict.Verdict.{Verdict}
 use Rattle.state_verdicts.specs.declared.verdict.Verdict.TheVariants.{Valid, Invalid, Fault}
-use Rattle.lined_verdicts.specs.Laws.{ExplainedIsJudgedValid, HaveOneOf}
-use Rattle.lined_verdicts.specs.Verdicts.{IsJudgedOf}
-use Rattle.held_readings.specs.Held.{IsHeldSo}
+use Rattle.judge_verdicts.specs.LinedLaws.{ExplainedIsJudgedValid, HaveOneOf}
+use Rattle.judge_verdicts.specs.Lined.{IsJudgedOf}
+use Rattle.steps_lined.specs.Held.{IsHeldSo}
 use Rattle.ring_files.specs.Ring.{ring_files, ring_job}
 use Rattle.run_words.specs.declared.job.Job.{Job}
 use Rattle.run_reading.specs.Reaches.{AllRead, Reaches, has_forms, logged, reads_log}

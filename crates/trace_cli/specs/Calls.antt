@@ -20,10 +20,10 @@ use Rattle.run_reading.specs.Given.{AllGiven, IsGivenRefusal}
 use Rattle.run_texts.specs.Answers.{Named, answer_text}
 use Rattle.run_texts.specs.Verdicts.{verdict_text}
 use Rattle.ready_specs.specs.Beside.{asked}
-use Rattle.lined_specs.specs.Answers.{AreAssumedOf, IsTrueOf, IsUnassumedOf}
-use Rattle.lined_specs.specs.Beside.{lines_of}
-use Rattle.lined_verdicts.specs.Verdicts.{IsJudgedOf}
-use Rattle.held_readings.specs.Held.{IsHeldSo}
+use Rattle.steps_lined.specs.Answers.{AreAssumedOf, IsTrueOf, IsUnassumedOf}
+use Rattle.steps_lined.specs.Beside.{lines_of}
+use Rattle.judge_verdicts.specs.Lined.{IsJudgedOf}
+use Rattle.steps_lined.specs.Held.{IsHeldSo}
 use Rattle.why_report.specs.Reports.{IsReport}
 use Rattle.trace_cli.specs.declared.call.Status.{Status}
 use Rattle.trace_cli.specs.declared.call.Status.TheVariants.{Done, Not, Reading, Evaluation, Limit}

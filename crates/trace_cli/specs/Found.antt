@@ -5,7 +5,7 @@ use Rattle.tla_terms.specs.declared.spec.Spec.{Spec}
 use Rattle.line_steps.specs.Logs.{Asked}
 use Rattle.tied_logs.specs.declared.logs.Lined.{Lined}
 use Rattle.state_layers.specs.declared.answer.Answer.{Answer}
-use Rattle.lined_specs.specs.Answers.{AreAssumedOf, IsTrueOf, IsUnassumedOf}
+use Rattle.steps_lined.specs.Answers.{AreAssumedOf, IsTrueOf, IsUnassumedOf}
 
 -- the answer is true
 pub record IsFound (g : Spec) (a : Asked) (lined : Lined) (answer : Answer) : Type 0 where

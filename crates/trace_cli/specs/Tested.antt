@@ -7,8 +7,8 @@ use Rattle.tla_core.specs.declared.state.Shown.{Shown}
 use Rattle.tied_logs.specs.declared.logs.Lined.{Lined}
 use Rattle.state_layers.specs.declared.answer.Answer.TheVariants.{Explained}
 use Rattle.state_verdicts.specs.declared.verdict.Verdict.TheVariants.{Valid}
-use Rattle.lined_specs.specs.Answers.{IsTrueOf}
-use Rattle.lined_verdicts.specs.Verdicts.{IsJudgedOf}
+use Rattle.steps_lined.specs.Answers.{IsTrueOf}
+use Rattle.judge_verdicts.specs.Lined.{IsJudgedOf}
 use Rattle.run_words.specs.declared.job.Job.{Job}
 use Rattle.run_texts.specs.Smoke.{smoke_text}
 use Rattle.trace_cli.specs.declared.call.Status.{Status}

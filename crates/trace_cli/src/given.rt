@@ -1,6 +1,6 @@
 ghost use Rattle.std.specs.Prelude.{◌≡◌, ◌≤◌, All, IfErr, IfOk, length, string_bytes};
 ghost use Rattle.line_steps.specs.Says.{IsState};
-ghost use Rattle.lined_specs.specs.Beside.{IsReadyOver, lines_of};
+ghost use Rattle.steps_lined.specs.Beside.{IsReadyOver, lines_of};
 ghost use Rattle.run_words.specs.Words.{JobMeets};
 ghost use Rattle.run_stages.specs.GivenStops.{GivenStopsBy};
 ghost use Rattle.run_stages.specs.declared.stop.Stop.TheVariants.{NoMemory};
@@ -12,7 +12,7 @@ ghost use Rattle.trace_cli.specs.Found.{AreAllAssumed};
 use crate::call::Status;
 use crate::judge::{Judged, told};
 use crate::searching::unassumed;
-use lined_verdicts::{LinedPairs, verdict_over};
+use judge_verdicts::{LinedPairs, verdict_over};
 use run_stages::{Given, Stop, all_files, read_given};
 use run_texts::verdict_text;
 use run_words::Job;

@@ -3,7 +3,7 @@
 
 ghost use Rattle.std.specs.Prelude.{◌≡◌, ◌≤◌, IfErr, IfOk};
 ghost use Rattle.tied_logs.specs.declared.logs.Lined.TheVariants.{Sequence, Tied};
-ghost use Rattle.lined_specs.specs.Beside.{IsReadyOver, lines_of};
+ghost use Rattle.steps_lined.specs.Beside.{IsReadyOver, lines_of};
 ghost use Rattle.run_words.specs.Words.{JobMeets};
 ghost use Rattle.run_stages.specs.declared.stop.Stop.TheVariants.{NoMemory};
 ghost use Rattle.trace_cli.specs.Calls.{asked_by};

@@ -1,6 +1,6 @@
 ghost use Rattle.std.specs.Prelude.{◌≡◌, ◌≢◌, ◌≤◌, IfErr, IfOk, MatchOption, None, string_bytes};
 ghost use Rattle.state_layers.specs.declared.answer.Answer.TheVariants.{Explained};
-ghost use Rattle.lined_specs.specs.Beside.{AreTellable, IsReadyOver, lines_of};
+ghost use Rattle.steps_lined.specs.Beside.{AreTellable, IsReadyOver, lines_of};
 ghost use Rattle.run_words.specs.Words.{JobMeets};
 ghost use Rattle.run_stages.specs.declared.stop.Stop.TheVariants.{NoMemory};
 ghost use Rattle.run_texts.specs.Smoke.{smoke_text};
@@ -12,8 +12,7 @@ ghost use Rattle.trace_cli.specs.Tested.{IsTested};
 use crate::call::Status;
 use crate::judge::{Judged, told};
 use crate::searching::true_answer;
-use held_readings::held_so;
-use lined_verdicts::{LinedPairs, lined_laws, verdict_over};
+use judge_verdicts::{LinedPairs, lined_laws, verdict_over};
 use ring_files::{ring_files, ring_job};
 use run_stages::{Accepted, Stop, read_all};
 use run_texts::smoke_text;
@@ -21,6 +20,7 @@ use run_words::Job;
 use state_layers::Answer;
 use state_verdicts::Verdict;
 use std::alloc::Global;
+use steps_lined::held_so;
 use tla_core::Behaviour;
 
 /// What the smoke test over so many lines calls for.

@@ -14,7 +14,9 @@ use Rattle.load_laws.proofs.WellFormed.{IsGood, good_append, module_good}
 use Rattle.module_pieces.specs.Pieces.{joined}
 use Rattle.wide_modules.specs.declared.unread.Unread.{Unread}
 use Rattle.wide_modules.specs.Alone.{ReadAs, alone, ending, first_place}
-use Rattle.wide_modules.specs.Pieces.{EachRead, InPieces, Parted, is_read, is_unread, none_left}
+use Rattle.wide_modules.specs.Forms.{readable}
+use Rattle.wide_modules.specs.Pieces.{EachRead, InPieces, Parted, is_brought, is_read, is_unread, none_left}
+use Rattle.wide_modules.proofs.PieceTokens.{readable_all}
 use Rattle.wide_modules.specs.Wide.{PartsOf, SpelledWide, is_parted, is_whole, plain, reading_by, wide}
 
 hold_append : (xs ys : List Token) → AllHold xs → AllHold ys → AllHold (xs ++ ys)
@@ -29,6 +31,10 @@ hold_back : (xs ys : List Token) → AllHold (xs ++ ys) → AllHold ys
 hold_back [] ys h = h
 hold_back (x ∷ xs) ys h = hold_back xs ys h.1
 
+-- what is read of a piece are tokens of it
+hold_readable : (piece : List Token) → AllHold piece → AllHold (readable piece)
+hold_readable piece h = readable_all (λ ts. AllHold ts) (λ t ts k. k.1) piece h
+
 hold_alone : (heading piece : List Token) (at : Place) → AllHold heading → AllHold piece → AllHold (alone heading piece at)
 hold_alone heading piece at h k = hold_append (heading ++ piece) (ending at at) (hold_append heading piece h k) (tt, (tt, tt))
 
@@ -37,16 +43,18 @@ module _ (forms : ModulesAreFormed) (local : LocalText) (definition : LocalDefin
   read_good tokens m r held =
       (forms m r.laid r.spells, module_named local definition m r.laid r.spells (subst AllHold (sym r.marked.same) held))
 
-  each_good : (heading : List Token) (last : Place) (pieces : List (List Token)) (units : List ModuleUnit) (unread : List Unread)
-      → EachRead heading last pieces units unread → AllHold heading → AllHold (joined pieces) → IsGood units
-  each_good heading last _ _ _ none_left h k = (tt, All-nil _)
-  each_good heading last _ _ _ (is_read piece pieces m units unread r e) h k =
+  each_good : (heading : List Token) (last : Place) (pieces : List (List Token)) (names : List (List ℕ)) (units : List ModuleUnit) (unread : List Unread)
+      → EachRead heading last pieces names units unread → AllHold heading → AllHold (joined pieces) → IsGood units
+  each_good heading last _ _ _ _ none_left h k = (tt, All-nil _)
+  each_good heading last _ _ _ _ (is_brought piece pieces name names units unread b e) h k =
+      each_good heading last pieces names units unread e h (hold_back piece (joined pieces) k)
+  each_good heading last _ _ _ _ (is_read piece pieces m names units unread b r e) h k =
       let at : Place = first_place (joined pieces) last in
-      let piece_held : AllHold piece = hold_front piece (joined pieces) k in
-      good_append m.units units (read_good (alone heading piece at) m r (hold_alone heading piece at h piece_held))
-      (each_good heading last pieces units unread e h (hold_back piece (joined pieces) k))
-  each_good heading last _ _ _ (is_unread piece pieces why units unread r e) h k =
-      each_good heading last pieces units unread e h (hold_back piece (joined pieces) k)
+      let piece_held : AllHold (readable piece) = hold_readable piece (hold_front piece (joined pieces) k) in
+      good_append m.units units (read_good (alone heading (readable piece) at) m r (hold_alone heading (readable piece) at h piece_held))
+      (each_good heading last pieces names units unread e h (hold_back piece (joined pieces) k))
+  each_good heading last _ _ _ _ (is_unread piece pieces why names units unread b r e) h k =
+      each_good heading last pieces names units unread e h (hold_back piece (joined pieces) k)
 
   parted_good : (body : List Token) (equals : Place) (m : Module) (unread : List Unread) → Parted body equals m unread → AllHold body → IsGood m.units
   parted_good body equals m unread p held =
@@ -55,7 +63,7 @@ module _ (forms : ModulesAreFormed) (local : LocalText) (definition : LocalDefin
       let at : Place = first_place (joined p.pieces) equals in
       subst (λ (v : Module). IsGood v.units) (sym p.same)
       (good_append p.title.units p.units (read_good (alone p.heading [] at) p.title p.titled (hold_alone p.heading [] at heading tt))
-      (each_good p.heading equals p.pieces p.units unread p.each heading (hold_back p.heading (joined p.pieces) parts)))
+      (each_good p.heading equals p.pieces p.names p.units unread p.each heading (hold_back p.heading (joined p.pieces) parts)))
 
   parts_good : (number : ℕ) (bytes : List ℕ) (m : Module) (unread : List Unread) → PartsOf number bytes m unread → IsGood m.units
   parts_good number bytes m unread p =

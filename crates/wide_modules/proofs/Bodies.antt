@@ -1,5 +1,5 @@
 -- The pieces behind a heading, read one by one.
-use Rattle.std.proofs.Common.{◌≡◌, ◌∙◌, inl, inr, ℕ, zero, suc, ◌<◌, List, [], ◌∷◌, ◌++◌, append_assoc, append-nil, length, take, drop, refl, sym, ap, subst, arith}
+use Rattle.std.proofs.Common.{◌≡◌, ◌∙◌, inl, inr, ℕ, zero, suc, ◌<◌, List, [], ◌∷◌, ◌++◌, append_assoc, append-nil, length, take, drop, Some, None, refl, sym, ap, subst, arith}
 use Rattle.trace_base.specs.declared.place.Place.{Place}
 use Rattle.tla_tokens.specs.declared.token.Token.{Token}
 use Rattle.tla_ast.specs.declared.module.Module.{Module}
@@ -11,8 +11,9 @@ use Rattle.module_pieces.specs.Laws.{OneHeading}
 use Rattle.module_pieces.specs.Pieces.{IsHeading, IsPiece, joined}
 use Rattle.wide_modules.specs.declared.unread.Unread.{Unread}
 use Rattle.wide_modules.specs.Alone.{ReadAs, RefusedFor, alone, first_place}
-use Rattle.wide_modules.specs.Parts.{Adds, AddsUnits, AddsUnread, GoesBefore, IsBehind, IsUnparted, ReadBody}
-use Rattle.wide_modules.specs.Pieces.{none_left, is_read, is_unread, Parted, unread_as}
+use Rattle.wide_modules.specs.Forms.{brought, readable}
+use Rattle.wide_modules.specs.Parts.{Adds, AddsName, AddsUnits, AddsUnread, GoesBefore, IsBehind, IsUnparted, ReadBody}
+use Rattle.wide_modules.specs.Pieces.{none_left, is_brought, is_read, is_unread, Parted, unread_as}
 use Rattle.wide_modules.proofs.Readings.{read_never}
 
 rejoined : (n : ℕ) (ts : List Token) → ts ≡ take n ts ++ drop n ts
@@ -21,63 +22,90 @@ rejoined (suc n) [] = refl
 rejoined (suc n) (t ∷ ts) = ap (λ xs. t ∷ xs) (rejoined n ts)
 
 -- nothing is left
-nothing_behind : (heading : List Token) (last : Place) → ReadBody heading last [] [] []
+nothing_behind : (heading : List Token) (last : Place) → ReadBody heading last [] [] [] []
 nothing_behind heading last = record { pieces = []; whole = refl; parted = tt; each = none_left }
 
-pub before_all : (heading : List Token) (last : Place) (body : List Token) → GoesBefore heading last body body [] []
-before_all heading last body more others h = h
+pub before_all : (heading : List Token) (last : Place) (body : List Token) → GoesBefore heading last body body [] [] []
+before_all heading last body others more later h = h
 
-pub all_behind : (heading : List Token) (last : Place) (body rest : List Token) (units : List ModuleUnit) (unread : List Unread) → rest ≡ []
-    → GoesBefore heading last body rest units unread → ReadBody heading last body units unread
-all_behind heading last body rest units unread e h =
-    let all : ReadBody heading last body (units ++ []) (unread ++ []) = h [] [] (subst (λ v. ReadBody heading last v [] []) (sym e) (nothing_behind heading last)) in
-    subst (λ v. ReadBody heading last body units v) (append-nil unread) (subst (λ v. ReadBody heading last body v (unread ++ [])) (append-nil units) all)
+pub all_behind : (heading : List Token) (last : Place) (body rest : List Token) (names : List (List ℕ)) (units : List ModuleUnit) (unread : List Unread) → rest ≡ []
+    → GoesBefore heading last body rest names units unread → ReadBody heading last body names units unread
+all_behind heading last body rest names units unread e h =
+    let all : ReadBody heading last body (names ++ []) (units ++ []) (unread ++ []) = h [] [] [] (subst (λ v. ReadBody heading last v [] [] []) (sym e) (nothing_behind heading last)) in
+    subst (λ v. ReadBody heading last body v units unread) (append-nil names)
+    (subst (λ v. ReadBody heading last body (names ++ []) units v) (append-nil unread)
+    (subst (λ v. ReadBody heading last body (names ++ []) v (unread ++ [])) (append-nil units) all))
 
 module _ (heading : List Token) (last : Place) (piece behind rest : List Token) (whole : rest ≡ piece ++ behind) (is_piece : IsPiece piece behind) where
-  with_read : (m : Module) (more : List ModuleUnit) (others : List Unread) → ReadAs (alone heading piece (first_place behind last)) m
-      → ReadBody heading last behind more others → ReadBody heading last rest (m.units ++ more) others
-  with_read m more others r h = record {
+  with_name : (name : List ℕ) (others : List (List ℕ)) (more : List ModuleUnit) (later : List Unread) → brought piece ≡ Some name
+      → ReadBody heading last behind others more later → ReadBody heading last rest (name ∷ others) more later
+  with_name name others more later b h = record {
     pieces = piece ∷ h.pieces;
     whole = whole ∙ ap (λ v. piece ++ v) h.whole;
     parted = (subst (λ v. IsPiece piece v) h.whole is_piece, h.parted);
-    each = is_read piece h.pieces m more others (subst (λ v. ReadAs (alone heading piece (first_place v last)) m) h.whole r) h.each;
+    each = is_brought piece h.pieces name others more later b h.each;
   }
 
-  with_unread : (why : LoadWhy) (more : List ModuleUnit) (others : List Unread) → RefusedFor (alone heading piece (first_place behind last)) why
-      → ReadBody heading last behind more others → ReadBody heading last rest more (unread_as piece why ∷ others)
-  with_unread why more others r h = record {
+  with_read : (m : Module) (others : List (List ℕ)) (more : List ModuleUnit) (later : List Unread) → brought piece ≡ None
+      → ReadAs (alone heading (readable piece) (first_place behind last)) m → ReadBody heading last behind others more later
+      → ReadBody heading last rest others (m.units ++ more) later
+  with_read m others more later b r h = record {
     pieces = piece ∷ h.pieces;
     whole = whole ∙ ap (λ v. piece ++ v) h.whole;
     parted = (subst (λ v. IsPiece piece v) h.whole is_piece, h.parted);
-    each = is_unread piece h.pieces why more others (subst (λ v. RefusedFor (alone heading piece (first_place v last)) why) h.whole r) h.each;
+    each = is_read piece h.pieces m others more later b (subst (λ v. ReadAs (alone heading (readable piece) (first_place v last)) m) h.whole r) h.each;
   }
 
-  module _ (body : List Token) (units new : List ModuleUnit) (unread others : List Unread) (before : GoesBefore heading last body rest units unread) where
-    more_units : AddsUnits heading piece (first_place behind last) units unread new others → GoesBefore heading last body behind new others
-    more_units a more later h =
-        let all : ReadBody heading last body (units ++ (a.read.units ++ more)) (unread ++ later) = before (a.read.units ++ more) later (with_read a.read more later a.is_read h) in
-        let same : units ++ (a.read.units ++ more) ≡ new ++ more = sym (append_assoc units a.read.units more) ∙ ap (λ v. v ++ more) (sym a.added) in
-        subst (λ v. ReadBody heading last body (new ++ more) (v ++ later)) (sym a.same) (subst (λ v. ReadBody heading last body v (unread ++ later)) same all)
+  with_unread : (why : LoadWhy) (others : List (List ℕ)) (more : List ModuleUnit) (later : List Unread) → brought piece ≡ None
+      → RefusedFor (alone heading (readable piece) (first_place behind last)) why → ReadBody heading last behind others more later
+      → ReadBody heading last rest others more (unread_as piece why ∷ later)
+  with_unread why others more later b r h = record {
+    pieces = piece ∷ h.pieces;
+    whole = whole ∙ ap (λ v. piece ++ v) h.whole;
+    parted = (subst (λ v. IsPiece piece v) h.whole is_piece, h.parted);
+    each = is_unread piece h.pieces why others more later b (subst (λ v. RefusedFor (alone heading (readable piece) (first_place v last)) why) h.whole r) h.each;
+  }
 
-    more_unread : AddsUnread heading piece (first_place behind last) units unread new others → GoesBefore heading last body behind new others
-    more_unread a more later h =
+  module _ (body : List Token) (names new_names : List (List ℕ)) (units new_units : List ModuleUnit) (unread new_unread : List Unread) (before : GoesBefore heading last body rest names units unread) where
+    more_names : AddsName piece names units unread new_names new_units new_unread → GoesBefore heading last body behind new_names new_units new_unread
+    more_names a others more later h =
+        let all : ReadBody heading last body (names ++ (a.name ∷ others)) (units ++ more) (unread ++ later) = before (a.name ∷ others) more later (with_name a.name others more later a.is_brought h) in
+        let same : names ++ (a.name ∷ others) ≡ new_names ++ others = sym (append_assoc names (a.name ∷ []) others) ∙ ap (λ v. v ++ others) (sym a.added) in
+        subst (λ v. ReadBody heading last body (new_names ++ others) (new_units ++ more) (v ++ later)) (sym a.unread_same)
+        (subst (λ v. ReadBody heading last body (new_names ++ others) (v ++ more) (unread ++ later)) (sym a.units_same)
+        (subst (λ v. ReadBody heading last body v (units ++ more) (unread ++ later)) same all))
+
+    more_units : AddsUnits heading piece (first_place behind last) names units unread new_names new_units new_unread → GoesBefore heading last body behind new_names new_units new_unread
+    more_units a others more later h =
+        let all : ReadBody heading last body (names ++ others) (units ++ (a.read.units ++ more)) (unread ++ later) = before others (a.read.units ++ more) later (with_read a.read others more later a.brings_none a.is_read h) in
+        let same : units ++ (a.read.units ++ more) ≡ new_units ++ more = sym (append_assoc units a.read.units more) ∙ ap (λ v. v ++ more) (sym a.added) in
+        subst (λ v. ReadBody heading last body (v ++ others) (new_units ++ more) (new_unread ++ later)) (sym a.names_same)
+        (subst (λ v. ReadBody heading last body (names ++ others) (new_units ++ more) (v ++ later)) (sym a.unread_same)
+        (subst (λ v. ReadBody heading last body (names ++ others) v (unread ++ later)) same all))
+
+    more_unread : AddsUnread heading piece (first_place behind last) names units unread new_names new_units new_unread → GoesBefore heading last body behind new_names new_units new_unread
+    more_unread a others more later h =
         let one = unread_as piece a.why in
-        let all : ReadBody heading last body (units ++ more) (unread ++ (one ∷ later)) = before more (one ∷ later) (with_unread a.why more later a.is_refused h) in
-        let same : unread ++ (one ∷ later) ≡ others ++ later = sym (append_assoc unread (one ∷ []) later) ∙ ap (λ v. v ++ later) (sym a.added) in
-        subst (λ v. ReadBody heading last body (v ++ more) (others ++ later)) (sym a.same) (subst (λ v. ReadBody heading last body (units ++ more) v) same all)
+        let all : ReadBody heading last body (names ++ others) (units ++ more) (unread ++ (one ∷ later)) = before others more (one ∷ later) (with_unread a.why others more later a.brings_none a.is_refused h) in
+        let same : unread ++ (one ∷ later) ≡ new_unread ++ later = sym (append_assoc unread (one ∷ []) later) ∙ ap (λ v. v ++ later) (sym a.added) in
+        subst (λ v. ReadBody heading last body (v ++ others) (new_units ++ more) (new_unread ++ later)) (sym a.names_same)
+        (subst (λ v. ReadBody heading last body (names ++ others) (v ++ more) (new_unread ++ later)) (sym a.units_same)
+        (subst (λ v. ReadBody heading last body (names ++ others) (units ++ more) v) same all))
 
-    more_either : Adds heading piece (first_place behind last) units unread new others → GoesBefore heading last body behind new others
-    more_either (inl a) = more_units a
-    more_either (inr a) = more_unread a
+    more_any : Adds heading piece (first_place behind last) names units unread new_names new_units new_unread → GoesBefore heading last body behind new_names new_units new_unread
+    more_any (inl a) = more_names a
+    more_any (inr (inl a)) = more_units a
+    more_any (inr (inr a)) = more_unread a
 
-pub before_more : (heading : List Token) (last : Place) (body rest piece behind : List Token) (place : Place) (size : ℕ) (units new : List ModuleUnit) (unread others : List Unread)
-    → GoesBefore heading last body rest units unread → piece ≡ take size rest → behind ≡ drop size rest → place ≡ first_place behind last
-    → IsPiece (take size rest) (drop size rest) → Adds heading piece place units unread new others
-    → GoesBefore heading last body behind new others
-before_more heading last body rest piece behind place size units new unread others before p b at is adds =
+pub before_more : (heading : List Token) (last : Place) (body rest piece behind : List Token) (place : Place) (size : ℕ) (names new_names : List (List ℕ)) (units new_units : List ModuleUnit) (unread new_unread : List Unread)
+    → GoesBefore heading last body rest names units unread → piece ≡ take size rest → behind ≡ drop size rest → place ≡ first_place behind last
+    → IsPiece (take size rest) (drop size rest) → Adds heading piece place names units unread new_names new_units new_unread
+    → GoesBefore heading last body behind new_names new_units new_unread
+before_more heading last body rest piece behind place size names new_names units new_units unread new_unread before p b at is adds =
     let is_piece : IsPiece piece behind = subst (λ v. IsPiece piece v) (sym b) (subst (λ v. IsPiece v (drop size rest)) (sym p) is) in
     let whole : rest ≡ piece ++ behind = rejoined size rest ∙ ap (λ v. v ++ drop size rest) (sym p) ∙ ap (λ v. piece ++ v) (sym b) in
-    more_either heading last piece behind rest whole is_piece body units new unread others before (subst (λ v. Adds heading piece v units unread new others) at adds)
+    more_any heading last piece behind rest whole is_piece body names new_names units new_units unread new_unread before
+    (subst (λ v. Adds heading piece v names units unread new_names new_units new_unread) at adds)
 
 -- ---- the heading
 
@@ -96,6 +124,7 @@ body_parted body heading rest equals place size title m unread h r at is read be
       parted = behind.read.parted;
       title = title;
       titled = subst (λ v. ReadAs (alone heading [] (first_place v equals)) title) behind.read.whole (subst (λ v. ReadAs (alone heading [] v) title) at read);
+      names = behind.names;
       units = behind.units;
       each = behind.read.each;
       same = behind.same;

@@ -7,6 +7,8 @@ use Rattle.tla_tokens.specs.declared.token.Token.{Token}
 use Rattle.tla_tokens.specs.Tokens.{token_at}
 use Rattle.tla_ast.specs.Laid.{EndsOnce, NoEnd}
 use Rattle.wide_modules.specs.Alone.{alone}
+use Rattle.wide_modules.specs.Forms.{readable}
+use Rattle.wide_modules.proofs.PieceTokens.{readable_all}
 
 no_end_both : (xs ys : List Token) → NoEnd xs → NoEnd ys → NoEnd (xs ++ ys)
 no_end_both [] ys h g = g
@@ -41,3 +43,6 @@ body_ends tokens h =
     let few : n ≤ length h.before = omega arith in
     let same : take n tokens ≡ take n h.before = ap (λ v. take n v) h.whole ∙ take-append-le n h.before (h.last ∷ []) few in
     subst (λ v. NoEnd v) (sym same) (no_end_take n h.before h.once)
+
+pub no_end_readable : (piece : List Token) → NoEnd piece → NoEnd (readable piece)
+no_end_readable piece h = readable_all (λ ts. NoEnd ts) (λ t ts k. k.1) piece h

@@ -1,4 +1,5 @@
 mod Ends
+pub mod PieceTokens
 pub mod Readings
 mod Bodies
 pub mod Frames

@@ -1,4 +1,5 @@
 pub mod Alone
+pub mod Forms
 pub mod Laws
 pub mod Parts
 pub mod Pieces

@@ -1,5 +1,5 @@
 -- For the prover: what private calls say of their parts.
-use Rattle.std.specs.Prelude.{◌≡◌, ◌⊎◌, Bool, true, false, List, [], ◌∷◌, ◌++◌}
+use Rattle.std.specs.Prelude.{◌≡◌, ◌⊎◌, ℕ, Bool, true, false, List, [], ◌∷◌, ◌++◌, Some, None}
 use Rattle.tla_tokens.specs.declared.token.Kind.{Kind}
 use Rattle.tla_tokens.specs.declared.token.Kind.TheVariants as kinds
 use Rattle.trace_base.specs.declared.place.Place.{Place}
@@ -10,43 +10,64 @@ use Rattle.tla_modules.specs.declared.fault.LoadWhy.{LoadWhy}
 use Rattle.module_pieces.specs.Pieces.{ArePieces, joined}
 use Rattle.wide_modules.specs.declared.unread.Unread.{Unread}
 use Rattle.wide_modules.specs.Alone.{ReadAs, RefusedFor, alone}
-use Rattle.wide_modules.specs.Pieces.{EachRead, InPieces, Parted, unread_as, with_units}
+use Rattle.wide_modules.specs.Forms.{brought, readable}
+use Rattle.wide_modules.specs.Pieces.{EachRead, InPieces, Parted, unread_as, with_pieces}
 
--- the tokens behind a heading are these pieces, each read or unread
-pub record ReadBody (heading : List Token) (last : Place) (body : List Token) (units : List ModuleUnit) (unread : List Unread) : Type 0 where
+-- the tokens behind a heading are these pieces, and these modules, units and pieces that are unread come of them
+pub record ReadBody (heading : List Token) (last : Place) (body : List Token) (names : List (List ℕ)) (units : List ModuleUnit) (unread : List Unread) : Type 0 where
   pub pieces : List (List Token)
   pub whole : body ≡ joined pieces
   pub parted : ArePieces pieces
-  pub each : EachRead heading last pieces units unread
+  pub each : EachRead heading last pieces names units unread
 
 -- what is read behind here goes on with what was read before
-abbrev pub GoesBefore : List Token → Place → List Token → List Token → List ModuleUnit → List Unread → Type 0
-GoesBefore heading last body rest units unread =
-    (more : List ModuleUnit) (others : List Unread) → ReadBody heading last rest more others → ReadBody heading last body (units ++ more) (unread ++ others)
+abbrev pub GoesBefore : List Token → Place → List Token → List Token → List (List ℕ) → List ModuleUnit → List Unread → Type 0
+GoesBefore heading last body rest names units unread =
+    (others : List (List ℕ)) (more : List ModuleUnit) (later : List Unread) → ReadBody heading last rest others more later
+    → ReadBody heading last body (names ++ others) (units ++ more) (unread ++ later)
+
+-- a piece brings a module
+pub record AddsName (piece : List Token) (names : List (List ℕ)) (units : List ModuleUnit) (unread : List Unread) (new_names : List (List ℕ)) (new_units : List ModuleUnit) (new_unread : List Unread) : Type 0 where
+  pub name : List ℕ
+  pub is_brought : brought piece ≡ Some name
+  pub added : new_names ≡ names ++ name ∷ []
+  pub units_same : new_units ≡ units
+  pub unread_same : new_unread ≡ unread
 
 -- a piece was read, and its units were added
-pub record AddsUnits (heading piece : List Token) (behind : Place) (units : List ModuleUnit) (unread : List Unread) (new : List ModuleUnit) (others : List Unread) : Type 0 where
+pub record AddsUnits (heading piece : List Token) (behind : Place) (names : List (List ℕ)) (units : List ModuleUnit) (unread : List Unread) (new_names : List (List ℕ)) (new_units : List ModuleUnit) (new_unread : List Unread) : Type 0 where
+  pub brings_none : brought piece ≡ None
   pub read : Module
-  pub is_read : ReadAs (alone heading piece behind) read
-  pub added : new ≡ units ++ read.units
-  pub same : others ≡ unread
+  pub is_read : ReadAs (alone heading (readable piece) behind) read
+  pub added : new_units ≡ units ++ read.units
+  pub names_same : new_names ≡ names
+  pub unread_same : new_unread ≡ unread
 
 -- a piece was not read, and was added to those that are unread
-pub record AddsUnread (heading piece : List Token) (behind : Place) (units : List ModuleUnit) (unread : List Unread) (new : List ModuleUnit) (others : List Unread) : Type 0 where
+pub record AddsUnread (heading piece : List Token) (behind : Place) (names : List (List ℕ)) (units : List ModuleUnit) (unread : List Unread) (new_names : List (List ℕ)) (new_units : List ModuleUnit) (new_unread : List Unread) : Type 0 where
+  pub brings_none : brought piece ≡ None
   pub why : LoadWhy
-  pub is_refused : RefusedFor (alone heading piece behind) why
-  pub same : new ≡ units
-  pub added : others ≡ unread ++ unread_as piece why ∷ []
+  pub is_refused : RefusedFor (alone heading (readable piece) behind) why
+  pub added : new_unread ≡ unread ++ unread_as piece why ∷ []
+  pub names_same : new_names ≡ names
+  pub units_same : new_units ≡ units
 
-abbrev pub Adds : List Token → List Token → Place → List ModuleUnit → List Unread → List ModuleUnit → List Unread → Type 0
-Adds heading piece behind units unread new others =
-    AddsUnits heading piece behind units unread new others ⊎ AddsUnread heading piece behind units unread new others
+-- one of both
+abbrev pub AddsRead : List Token → List Token → Place → List (List ℕ) → List ModuleUnit → List Unread → List (List ℕ) → List ModuleUnit → List Unread → Type 0
+AddsRead heading piece behind names units unread new_names new_units new_unread =
+    AddsUnits heading piece behind names units unread new_names new_units new_unread
+    ⊎ AddsUnread heading piece behind names units unread new_names new_units new_unread
 
--- the module of a heading, with the units of the pieces behind it
+abbrev pub Adds : List Token → List Token → Place → List (List ℕ) → List ModuleUnit → List Unread → List (List ℕ) → List ModuleUnit → List Unread → Type 0
+Adds heading piece behind names units unread new_names new_units new_unread =
+    AddsName piece names units unread new_names new_units new_unread ⊎ AddsRead heading piece behind names units unread new_names new_units new_unread
+
+-- the module of a heading, with what the pieces behind it bring and their units
 pub record IsBehind (heading rest : List Token) (equals : Place) (title m : Module) (unread : List Unread) : Type 0 where
+  pub names : List (List ℕ)
   pub units : List ModuleUnit
-  pub read : ReadBody heading equals rest units unread
-  pub same : m ≡ with_units title units
+  pub read : ReadBody heading equals rest names units unread
+  pub same : m ≡ with_pieces title names units
 
 -- no module is read of these tokens before equals signs
 abbrev pub IsUnparted : List Token → Place → Type 0

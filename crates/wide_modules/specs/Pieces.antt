@@ -1,21 +1,15 @@
--- A module in pieces: each is read alone, or it is unread.
-use Rattle.std.specs.Prelude.{◌≡◌, false, List, [], ◌∷◌, ◌++◌}
+-- A module in pieces: each brings a module, is read alone, or is unread.
+use Rattle.std.specs.Prelude.{◌≡◌, ℕ, false, List, [], ◌∷◌, ◌++◌, Some, None}
 use Rattle.trace_base.specs.declared.place.Place.{Place}
 use Rattle.tla_tokens.specs.declared.token.Token.{Token}
 use Rattle.tla_ast.specs.declared.module.Module.{Module}
 use Rattle.tla_ast.specs.declared.module.Unit.{Unit as ModuleUnit}
-use Rattle.module_pieces.specs.declared.mark.Mark.{Mark}
-use Rattle.module_pieces.specs.declared.mark.Mark.TheVariants.{Other}
-use Rattle.module_pieces.specs.Marks.{mark_of}
 use Rattle.module_pieces.specs.Names.{names_of}
 use Rattle.module_pieces.specs.Pieces.{ArePieces, IsHeading, has_module, joined}
 use Rattle.tla_modules.specs.declared.fault.LoadWhy.{LoadWhy}
 use Rattle.wide_modules.specs.declared.unread.Unread.{Unread}
 use Rattle.wide_modules.specs.Alone.{ReadAs, RefusedFor, alone, ending, first_place}
-
-abbrev pub first_mark : List Token → Mark
-first_mark [] = Other
-first_mark (t ∷ ts) = mark_of t
+use Rattle.wide_modules.specs.Forms.{brought, first_mark, readable}
 
 -- where it begins; a piece has a token
 abbrev pub begins_at : List Token → Place
@@ -26,22 +20,28 @@ begins_at (t ∷ ts) = t.place
 abbrev pub unread_as : List Token → LoadWhy → Unread
 unread_as piece why = record { begins = first_mark piece; at = begins_at piece; names = names_of piece; why = why }
 
--- of the pieces of a module, whose equals signs stand at `last`: the units of those that are read, and those that are unread
-pub data EachRead (heading : List Token) (last : Place) : List (List Token) → List ModuleUnit → List Unread → Type 0 where
-  none_left : EachRead heading last [] [] []
-  is_read : (piece : List Token) (pieces : List (List Token)) (m : Module) (units : List ModuleUnit) (unread : List Unread)
-      → ReadAs (alone heading piece (first_place (joined pieces) last)) m → EachRead heading last pieces units unread
-      → EachRead heading last (piece ∷ pieces) (m.units ++ units) unread
-  is_unread : (piece : List Token) (pieces : List (List Token)) (why : LoadWhy) (units : List ModuleUnit) (unread : List Unread)
-      → RefusedFor (alone heading piece (first_place (joined pieces) last)) why → EachRead heading last pieces units unread
-      → EachRead heading last (piece ∷ pieces) units (unread_as piece why ∷ unread)
+-- of the pieces of a module, whose equals signs stand at `last`: the modules that they bring, the units of those that are read, and those that
+-- are unread
+pub data EachRead (heading : List Token) (last : Place) : List (List Token) → List (List ℕ) → List ModuleUnit → List Unread → Type 0 where
+  none_left : EachRead heading last [] [] [] []
+  is_brought : (piece : List Token) (pieces : List (List Token)) (name : List ℕ) (names : List (List ℕ)) (units : List ModuleUnit) (unread : List Unread)
+      → brought piece ≡ Some name → EachRead heading last pieces names units unread
+      → EachRead heading last (piece ∷ pieces) (name ∷ names) units unread
+  is_read : (piece : List Token) (pieces : List (List Token)) (m : Module) (names : List (List ℕ)) (units : List ModuleUnit) (unread : List Unread)
+      → brought piece ≡ None → ReadAs (alone heading (readable piece) (first_place (joined pieces) last)) m
+      → EachRead heading last pieces names units unread
+      → EachRead heading last (piece ∷ pieces) names (m.units ++ units) unread
+  is_unread : (piece : List Token) (pieces : List (List Token)) (why : LoadWhy) (names : List (List ℕ)) (units : List ModuleUnit) (unread : List Unread)
+      → brought piece ≡ None → RefusedFor (alone heading (readable piece) (first_place (joined pieces) last)) why
+      → EachRead heading last pieces names units unread
+      → EachRead heading last (piece ∷ pieces) names units (unread_as piece why ∷ unread)
 
--- a module with units behind its own
-abbrev pub with_units : Module → List ModuleUnit → Module
-with_units m units = record { name = m.name; at = m.at; extends = m.extends; units = m.units ++ units }
+-- a module that extends these too, behind its own, and has units behind its own
+abbrev pub with_pieces : Module → List (List ℕ) → List ModuleUnit → Module
+with_pieces m names units = record { name = m.name; at = m.at; extends = m.extends ++ names; units = m.units ++ units }
 
 -- The tokens of a module before its equals signs, which stand at this place, are a heading, which is read alone, and pieces. The module has
--- the heading's name and what it extends, and the units of the pieces that are read.
+-- the heading's name, extends what the heading says and then what the pieces bring, and has the units of the pieces that are read.
 pub record Parted (body : List Token) (equals : Place) (m : Module) (unread : List Unread) : Type 0 where
   pub heading : List Token
   pub pieces : List (List Token)
@@ -50,9 +50,10 @@ pub record Parted (body : List Token) (equals : Place) (m : Module) (unread : Li
   pub parted : ArePieces pieces
   pub title : Module
   pub titled : ReadAs (alone heading [] (first_place (joined pieces) equals)) title
+  pub names : List (List ℕ)
   pub units : List ModuleUnit
-  pub each : EachRead heading equals pieces units unread
-  pub same : m ≡ with_units title units
+  pub each : EachRead heading equals pieces names units unread
+  pub same : m ≡ with_pieces title names units
 
 -- The tokens of a module are such, and equals signs with the End behind them. No module stands inside it: the text of the outer one would end
 -- with the inner one's equals signs.

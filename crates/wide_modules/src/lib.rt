@@ -1,8 +1,10 @@
 //! Modules in which what can not be read is passed over, a unit at a time: a proof, an operator of the language that this project has not.
-//! Only a module that is refused as a whole is read so.
+//! LOCAL is left away there, and an instance of a standard module without a name is as if it stood under EXTENDS. Only a module that is
+//! refused as a whole is read so.
 #![tactic(auto)]
 
 mod alone;
+mod forms;
 mod laws;
 mod loading;
 mod parted;

@@ -1,12 +1,14 @@
 //! The pieces of a module, read one by one.
 
-ghost use Rattle.std.specs.Prelude.{◌≡◌, true, false, IfOk, OnOk, MatchOption};
+ghost use Rattle.std.specs.Prelude.{◌≡◌, ◌++◌, true, false, None, IfOk, OnOk, MatchOption};
 ghost use Rattle.tla_ast.specs.Laid.{EndsOnce, NoEnd};
 ghost use Rattle.wide_modules.specs.Alone.{first_place};
-ghost use Rattle.wide_modules.specs.Parts.{Adds, HasNoPieces, IsBehind, IsUnparted, ReadBody, are_ending};
+ghost use Rattle.wide_modules.specs.Forms.{brought};
+ghost use Rattle.wide_modules.specs.Parts.{Adds, AddsRead, HasNoPieces, IsBehind, IsUnparted, ReadBody, are_ending};
 ghost use Rattle.wide_modules.specs.Pieces.{InPieces, Parted};
 
 use crate::alone::{read_alone, read_heading};
+use crate::forms::{brought, readable};
 use crate::unread::{Unread, unread_as};
 use module_pieces::{heading_length, is_nested, one_parting, piece_length};
 use std::alloc::{AllocError, Global};
@@ -14,7 +16,7 @@ use tla_ast::{Module, Units, laws_of_laid};
 use tla_modules::{SpelledModule, Stop};
 use tla_tokens::{Kind, Token};
 use tla_units::shallow_not_refused;
-use trace_base::{NoMemory, Place};
+use trace_base::{Names, NoMemory, Place, Text};
 
 /// The place of the first of the tokens, or that behind them.
 fn first_place(tokens: &[Token], behind: Place) -> Place
@@ -26,29 +28,60 @@ fn first_place(tokens: &[Token], behind: Place) -> Place
     }
 }
 
+/// What is read behind a heading.
+#[derive(Drop)]
+struct Body {
+    /// The modules that pieces bring.
+    extends: Names,
+    units: Units,
+    unread: Vec<Unread>,
+}
+
 /// Reads a piece, and adds its units, or adds it to those that are not read.
 fn read_piece(
     alloc: Global,
     heading: &[Token],
     piece: &[Token],
     behind: Place,
-    units: &mut Units,
-    unread: &mut Vec<Unread>,
+    body: &mut Body,
 ) -> Result<(), NoMemory>
     requires heading { NoEnd heading.now }
     requires piece { NoEnd piece.now }
-    ensures { OnOk result (Adds heading.now piece.now behind units.old unread.old.items units.new unread.new.items) }
+    requires brings_none { brought piece.now ≡ None }
+    ensures { OnOk result (AddsRead heading.now piece.now behind body.old.extends body.old.units body.old.unread.items body.new.extends body.new.units body.new.unread.items) }
 {
-    match read_alone(alloc, heading, piece, behind) {
+    match read_alone(alloc, heading, readable(piece), behind) {
         Ok(module) => {
-            units.append(module.units)?;
+            body.units.append(module.units)?;
             Ok(())
         }
         Err(Stop::Refused(why)) => {
-            unread.push(unread_as(alloc, piece, why)?)?;
+            body.unread.push(unread_as(alloc, piece, why)?)?;
             Ok(())
         }
         Err(Stop::NoMemory) => Err(AllocError),
+    }
+}
+
+/// Adds the module that a piece brings, or reads the piece.
+fn add_piece(
+    alloc: Global,
+    heading: &[Token],
+    piece: &[Token],
+    behind: Place,
+    body: &mut Body,
+) -> Result<(), NoMemory>
+    requires heading { NoEnd heading.now }
+    requires piece { NoEnd piece.now }
+    ensures { OnOk result (Adds heading.now piece.now behind body.old.extends body.old.units body.old.unread.items body.new.extends body.new.units body.new.unread.items) }
+{
+    let brought = brought(piece)?;
+    match brought {
+        Some(name) => {
+            body.extends.push(name)?;
+            Ok(())
+        }
+        None => read_piece(alloc, heading, piece, behind, body),
     }
 }
 
@@ -56,23 +89,36 @@ fn read_piece(
 fn read_pieces(
     alloc: Global,
     heading: &[Token],
-    body: &[Token],
+    tokens: &[Token],
     last: Place,
-) -> Result<(Units, Vec<Unread>), NoMemory>
+) -> Result<Body, NoMemory>
     requires heading { NoEnd heading.now }
-    requires body { NoEnd body.now }
-    ensures { IfOk result (λ r. ReadBody heading.now last body.now r.0 r.1.items) }
+    requires body { NoEnd tokens.now }
+    ensures { IfOk result (λ r. ReadBody heading.now last tokens.now r.extends r.units r.unread.items) }
 {
-    let mut units = Units::new(alloc);
-    let mut unread = Vec::new(alloc);
-    let mut rest = body;
+    let mut body = Body {
+        extends: Names::new(alloc),
+        units: Units::new(alloc),
+        unread: Vec::new(alloc),
+    };
+    let mut rest = tokens;
     while let Some(size) = piece_length(rest) {
         let (piece, behind) = rest.split_at(size);
         let place = first_place(behind, last);
-        read_piece(alloc, heading, piece, place, &mut units, &mut unread)?;
+        add_piece(alloc, heading, piece, place, &mut body)?;
         rest = behind;
     }
-    Ok((units, unread))
+    Ok(body)
+}
+
+/// Adds names behind others.
+fn add_names(names: &mut Names, more: &[Text]) -> Result<(), NoMemory>
+    ensures { OnOk result (names.new ≡ names.old ++ more.now) }
+{
+    for name in more {
+        names.push(name.copy()?)?;
+    }
+    Ok(())
 }
 
 /// Reads the pieces behind a heading that was read.
@@ -87,12 +133,13 @@ fn read_behind(
     requires body { NoEnd rest.now }
     ensures { IfOk result (λ w. IsBehind heading.now rest.now equals title w.module w.notes.items) }
 {
-    let (units, unread) = read_pieces(alloc, heading, rest, equals)?;
+    let body = read_pieces(alloc, heading, rest, equals)?;
     let mut module = title;
-    module.units.append(units)?;
+    add_names(&mut module.extends, body.extends.items())?;
+    module.units.append(body.units)?;
     Ok(SpelledModule {
         module,
-        notes: unread,
+        notes: body.unread,
     })
 }
 

@@ -1,7 +1,8 @@
 //! What is not read of a module.
 
 ghost use Rattle.std.specs.Prelude.{◌≡◌, IfOk};
-ghost use Rattle.wide_modules.specs.Pieces.{begins_at, first_mark, unread_as};
+ghost use Rattle.wide_modules.specs.Forms.{first_mark};
+ghost use Rattle.wide_modules.specs.Pieces.{begins_at, unread_as};
 
 use module_pieces::{Mark, mark_of, names_of};
 use std::alloc::Global;
@@ -21,7 +22,8 @@ pub struct Unread {
     pub why: LoadWhy,
 }
 
-fn first_mark(piece: &[Token]) -> Mark
+/// What the tokens begin with.
+pub(crate) fn first_mark(piece: &[Token]) -> Mark
     ensures { result ≡ first_mark piece.now }
 {
     match piece {

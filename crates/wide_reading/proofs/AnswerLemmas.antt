@@ -4,14 +4,17 @@ use Rattle.std.specs.Prelude.{Bool, true, false, ◌==◌, IfErr, IfOk, Option, 
 use Rattle.std.proofs.lemmas.Bool.{cases_order}
 use Rattle.std.proofs.lemmas.Bool.Decides.{Decides-eqb}
 use Rattle.tla_ast.specs.declared.config.Config.{Config}
+use Rattle.tla_ast.specs.declared.module.Declared.{Declared}
 use Rattle.tla_ast.specs.declared.module.Program.{Program}
 use Rattle.tla_ast.specs.declared.module.Unit.{Unit as ModuleUnit}
 use Rattle.tla_terms.specs.declared.spec.Spec.{Spec}
 use Rattle.tla_levels.specs.declared.fault.ResolveFault.{ResolveFault}
 use Rattle.tla_modules.specs.declared.notes.Noted.{Noted}
 use Rattle.specification_names.specs.Resolving.{ResolvedWide}
+use Rattle.tla_program.specs.InUnits.{variables_in}
 use Rattle.wide_config.specs.Wide.{also_told}
 use Rattle.wide_modules.specs.declared.unread.Unread.{Unread}
+use Rattle.tlc_calls.specs.Programs.{spelled_out}
 use Rattle.wide_trees.specs.declared.program.PrunedProgram.{PrunedProgram}
 use Rattle.wide_trees.specs.Needed.{needed_names}
 use Rattle.wide_trees.specs.Pruning.{Alone, NeedsBad, NoneIsAsked, Pruned}
@@ -24,7 +27,7 @@ use Rattle.wide_reading.specs.Lines.{passed_lines}
 use Rattle.wide_reading.specs.Needing.{names_unread}
 use Rattle.wide_reading.specs.Parts.{IsAloneOf, IsAsItStands, IsFirstAsking, IsFirstUnread, IsGoodPart, IsRefusedSo, LeavesBy, RefusesLeft, ResolvesLeft, good, is_refused, needed, resolves}
 use Rattle.wide_reading.proofs.AskingLemmas.{true_or_false}
-use Rattle.wide_reading.specs.Passing.{IsNotWhole, Leaves, Passes, goes_on, is_whole, needed_alone, needed_alone_of_it, telling, without_bad, without_word}
+use Rattle.wide_reading.specs.Passing.{IsNotWhole, Leaves, Passes, goes_on, is_whole, needed_alone, needed_alone_of_it, spelled, telling, without_bad, without_word}
 
 abbrev Answer : Type 0
 Answer = Result Resolution ResolutionFault
@@ -193,23 +196,38 @@ module _ (p : Program) (c : Config) (asked : Asked) (silent : Option (List ℕ))
       subst (λ (o : List ModuleUnit). Leaves p c silent unread q o) (sym alone.all)
       (needed_alone q alone.rest (as_asked (λ u r. NeedsBad p c u r) bad) (as_asked (λ u r. Alone p c u r q alone.rest) alone.alone))
 
-  module _ (not_whole : IsNotWhole p c silent unread) (none : NoneIsAsked p c (names_unread unread) asked.roots) where
-    none_needed : NoneIsAsked p c (names_unread unread) (needed_names c silent)
-    none_needed = subst (λ (ns : List (List ℕ)). NoneIsAsked p c (names_unread unread) ns) roots none
+  -- where this is another program with calls spelled out
+  module _ (o : Program) (is_spelled : p ≡ spelled o c unread) (not_whole : IsNotWhole o c silent unread) (none : NoneIsAsked p c (names_unread unread) asked.roots) where
+    none_needed : NoneIsAsked (spelled o c unread) c (names_unread unread) (needed_names c silent)
+    none_needed =
+        subst (λ (x : Program). NoneIsAsked x c (names_unread unread) (needed_names c silent)) is_spelled
+        (subst (λ (ns : List (List ℕ)). NoneIsAsked p c (names_unread unread) ns) roots none)
 
     passed : (q : Program) (d : Config) (over : List ModuleUnit) → LeavesBy p c asked silent unread q over → d ≡ also_told (passed_lines p.files unread over) c
-        → Passes p c silent unread true q d
-    passed q d over h told = subst (λ (x : Config). Passes p c silent unread true q x) (sym told) (goes_on q over not_whole none_needed (leaves q over h))
+        → Passes o c silent unread true q d
+    passed q d over h told =
+        let same_files : p.files ≡ o.files = ap (λ (x : Program). x.files) is_spelled in
+        let is : d ≡ telling o unread over c = told ∙ ap (λ (fs : List (List ℕ)). also_told (passed_lines fs unread over) c) same_files in
+        subst (λ (x : Config). Passes o c silent unread true q x) (sym is)
+        (goes_on q over not_whole none_needed (subst (λ (x : Program). Leaves x c silent unread q over) is_spelled (leaves q over h)))
 
-    pub accepted_left : (r : Answer) → IfOk r (ResolvesLeft (LeavesBy p c asked silent unread) p.files c silent unread) → IfOk r (IsResolution true p c silent unread)
+    pub accepted_left : (r : Answer) → IfOk r (ResolvesLeft (LeavesBy p c asked silent unread) p.files c silent unread) → IfOk r (IsResolution true o c silent unread)
     accepted_left (Ok r) h = record { passes = passed r.program r.config h.over h.left h.told; resolved = h.resolved }
     accepted_left (Err f) h = tt
 
-    pub refused_left : (r : Answer) → IfErr r (RefusesLeft (LeavesBy p c asked silent unread) p.files c silent unread) → IfErr r (IsResolutionFault true p c silent unread)
+    pub refused_left : (r : Answer) → IfErr r (RefusesLeft (LeavesBy p c asked silent unread) p.files c silent unread) → IfErr r (IsResolutionFault true o c silent unread)
     refused_left (Ok r) h = tt
     refused_left (Err (Names q d fault)) h = (passed q d h.over h.left h.told, h.refused)
     refused_left (Err (Piece index root)) h = absurd h
     refused_left (Err NoMemory) h = tt
+
+-- by the names in hand
+pub is_spelled_by : (p : Program) (c : Config) (q : Program) (asked : Asked) (unread : List (Noted Unread)) → q ≡ spelled_out p c asked.unread → asked.unread ≡ names_unread unread
+    → q ≡ spelled p c unread
+is_spelled_by p c q asked unread is names = is ∙ ap (λ (ns : List (List ℕ)). spelled_out p c ns) names
+
+pub few_spelled : (p q : Program) → variables_in q.units ≡ variables_in p.units → length (variables_in p.units) ≤ 64 → length (variables_in q.units) ≤ 64
+few_spelled p q same few = subst (λ (ds : List Declared). length ds ≤ 64) (sym same) few
 
 -- ---- programs with many variables, and what is whole
 
@@ -233,11 +251,11 @@ module _ (p : Program) (c : Config) (silent : Option (List ℕ)) (unread : List 
 
   -- ---- a piece that is needed
 
-  pub piece_needed : (roots : List (List ℕ)) → roots ≡ needed_names c silent → IsNotWhole p c silent unread → (index : ℕ) (name root : List ℕ)
-      → IsFirstUnread p c roots unread index name → IsFirstAsking p c roots name root → NeedsPiece p c silent unread index root
-  piece_needed roots same not_whole index name root h k =
-      let first = subst (λ (ns : List (List ℕ)). IsFirstUnread p c ns unread index name) same h in
-      let asking = subst (λ (ns : List (List ℕ)). IsFirstAsking p c ns name root) same k in
+  pub piece_needed : (q : Program) → q ≡ spelled p c unread → (roots : List (List ℕ)) → roots ≡ needed_names c silent → IsNotWhole p c silent unread → (index : ℕ) (name root : List ℕ)
+      → IsFirstUnread q c roots unread index name → IsFirstAsking q c roots name root → NeedsPiece p c silent unread index root
+  piece_needed q is_spelled roots same not_whole index name root h k =
+      let first = subst (λ (x : Program). IsFirstUnread x c (needed_names c silent) unread index name) is_spelled (subst (λ (ns : List (List ℕ)). IsFirstUnread q c ns unread index name) same h) in
+      let asking = subst (λ (x : Program). IsFirstAsking x c (needed_names c silent) name root) is_spelled (subst (λ (ns : List (List ℕ)). IsFirstAsking q c ns name root) same k) in
       record {
         not_whole = not_whole;
         piece = first.piece;

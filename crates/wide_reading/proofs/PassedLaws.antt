@@ -12,7 +12,7 @@ use Rattle.module_pieces.specs.declared.mark.Mark.{Mark}
 use Rattle.module_pieces.specs.declared.mark.Mark.TheVariants.{Declare, Assume, Local, Instance, Name}
 use Rattle.tla_modules.specs.declared.notes.Noted.{Noted}
 use Rattle.unchecked_laws.specs.Laws.{HasNoFeed}
-use Rattle.pruned_laws.specs.Laws.{LeftIsWellFormed}
+use Rattle.pruned_laws.specs.Laws.{LeftIsWellFormed, SpelledIsWellFormed}
 use Rattle.run_texts.specs.Places.{at_place, detail}
 use Rattle.resolved_laws.specs.InOrder.{IsWellFormed}
 use Rattle.wide_modules.specs.declared.unread.Unread.{Unread}
@@ -23,7 +23,7 @@ use Rattle.wide_trees.specs.Told.{told}
 use Rattle.wide_reading.specs.Laws.{PassedAreLines, PassedAreSpelled, PassedAreWellFormed, PassedHaveFiles, PassedHaveOneForm}
 use Rattle.wide_reading.specs.Lines.{has_feed, in_one_line, is_silent, named_line, named_lines, over_line, passed_lines, piece_lines, placed_line, unread_lines, word_of}
 use Rattle.wide_reading.specs.Needing.{names_unread}
-use Rattle.wide_reading.specs.Passing.{Leaves, goes_on, has_many, is_whole, needed_alone, needed_alone_of_it, without_bad, without_word}
+use Rattle.wide_reading.specs.Passing.{Leaves, goes_on, has_many, is_whole, needed_alone, needed_alone_of_it, spelled, without_bad, without_word}
 
 -- ---- programs
 
@@ -34,11 +34,12 @@ left_formed law p c silent unread _ _ (needed_alone q over bad alone) h = law p 
 left_formed law p c silent unread _ _ (needed_alone_of_it r q gone over fault pruned refused alone) h =
     law r c (names_unread unread) (needed_names c silent) q over (inr alone) (law p c (names_unread unread) (needed_names c silent) r gone (inl pruned) h)
 
-pub well_formed : LeftIsWellFormed → PassedAreWellFormed
-well_formed law _ p _ c _ silent unread without_word h = h
-well_formed law _ p _ c _ silent unread (is_whole s none resolved) h = h
-well_formed law _ p _ c _ silent unread (has_many more) h = h
-well_formed law _ p _ c _ silent unread (goes_on q over not_whole none leaves) h = left_formed law p c silent unread q over leaves h
+pub well_formed : LeftIsWellFormed → SpelledIsWellFormed → PassedAreWellFormed
+well_formed law spells _ p _ c _ silent unread without_word h = h
+well_formed law spells _ p _ c _ silent unread (is_whole s none resolved) h = h
+well_formed law spells _ p _ c _ silent unread (has_many more) h = h
+well_formed law spells _ p _ c _ silent unread (goes_on q over not_whole none leaves) h =
+    left_formed law (spelled p c unread) c silent unread q over leaves (spells p c (names_unread unread) h)
 
 left_files : (p : Program) (c : Config) (silent : Option (List ℕ)) (unread : List (Noted Unread)) (q : Program) (over : List ModuleUnit)
     → Leaves p c silent unread q over → q.files ≡ p.files
@@ -50,15 +51,15 @@ pub files_are : PassedHaveFiles
 files_are _ p _ c _ silent unread without_word = (refl, refl)
 files_are _ p _ c _ silent unread (is_whole s none resolved) = (refl, refl)
 files_are _ p _ c _ silent unread (has_many more) = (refl, refl)
-files_are _ p _ c _ silent unread (goes_on q over not_whole none leaves) = (left_files p c silent unread q over leaves, refl)
+files_are _ p _ c _ silent unread (goes_on q over not_whole none leaves) = (left_files (spelled p c unread) c silent unread q over leaves, refl)
 
 -- ---- configurations
 
-pub spelled : PassedAreSpelled
-spelled _ p _ c _ silent unread without_word h = h
-spelled _ p _ c _ silent unread (is_whole s none resolved) h = h
-spelled _ p _ c _ silent unread (has_many more) h = h
-spelled _ p _ c _ silent unread (goes_on q over not_whole none leaves) h = h
+pub values_are : PassedAreSpelled
+values_are _ p _ c _ silent unread without_word h = h
+values_are _ p _ c _ silent unread (is_whole s none resolved) h = h
+values_are _ p _ c _ silent unread (has_many more) h = h
+values_are _ p _ c _ silent unread (goes_on q over not_whole none leaves) h = h
 
 pub one_form : PassedHaveOneForm
 one_form _ p _ c _ silent unread without_word h = h

@@ -9,16 +9,16 @@ use Rattle.wide_reading.specs.declared.resolution.Resolution.{Resolution}
 use Rattle.wide_reading.specs.declared.resolution.ResolutionFault.{ResolutionFault}
 use Rattle.wide_reading.specs.declared.resolution.ResolutionFault.TheVariants.{Names, Piece, NoMemory}
 use Rattle.wide_reading.specs.Needing.{IsFirstNeeded, IsNeededBy}
-use Rattle.wide_reading.specs.Passing.{IsNotWhole, Passes}
+use Rattle.wide_reading.specs.Passing.{IsNotWhole, Passes, spelled}
 
 -- the piece of that index was not read and is needed, by that name
 pub record NeedsPiece (p : Program) (c : Config) (silent : Option (List ℕ)) (unread : List (Noted Unread)) (index : ℕ) (root : List ℕ) : Type 0 where
   pub not_whole : IsNotWhole p c silent unread
   pub piece : Noted Unread
   pub name : List ℕ
-  pub needed : IsFirstNeeded p c silent unread piece name
+  pub needed : IsFirstNeeded (spelled p c unread) c silent unread piece name
   pub stands : slice_get unread index ≡ Some piece
-  pub needed_by : IsNeededBy p c silent name root
+  pub needed_by : IsNeededBy (spelled p c unread) c silent name root
 
 -- the program and the configuration that are resolved, and their specification
 pub record IsResolution (wide : Bool) (p : Program) (c : Config) (silent : Option (List ℕ)) (unread : List (Noted Unread)) (r : Resolution) : Type 0 where

@@ -1,5 +1,5 @@
 -- With the word `--wide`: which program and which configuration are resolved. A program of which all was read and that resolves stays as it is, so that
--- nothing changes for what is accepted so. Else:
+-- nothing changes for what is accepted so. Else calls of TLC's operators for assertions and for printing are spelled out in it, and of that program:
 --
 -- 1. Nothing that was not read may be needed.
 -- 2. What is bad goes, and what is left is resolved.
@@ -17,6 +17,7 @@ use Rattle.tla_program.specs.InUnits.{variables_in}
 use Rattle.tla_terms.specs.declared.spec.Spec.{Spec}
 use Rattle.tla_levels.specs.declared.fault.ResolveFault.{ResolveFault}
 use Rattle.specification_names.specs.Resolving.{ResolvedWide}
+use Rattle.tlc_calls.specs.Programs.{spelled_out}
 use Rattle.wide_trees.specs.Needed.{needed_names}
 use Rattle.wide_trees.specs.Pruning.{Alone, NeedsBad, NoneIsAsked, Pruned}
 use Rattle.wide_reading.specs.Lines.{passed_lines}
@@ -25,6 +26,10 @@ use Rattle.wide_reading.specs.Needing.{names_unread}
 -- the configuration, with what is told of what goes
 abbrev pub telling : Program → List (Noted Unread) → List ModuleUnit → Config → Config
 telling p unread over c = also_told (passed_lines p.files unread over) c
+
+-- the program with those calls spelled out
+abbrev pub spelled : Program → Config → List (Noted Unread) → Program
+spelled p c unread = spelled_out p c (names_unread unread)
 
 -- a piece was not read, or the program is refused; programs with too many variables are refused as ever
 pub record IsNotWhole (p : Program) (c : Config) (silent : Option (List ℕ)) (unread : List (Noted Unread)) : Type 0 where
@@ -46,5 +51,5 @@ pub data Passes (p : Program) (c : Config) (silent : Option (List ℕ)) (unread 
   without_word : Passes p c silent unread false p c
   is_whole : (s : Spec) → unread ≡ [] → ResolvedWide p c silent (Ok s) → Passes p c silent unread true p c
   has_many : 64 < length (variables_in p.units) → Passes p c silent unread true p c
-  goes_on : (q : Program) (over : List ModuleUnit) → IsNotWhole p c silent unread → NoneIsAsked p c (names_unread unread) (needed_names c silent)
-      → Leaves p c silent unread q over → Passes p c silent unread true q (telling p unread over c)
+  goes_on : (q : Program) (over : List ModuleUnit) → IsNotWhole p c silent unread → NoneIsAsked (spelled p c unread) c (names_unread unread) (needed_names c silent)
+      → Leaves (spelled p c unread) c silent unread q over → Passes p c silent unread true q (telling p unread over c)

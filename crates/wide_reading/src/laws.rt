@@ -1,6 +1,6 @@
 ghost use Rattle.wide_reading.specs.Laws.{PassedAreLines, PassedAreSpelled, PassedAreWellFormed, PassedHaveFiles, PassedHaveOneForm};
 
-use pruned_laws::left_is_well_formed;
+use pruned_laws::{left_is_well_formed, spelled_is_well_formed};
 
 /// What `resolve_read` makes of a program and a configuration is as `resolve` asks for where they are, and speaks of the same files. Each thing that is
 /// passed over is one line of the report.
@@ -12,4 +12,5 @@ pub fn passing_laws()
     ensures lines { PassedAreLines }
 {
     left_is_well_formed();
+    spelled_is_well_formed();
 }

@@ -6,15 +6,17 @@ ghost use Rattle.tla_tables.specs.Values.{AreSpelled};
 ghost use Rattle.tla_levels.specs.Resolved.{IsOneForm};
 ghost use Rattle.tla_levels.specs.declared.fault.ResolveFault.{ResolveFault};
 ghost use Rattle.specification_names.specs.Resolving.{ResolvedWide};
+ghost use Rattle.tlc_calls.specs.Programs.{spelled_out};
 ghost use Rattle.wide_reading.specs.Answers.{IsResolution, IsResolutionFault};
 
 use crate::leaving::left_part;
-use crate::needing::{first_needed, names_asked, needed_by};
+use crate::needing::{Asked, first_needed, names_asked, needed_by};
 use crate::resolution::{Resolution, ResolutionFault, as_it_stands};
 use std::alloc::Global;
 use tla_ast::{Config, Program};
 use tla_modules::{Noted, Notes};
 use tla_program::variables;
+use tlc_calls::{spelled_out, spelling_laws};
 use trace_base::{NoMemory, Text};
 use wide_modules::Unread;
 
@@ -24,6 +26,20 @@ fn has_few(alloc: Global, program: &Program) -> Result<bool, NoMemory>
 {
     let variables = variables(alloc, &program.units)?;
     Ok(variables.len() <= 64)
+}
+
+/// The program with calls of TLC's operators spelled out.
+fn spelled_by(
+    alloc: Global,
+    program: Program,
+    config: &Config,
+    asked: &Asked,
+) -> Result<Program, NoMemory>
+    ensures spelled { IfOk result (λ p. p ≡ spelled_out program config.now asked.now.unread) }
+    ensures variables { IfOk result (λ p. variables_in p.units ≡ variables_in program.units) }
+{
+    spelling_laws();
+    spelled_out(alloc, program, config, asked.unread.items())
 }
 
 /// The specification of a program of which a piece was not read or which is refused as it stands.
@@ -45,17 +61,18 @@ fn with_less(
         return as_it_stands(alloc, true, silent, program, config);
     }
     let asked = names_asked(alloc, &config, silent, unread)?;
-    let needed = first_needed(alloc, &program, &config, unread, &asked)?;
+    let spelled = spelled_by(alloc, program, &config, &asked)?;
+    let needed = first_needed(alloc, &spelled, &config, unread, &asked)?;
     match needed {
         Some((index, name)) => {
-            let root = needed_by(alloc, &program, &config, asked.roots.items(), name)?;
+            let root = needed_by(alloc, &spelled, &config, asked.roots.items(), name)?;
             Err(ResolutionFault::Piece(index, root))
         }
-        None => left_part(alloc, silent, program, config, unread, &asked),
+        None => left_part(alloc, silent, spelled, config, unread, &asked),
     }
 }
 
-/// The specification of a program as it stands where all of it was read, and else with what no step needs passed over.
+/// The specification of a program as it stands where all of it was read, and else with calls spelled out and what no step needs passed over.
 fn resolve_wide(
     alloc: Global,
     silent: Option<&Text>,
@@ -85,8 +102,8 @@ fn resolve_wide(
 }
 
 /// The specification of a program with its configuration, and what was resolved. Without the word `--wide` they are resolved as they stand. With it,
-/// where a piece of a module was not read or they are refused as they stand, what no step needs is passed over, and told behind all else that the
-/// configuration leaves unchecked. `unread` are the pieces that were not read, of which none may be needed.
+/// where a piece of a module was not read or they are refused as they stand, calls of TLC's operators for assertions and for printing are spelled out. What
+/// no step needs then is passed over, and told behind all else that the configuration leaves unchecked. `unread` are the pieces that were not read, of which none may be needed.
 ///
 /// Each value that the configuration writes is within the limits of values, and it has SPECIFICATION alone, or INIT and NEXT without it.
 pub fn resolve_read(

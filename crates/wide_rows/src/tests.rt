@@ -58,6 +58,19 @@ Next == LET d == 1 e(a) == a IN x' = d + e(2)
 INSTANCE M
 ====";
 
+/// What LOCAL stands before, and instances without a name.
+const BROUGHT: &str = "---- MODULE A ----
+EXTENDS Integers
+LOCAL INSTANCE Sequences
+VARIABLE x
+INSTANCE TLC
+LOCAL D == Len(<<x>>)
+LOCAL E == LAMBDA y : y
+INSTANCE M
+INSTANCE Naturals WITH x <- 1
+LOCAL F(n) == n
+====";
+
 /// A piece that is not finished.
 const UNFINISHED: &str = "---- MODULE A ----
 VARIABLE x
@@ -127,13 +140,43 @@ fn pieces_are_read(rt: HostRuntime) -> Result<(), Fail> {
     let rows = [
         (STEPS, "4 []"),
         (LEAVES, "5 [] [] [] []"),
-        (FOREIGN, "8 [N,F] [K] [Each] [Some] []"),
+        (FOREIGN, "9 [N,F] [Each] [Some] []"),
+        (BROUGHT, "3 [E] [] []"),
         (UNFINISHED, "3 [Init] [Last]"),
         (NO_COMMA, "P1 Expected"),
         (NESTED, "P4 OutOfProfile"),
     ];
     for (text, want) in rows {
         let found = told(rt.alloc(), text)?;
+        assert!(rt; found.as_str() == want, "{want}");
+    }
+    Ok(())
+}
+
+/// The modules that are extended.
+fn extended(alloc: Global, text: &str) -> Result<String, AllocError> {
+    if text.len() > 1_048_576 {
+        return Err(AllocError);
+    }
+    match read_wide(alloc, 0, text.as_bytes()) {
+        Ok(read) => {
+            let mut told = String::new(alloc);
+            add_names(&mut told, &read.module.extends)?;
+            Ok(told)
+        }
+        Err(Stop::Refused(why)) => String::from_str(alloc, why.code()),
+        Err(Stop::NoMemory) => Err(AllocError),
+    }
+}
+
+#[test]
+fn standard_modules_are_brought(rt: HostRuntime) -> Result<(), Fail> {
+    let rows = [
+        (FOREIGN, " [Naturals]"),
+        (BROUGHT, " [Integers,Sequences,TLC]"),
+    ];
+    for (text, want) in rows {
+        let found = extended(rt.alloc(), text)?;
         assert!(rt; found.as_str() == want, "{want}");
     }
     Ok(())

@@ -5,7 +5,7 @@ use Rattle.wide_modules.proofs.parted.read_pieces.Given as goal
 
 abbrev pub invariant-loop-size : goal.invariant-loop-size
 invariant-loop-size l = record {
-  before : GoesBefore l.heading l.last l.body l.rest l.units l.unread.items;
+  before : GoesBefore l.heading l.last l.tokens l.rest l.body.extends l.body.units l.body.unread.items;
   ends : NoEnd l.rest;
 }
 

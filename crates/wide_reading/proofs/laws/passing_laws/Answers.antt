@@ -1,10 +1,10 @@
-use Rattle.wide_reading.proofs.PassedLaws.{files_are, lines_are, one_form, spelled, well_formed}
+use Rattle.wide_reading.proofs.PassedLaws.{files_are, lines_are, one_form, values_are, well_formed}
 use Rattle.wide_reading.proofs.laws.passing_laws.Goals as goal
 
 pub returns : goal.returns
 returns c = record {
-  well_formed = well_formed c.left_is_well_formed.ensures;
-  spelled = spelled;
+  well_formed = well_formed c.left_is_well_formed.ensures c.spelled_is_well_formed.ensures;
+  spelled = values_are;
   form = one_form;
   files = files_are;
   lines = lines_are;

@@ -7,7 +7,7 @@ use Rattle.wide_trees.specs.Pruning.{IsAskedFor, NoneIsAsked}
 use Rattle.wide_reading.specs.Needing.{names_unread}
 use Rattle.wide_reading.specs.Parts.{IsFirstAsking, IsFirstUnread}
 use Rattle.wide_reading.specs.Passing.{has_many}
-use Rattle.wide_reading.proofs.AnswerLemmas.{accepted_by, accepted_left, many, piece_needed, refused_by, refused_left}
+use Rattle.wide_reading.proofs.AnswerLemmas.{accepted_by, accepted_left, few_spelled, is_spelled_by, many, piece_needed, refused_by, refused_left}
 use Rattle.wide_reading.proofs.passing.with_less.Goals as goal
 
 pub returns-then-not-few-clause-accepted : goal.returns-then-not-few-clause-accepted
@@ -24,12 +24,24 @@ returns-then-not-few-clause-refused c =
     refused_by true program program config config (option_map (λ (n : Bor Text). n.now) c.args.silent) c.args.unread.now
     (has_many (many c.in_ok-few.few (length (variables_in program.units)) c.in_ok-few.ensures c.if-not-few.true)) c.as_it_stands.result c.as_it_stands.ensures.refused
 
+pub first_needed-requires-clause-few : goal.first_needed-requires-clause-few
+first_needed-requires-clause-few c =
+    few_spelled c.args.program c.in_ok-spelled.spelled c.in_ok-spelled.ensures.variables (c.in_ok-few.ensures.0 c.if-not-few.false)
+
+pub needed_by-requires-clause-few : goal.needed_by-requires-clause-few
+needed_by-requires-clause-few c =
+    few_spelled c.args.program c.in_ok-spelled.spelled c.in_ok-spelled.ensures.variables (c.in_ok-few.ensures.0 c.if-not-few.false)
+
+pub left_part-requires-clause-few : goal.left_part-requires-clause-few
+left_part-requires-clause-few c =
+    few_spelled c.args.program c.in_ok-spelled.spelled c.in_ok-spelled.ensures.variables (c.in_ok-few.ensures.0 c.if-not-few.false)
+
 pub first_needed-requires-clause-names : goal.first_needed-requires-clause-names
 first_needed-requires-clause-names c = c.in_ok-asked.ensures.unread
 
 pub needed_by-requires-clause-asked : goal.needed_by-requires-clause-asked
 needed_by-requires-clause-asked c =
-    let program = c.args.program in
+    let program = c.in_ok-spelled.spelled in
     let config = c.args.config in
     let name = c.in-Some.name.now in
     let first : IsFirstUnread program config c.in_ok-asked.asked.roots c.args.unread.now c.in-Some.index name = rw c.in-Some.is at c.in_ok-needed.ensures.exact in
@@ -37,7 +49,7 @@ needed_by-requires-clause-asked c =
 
 pub returns-in_ok-root-in-Some-clause-refused : goal.returns-in_ok-root-in-Some-clause-refused
 returns-in_ok-root-in-Some-clause-refused c =
-    let program = c.args.program in
+    let program = c.in_ok-spelled.spelled in
     let config = c.args.config in
     let unread = c.args.unread.now in
     let asked = c.in_ok-asked.asked in
@@ -46,27 +58,27 @@ returns-in_ok-root-in-Some-clause-refused c =
     let root = c.in_ok-root-in-Some.root in
     let first : IsFirstUnread program config asked.roots unread index name = rw c.in-Some.is at c.in_ok-needed.ensures.exact in (
       refl,
-      piece_needed program config (option_map (λ (n : Bor Text). n.now) c.args.silent) unread asked.roots c.in_ok-asked.ensures.roots
-          (record { few = c.in_ok-few.ensures.0 c.if-not-few.false; lacks = c.requires.lacks }) index name root first
+      piece_needed c.args.program config (option_map (λ (n : Bor Text). n.now) c.args.silent) unread program (is_spelled_by c.args.program config program asked unread c.in_ok-spelled.ensures.spelled c.in_ok-asked.ensures.unread) asked.roots
+          c.in_ok-asked.ensures.roots (record { few = c.in_ok-few.ensures.0 c.if-not-few.false; lacks = c.requires.lacks }) index name root first
           (subst (λ (rs : List (List ℕ)). IsFirstAsking program config rs name root) c.items.ensures c.in_ok-root-in-Some.ensures),
     )
 
 pub returns-in-None-clause-accepted : goal.returns-in-None-clause-accepted
 returns-in-None-clause-accepted c =
-    let program = c.args.program in
+    let program = c.in_ok-spelled.spelled in
     let config = c.args.config in
     let unread = c.args.unread.now in
     let asked = c.in_ok-asked.asked in
     let none : NoneIsAsked program config (names_unread unread) asked.roots = rw c.in-None.is at c.in_ok-needed.ensures.exact in
     accepted_left program config asked (option_map (λ (n : Bor Text). n.now) c.args.silent) unread c.in_ok-asked.ensures.roots c.in_ok-asked.ensures.unread
-    (record { few = c.in_ok-few.ensures.0 c.if-not-few.false; lacks = c.requires.lacks }) none c.left_part.result c.left_part.ensures.accepted
+    c.args.program (is_spelled_by c.args.program config program asked c.args.unread.now c.in_ok-spelled.ensures.spelled c.in_ok-asked.ensures.unread) (record { few = c.in_ok-few.ensures.0 c.if-not-few.false; lacks = c.requires.lacks }) none c.left_part.result c.left_part.ensures.accepted
 
 pub returns-in-None-clause-refused : goal.returns-in-None-clause-refused
 returns-in-None-clause-refused c =
-    let program = c.args.program in
+    let program = c.in_ok-spelled.spelled in
     let config = c.args.config in
     let unread = c.args.unread.now in
     let asked = c.in_ok-asked.asked in
     let none : NoneIsAsked program config (names_unread unread) asked.roots = rw c.in-None.is at c.in_ok-needed.ensures.exact in
     refused_left program config asked (option_map (λ (n : Bor Text). n.now) c.args.silent) unread c.in_ok-asked.ensures.roots c.in_ok-asked.ensures.unread
-    (record { few = c.in_ok-few.ensures.0 c.if-not-few.false; lacks = c.requires.lacks }) none c.left_part.result c.left_part.ensures.refused
+    c.args.program (is_spelled_by c.args.program config program asked c.args.unread.now c.in_ok-spelled.ensures.spelled c.in_ok-asked.ensures.unread) (record { few = c.in_ok-few.ensures.0 c.if-not-few.false; lacks = c.requires.lacks }) none c.left_part.result c.left_part.ensures.refused

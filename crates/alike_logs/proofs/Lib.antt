@@ -1,4 +1,0 @@
-pub mod AlikeLines
-pub mod AlikeTexts
-pub mod ToldAlike
-pub mod AlikeMerges

@@ -1,3 +1,0 @@
-pub mod AlikeFiles
-pub mod AlikeNames
-pub mod Laws

@@ -1,3 +1,0 @@
-pub mod AlikeLogs
-pub mod Same
-pub mod Laws

@@ -1,0 +1,4 @@
+pub mod Explaining
+pub mod LinedJudging
+pub mod Placing
+pub mod TiedJudging

@@ -1,0 +1,15 @@
+use Rattle.std.proofs.Common.{Some, ◌∙◌, ap, sym}
+use Rattle.library_calls.proofs.Serving.{is_missing, lacks_both, opens_own, opens_served}
+use Rattle.library_calls.proofs.behind.WithLibraryFiles.open.Goals as goal
+
+pub returns-in-Ok-clause-opened : goal.returns-in-Ok-clause-opened
+returns-in-Ok-clause-opened g c = opens_own c.args.name.now c.args.self.now.folder (g.F.Files.holds c.args.self.now.files) (g.F.Files.at c.open.new.self) c.in-Ok.ensures.opened
+
+pub returns-in-Some-clause-opened : goal.returns-in-Some-clause-opened
+returns-in-Some-clause-opened g c =
+    opens_served c.args.name.now c.as_bytes.result.now c.args.self.now.folder (g.F.Files.holds c.args.self.now.files) _ _ (c.in-Err-Missing.ensures.missing (is_missing c.in-Err-Missing.field-0 c.in-Err-Missing.field-0-is))
+    (c.in-Some.ensures ∙ ap (λ x. Some x) (sym c.as_bytes.ensures.value))
+
+pub returns-in-None-clause-missing : goal.returns-in-None-clause-missing
+returns-in-None-clause-missing g c =
+    λ _. lacks_both c.args.name.now c.args.self.now.folder (g.F.Files.holds c.args.self.now.files) _ _ (c.in-Err-Missing.ensures.missing (is_missing c.in-Err-Missing.field-0 c.in-Err-Missing.field-0-is)) c.in-None.ensures

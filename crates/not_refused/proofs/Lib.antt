@@ -1,5 +1,0 @@
-pub mod Accepted
-pub mod LogsBeside
-pub mod Forms
-pub mod Refused
-pub mod Sought

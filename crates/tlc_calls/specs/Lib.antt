@@ -1,0 +1,4 @@
+pub mod Laws
+pub mod Programs
+pub mod Rows
+pub mod Spelled

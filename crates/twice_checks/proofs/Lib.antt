@@ -1,0 +1,3 @@
+mod Accepting
+pub mod Answering
+pub mod Searching

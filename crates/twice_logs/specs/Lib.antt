@@ -1,0 +1,10 @@
+pub mod AlikeFiles
+pub mod AlikeLogs
+pub mod AlikeNames
+pub mod Lined
+pub mod LinedBeside
+pub mod Logs
+pub mod Same
+pub mod Steps
+pub mod Ties
+pub mod TiesBeside

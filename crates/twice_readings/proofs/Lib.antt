@@ -1,0 +1,16 @@
+pub mod Accepted
+pub mod FileHalts
+pub mod FirstFaults
+pub mod Forms
+pub mod LogHalts
+pub mod LogsBeside
+pub mod OneReading
+pub mod OneRefusal
+pub mod Outcomes
+pub mod Passing
+pub mod Refused
+pub mod SameLogs
+pub mod Sought
+pub mod Stages
+pub mod StrictStays
+pub mod Views

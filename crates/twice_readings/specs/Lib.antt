@@ -1,0 +1,3 @@
+pub mod NotRefused
+pub mod Readings
+pub mod Refusals

@@ -1,2 +1,0 @@
-mod Accepting
-pub mod Searching

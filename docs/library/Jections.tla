@@ -1,0 +1,2 @@
+---- MODULE Jections ----
+====
