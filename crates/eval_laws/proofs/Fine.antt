@@ -2,15 +2,15 @@
 use Rattle.std.proofs.Common.{◌≡◌, ◌⊎◌, inl, inr, ap, sym, ◌∙◌, subst, ℕ, List, [], ◌∷◌}
 use Rattle.std.specs.Prelude.{Bool, true, false, Result, Ok, Err}
 use Rattle.std.specs.List.{AllByRecursion}
-use Rattle.trace_base.specs.declared.place.Place.{Place}
-use Rattle.tla_values.specs.Data.{Val, model, truth, integer, string, set, function}
-use Rattle.tla_values.specs.IsValue.{IsValue}
-use Rattle.tla_values.specs.declared.fault.EvalKind.{EvalKind}
-use Rattle.tla_values.specs.declared.fault.OpFault.{OpFault}
-use Rattle.tla_values.specs.declared.fault.OpFault.TheVariants.{Refused, NoMemory}
-use Rattle.tla_core.specs.declared.fault.Fault.{Fault}
-use Rattle.tla_eval.specs.Outcomes.{Outcome, Gives, Fails, Then, Either, Decides, Each, AllTrue, SomeTrue, truth_at, IsTruth, Operated}
-use Rattle.tla_eval.proofs.AtMostOne.{One, one_gives, one_fails, one_then, one_decides}
+use Rattle.base_core.specs.declared.place.Place.{Place}
+use Rattle.values_core.specs.Data.{Val, model, truth, integer, string, set, function}
+use Rattle.values_core.specs.IsValue.{IsValue}
+use Rattle.values_core.specs.declared.fault.EvalKind.{EvalKind}
+use Rattle.values_core.specs.declared.fault.OpFault.{OpFault}
+use Rattle.values_core.specs.declared.fault.OpFault.TheVariants.{Refused, NoMemory}
+use Rattle.states_core.specs.declared.fault.Fault.{Fault}
+use Rattle.eval_meanings.specs.Outcomes.{Outcome, Gives, Fails, Then, Either, Decides, Each, AllTrue, SomeTrue, truth_at, IsTruth, Operated}
+use Rattle.eval_meanings.proofs.AtMostOne.{One, one_gives, one_fails, one_then, one_decides}
 use Rattle.eval_laws.proofs.OneAnswer.{HasOneAnswer, IsSure}
 use Rattle.eval_laws.proofs.SureOperations.{truth_value}
 

@@ -3,20 +3,20 @@ use Rattle.std.proofs.Common.{◌≡◌, inl, inr, refl, subst, arith, ℕ, zero
 use Rattle.std.specs.Prelude.{Option, Some, None, Contains, slice_get}
 use Rattle.std.specs.List.{AllByRecursion}
 use Rattle.std.proofs.lemmas.List.Elements.{Contains-append_left, Contains-append_cases}
-use Rattle.tla_values.specs.Data.{Val, Vals, no_vals, more_vals, set, members, vals_depth}
-use Rattle.tla_values.specs.IsValue.{IsValue, AreCanonical}
-use Rattle.tla_values.specs.Ascending.{cons_cases, none_in}
-use Rattle.tla_terms.specs.declared.level.Level.TheVariants as levels
-use Rattle.tla_terms.specs.declared.operator.Operator.{Operator}
-use Rattle.tla_terms.specs.Lists.{terms_list, steps_list, bounds_list, fields_list, changes_list, arms_list}
-use Rattle.tla_terms.specs.Terms as term
-use Rattle.tla_terms.specs.Terms.{Term, Terms, Operands, Step, Steps, Bounds, Fields, Changes, Arms, Placed}
-use Rattle.tla_eval.specs.Contexts.{Context, Table, bind, within, primed, enter}
-use Rattle.tla_eval.specs.Sets.{first_operand, other_operands}
-use Rattle.tla_eval.specs.Binders.{with_each, combinations, times, ranges}
-use Rattle.tla_eval.specs.Unchanged.{behind}
-use Rattle.tla_eval.specs.Everywhere.{InTerms, InOperands, InStep, InSteps, InBounds, InFields, InChanges, InArms}
-use Rattle.tla_eval.specs.Laws.{AreValues, HoldValues, KnowsValue, KnowsValues}
+use Rattle.values_core.specs.Data.{Val, Vals, no_vals, more_vals, set, members, vals_depth}
+use Rattle.values_core.specs.IsValue.{IsValue, AreCanonical}
+use Rattle.values_core.specs.Ascending.{cons_cases, none_in}
+use Rattle.names_terms.specs.declared.level.Level.TheVariants as levels
+use Rattle.names_terms.specs.declared.operator.Operator.{Operator}
+use Rattle.names_terms.specs.Lists.{terms_list, steps_list, bounds_list, fields_list, changes_list, arms_list}
+use Rattle.names_terms.specs.Terms as term
+use Rattle.names_terms.specs.Terms.{Term, Terms, Operands, Step, Steps, Bounds, Fields, Changes, Arms, Placed}
+use Rattle.eval_meanings.specs.Contexts.{Context, Table, bind, within, primed, enter}
+use Rattle.eval_meanings.specs.Sets.{first_operand, other_operands}
+use Rattle.eval_meanings.specs.Binders.{with_each, combinations, times, ranges}
+use Rattle.eval_meanings.specs.Unchanged.{behind}
+use Rattle.eval_meanings.specs.Everywhere.{InTerms, InOperands, InStep, InSteps, InBounds, InFields, InChanges, InArms}
+use Rattle.eval_meanings.specs.Laws.{AreValues, HoldValues, KnowsValue, KnowsValues}
 
 pub record HoldsValues (c : Context) : Type 0 where
   pub slots : AreValues c.slots

@@ -2,55 +2,55 @@
 use Rattle.std.proofs.Common.{◌≡◌, inl, inr, ap, refl, sym, ◌∙◌, subst, List, [], ◌∷◌, ◌++◌}
 use Rattle.std.specs.Prelude.{ℕ, ℤ, zero, suc, Bool, true, false, not, length, map, replicate, if◌then◌else◌, Option, Some, None, Result, Ok, Err, MatchBool, Contains, slice_get}
 use Rattle.std.specs.List.{AllByRecursion}
-use Rattle.trace_base.specs.declared.place.Place.{Place}
-use Rattle.tla_core.specs.declared.fault.Fault.{Fault}
-use Rattle.tla_values.specs.Data.{Val, model, truth, integer, string, set, function, members}
-use Rattle.tla_values.specs.IsValue.{IsValue}
-use Rattle.tla_values.specs.Integers.{int_operands}
-use Rattle.tla_values.specs.Ascending.{head_in, none_in, tail_in}
-use Rattle.tla_values.specs.Functions.{IsFunction, HasPair, pairs_in, values_in}
-use Rattle.tla_values.specs.FunctionLaws.{one_value_at_key, in_keys}
-use Rattle.tla_values.specs.SetOperations.{GivesSet}
-use Rattle.tla_values.specs.FunctionOperations.{GivesFunction, GivesSequence, AppliesAt, Excepts}
-use Rattle.tla_values.specs.declared.fault.EvalKind.TheVariants.{NoCase, NoChoice, NotSet, NotFinite, OutsideDomain}
-use Rattle.tla_values.specs.declared.fault.OpFault.{OpFault}
-use Rattle.tla_values.specs.declared.fault.OpFault.TheVariants.{Refused}
-use Rattle.tla_ast.specs.declared.operators.PrefixOperator.{PrefixOperator}
-use Rattle.tla_ast.specs.declared.operators.PrefixOperator.TheVariants as prefix
-use Rattle.tla_ast.specs.declared.operators.InfixOperator.{InfixOperator}
-use Rattle.tla_ast.specs.declared.operators.InfixOperator.TheVariants as infix_operator
-use Rattle.tla_ast.specs.declared.operators.Quantifier.{Quantifier}
-use Rattle.tla_ast.specs.declared.operators.Quantifier.TheVariants as quantifier
-use Rattle.tla_terms.specs.declared.level.Level.TheVariants as levels
-use Rattle.tla_terms.specs.declared.standard.NamedSet.{NamedSet}
-use Rattle.tla_terms.specs.declared.standard.NamedSet.TheVariants as sets
-use Rattle.tla_terms.specs.declared.standard.StandardOperator.{StandardOperator}
-use Rattle.tla_terms.specs.declared.standard.StandardOperator.TheVariants as standard
-use Rattle.tla_terms.specs.declared.operator.Operator.{Operator}
-use Rattle.tla_terms.specs.declared.operator.Own.{Own}
-use Rattle.tla_terms.specs.declared.operator.Own.TheVariants as owns
-use Rattle.tla_terms.specs.Lists.{terms_list, steps_list, bounds_list, fields_list, changes_list, arms_list}
-use Rattle.tla_terms.specs.Terms as term
-use Rattle.tla_terms.specs.Terms.{Term, Meaning, Terms, Operands, Step, Steps, Bounds, Fields, Placed, place_of}
-use Rattle.eval_sets.specs.DescribedSets as described
-use Rattle.eval_sets.specs.DescribedSets.{Described, Listed}
-use Rattle.eval_sets.specs.Membership.{Belongs}
-use Rattle.eval_sets.specs.Listings.{Lists, Listing, IsListed, is_finite}
-use Rattle.eval_sets.proofs.Collecting.{listed_is, pair_value}
-use Rattle.eval_sets.proofs.Outcomes.{lists_one_way}
-use Rattle.eval_sets.proofs.Loops.{is_in}
-use Rattle.tla_eval.specs.Outcomes.{Outcome, Gives, Fails, Then, Either, Each, truth_at, Operated, place_in}
-use Rattle.tla_eval.specs.Contexts.{Context, Table, Places, Evaluate, Describe, IsAt, IsKnown, WithDefinition, bind, within, primed, enter}
-use Rattle.tla_eval.specs.Operations.{InfixAnswers, PrefixAnswers, StandardAnswers}
-use Rattle.tla_eval.specs.Sets.{named_set, IsIn, set_at, MeansSet, list_at, ListedAt, first_operand, other_operands, PartDescribed, ProductDescribed, FieldDescribed, RecordsDescribed, parts_of, fields_of, Between, IntervalDescribed, paired, Joined, ChainDescribed}
-use Rattle.tla_eval.specs.Binders.{members_at, MembersOf, combinations, ranges, BoundValues, FirstThat, Passing}
-use Rattle.tla_eval.specs.Functions.{KeyOf, StepKey, AtStep, steps_place, StepsEvaluate, AtKey, Changed, AllChanged}
-use Rattle.tla_eval.specs.Recursion.{Recursion, KeysDescribed, RecursionEvaluates, applied_by, marked_so, names_at, recursion_at, recursion_of, sets_of_names}
-use Rattle.tla_eval.specs.Unchanged.{TruthOf, prime_of, unchanged_of, changed_of, behind, StaysSame, MeansUnchanged, IsUnchanged}
-use Rattle.tla_eval.specs.Meanings.{ChainEvaluates, both_or_neither, ImplicationHolds, AreEquivalent, IsMemberOf, IsSubsetOf, FunctionsDescribed, SequencesDescribed, SubsetsDescribed, InfixDescribed, InfixEvaluates, PrefixEvaluates, StandardEvaluates, BodyDescribed, UseDescribed, UseEvaluates, FirstArm, SetOfAll, FunctionOfAll, PairOf, QuantifiedEvaluates, FieldEvaluates, MeaningEvaluates, MeaningDescribes, IsValueOf}
-use Rattle.tla_eval.specs.Everywhere.{InParts, InTerms, InOperands, InStep, InSteps, InBounds, InFields}
-use Rattle.tla_eval.specs.Laws.{AreValues, HoldValues, KnowsValue, KnowsValues}
-use Rattle.tla_eval.proofs.AtMostOne.{One}
+use Rattle.base_core.specs.declared.place.Place.{Place}
+use Rattle.states_core.specs.declared.fault.Fault.{Fault}
+use Rattle.values_core.specs.Data.{Val, model, truth, integer, string, set, function, members}
+use Rattle.values_core.specs.IsValue.{IsValue}
+use Rattle.values_core.specs.Integers.{int_operands}
+use Rattle.values_core.specs.Ascending.{head_in, none_in, tail_in}
+use Rattle.values_core.specs.Functions.{IsFunction, HasPair, pairs_in, values_in}
+use Rattle.values_core.specs.FunctionLaws.{one_value_at_key, in_keys}
+use Rattle.values_core.specs.SetOperations.{GivesSet}
+use Rattle.values_core.specs.FunctionOperations.{GivesFunction, GivesSequence, AppliesAt, Excepts}
+use Rattle.values_core.specs.declared.fault.EvalKind.TheVariants.{NoCase, NoChoice, NotSet, NotFinite, OutsideDomain}
+use Rattle.values_core.specs.declared.fault.OpFault.{OpFault}
+use Rattle.values_core.specs.declared.fault.OpFault.TheVariants.{Refused}
+use Rattle.reading_trees.specs.declared.operators.PrefixOperator.{PrefixOperator}
+use Rattle.reading_trees.specs.declared.operators.PrefixOperator.TheVariants as prefix
+use Rattle.reading_trees.specs.declared.operators.InfixOperator.{InfixOperator}
+use Rattle.reading_trees.specs.declared.operators.InfixOperator.TheVariants as infix_operator
+use Rattle.reading_trees.specs.declared.operators.Quantifier.{Quantifier}
+use Rattle.reading_trees.specs.declared.operators.Quantifier.TheVariants as quantifier
+use Rattle.names_terms.specs.declared.level.Level.TheVariants as levels
+use Rattle.names_terms.specs.declared.standard.NamedSet.{NamedSet}
+use Rattle.names_terms.specs.declared.standard.NamedSet.TheVariants as sets
+use Rattle.names_terms.specs.declared.standard.StandardOperator.{StandardOperator}
+use Rattle.names_terms.specs.declared.standard.StandardOperator.TheVariants as standard
+use Rattle.names_terms.specs.declared.operator.Operator.{Operator}
+use Rattle.names_terms.specs.declared.operator.Own.{Own}
+use Rattle.names_terms.specs.declared.operator.Own.TheVariants as owns
+use Rattle.names_terms.specs.Lists.{terms_list, steps_list, bounds_list, fields_list, changes_list, arms_list}
+use Rattle.names_terms.specs.Terms as term
+use Rattle.names_terms.specs.Terms.{Term, Meaning, Terms, Operands, Step, Steps, Bounds, Fields, Placed, place_of}
+use Rattle.values_sets.specs.DescribedSets as described
+use Rattle.values_sets.specs.DescribedSets.{Described, Listed}
+use Rattle.values_sets.specs.Membership.{Belongs}
+use Rattle.values_sets.specs.Listings.{Lists, Listing, IsListed, is_finite}
+use Rattle.values_sets.proofs.Collecting.{listed_is, pair_value}
+use Rattle.values_sets.proofs.Outcomes.{lists_one_way}
+use Rattle.values_sets.proofs.Loops.{is_in}
+use Rattle.eval_meanings.specs.Outcomes.{Outcome, Gives, Fails, Then, Either, Each, truth_at, Operated, place_in}
+use Rattle.eval_meanings.specs.Contexts.{Context, Table, Places, Evaluate, Describe, IsAt, IsKnown, WithDefinition, bind, within, primed, enter}
+use Rattle.eval_meanings.specs.Operations.{InfixAnswers, PrefixAnswers, StandardAnswers}
+use Rattle.eval_meanings.specs.Sets.{named_set, IsIn, set_at, MeansSet, list_at, ListedAt, first_operand, other_operands, PartDescribed, ProductDescribed, FieldDescribed, RecordsDescribed, parts_of, fields_of, Between, IntervalDescribed, paired, Joined, ChainDescribed}
+use Rattle.eval_meanings.specs.Binders.{members_at, MembersOf, combinations, ranges, BoundValues, FirstThat, Passing}
+use Rattle.eval_meanings.specs.Functions.{KeyOf, StepKey, AtStep, steps_place, StepsEvaluate, AtKey, Changed, AllChanged}
+use Rattle.eval_meanings.specs.Recursion.{Recursion, KeysDescribed, RecursionEvaluates, applied_by, marked_so, names_at, recursion_at, recursion_of, sets_of_names}
+use Rattle.eval_meanings.specs.Unchanged.{TruthOf, prime_of, unchanged_of, changed_of, behind, StaysSame, MeansUnchanged, IsUnchanged}
+use Rattle.eval_meanings.specs.Meanings.{ChainEvaluates, both_or_neither, ImplicationHolds, AreEquivalent, IsMemberOf, IsSubsetOf, FunctionsDescribed, SequencesDescribed, SubsetsDescribed, InfixDescribed, InfixEvaluates, PrefixEvaluates, StandardEvaluates, BodyDescribed, UseDescribed, UseEvaluates, FirstArm, SetOfAll, FunctionOfAll, PairOf, QuantifiedEvaluates, FieldEvaluates, MeaningEvaluates, MeaningDescribes, IsValueOf}
+use Rattle.eval_meanings.specs.Everywhere.{InParts, InTerms, InOperands, InStep, InSteps, InBounds, InFields}
+use Rattle.eval_meanings.specs.Laws.{AreValues, HoldValues, KnowsValue, KnowsValues}
+use Rattle.eval_meanings.proofs.AtMostOne.{One}
 use Rattle.eval_laws.proofs.OneAnswer.{HasOneAnswer, IsSure, sure_set, sure_function, sure_sequence}
 use Rattle.eval_laws.proofs.SureOperations.{sure_infix, sure_prefix, sure_standard, sure_applies, sure_excepts}
 use Rattle.eval_laws.proofs.Fine.{IsFine, Any, fine_any, fine_gives, fine_fails, fine_none, fine_then, fine_either, fine_decides, fine_each, fine_all_true, fine_some_true, fine_truth_at, fine_is_truth, one_operated, fine_operated}

@@ -1,8 +1,8 @@
 -- Outcomes that are kept: of the ways in which outcomes of parts make that of the whole.
 use Rattle.std.proofs.Common.{inl, inr, List, [], ◌∷◌}
 use Rattle.std.specs.Prelude.{Bool, true, false, Result, Ok, Err}
-use Rattle.tla_core.specs.declared.fault.Fault.{Fault}
-use Rattle.tla_eval.specs.Outcomes.{Outcome, Gives, Then, Either, Each, AllTrue, SomeTrue, IsTruth}
+use Rattle.states_core.specs.declared.fault.Fault.{Fault}
+use Rattle.eval_meanings.specs.Outcomes.{Outcome, Gives, Then, Either, Each, AllTrue, SomeTrue, IsTruth}
 
 -- each outcome of the one is one of the other
 abbrev pub Keeps : {A : Type 0} → Outcome A → Outcome A → Type 0

@@ -1,9 +1,9 @@
 -- A term keeps its outcome, and what it describes, where more values are known.
 use Rattle.std.specs.Prelude.{ℕ, zero, suc}
-use Rattle.tla_terms.specs.Terms.{Term, Placed}
-use Rattle.tla_eval.specs.Contexts.{Context, Table}
-use Rattle.tla_eval.specs.Evaluates.{Evaluates, Describes}
-use Rattle.tla_eval.specs.Laws.{KeepsOutcome}
+use Rattle.names_terms.specs.Terms.{Term, Placed}
+use Rattle.eval_meanings.specs.Contexts.{Context, Table}
+use Rattle.eval_meanings.specs.Evaluates.{Evaluates, Describes}
+use Rattle.eval_meanings.specs.Laws.{KeepsOutcome}
 use Rattle.eval_laws.specs.Laws.{KeepsDescription}
 use Rattle.eval_laws.proofs.Keeping.{Keeps}
 use Rattle.eval_laws.proofs.KeptContexts.{KnowsMore}

@@ -1,10 +1,10 @@
 -- Contexts in which more values are known: those of the parts of a term know more where that of the term does.
 use Rattle.std.proofs.Common.{◌≡◌, ap, subst, List, ◌++◌}
 use Rattle.std.specs.Prelude.{ℕ, take}
-use Rattle.tla_values.specs.Data.{Val}
-use Rattle.tla_terms.specs.declared.operator.Operator.{Operator}
-use Rattle.tla_eval.specs.Contexts.{Context, bind, within, primed, enter, IsAt, IsKnown, Places}
-use Rattle.tla_eval.specs.Laws.{IsWithin}
+use Rattle.values_core.specs.Data.{Val}
+use Rattle.names_terms.specs.declared.operator.Operator.{Operator}
+use Rattle.eval_meanings.specs.Contexts.{Context, bind, within, primed, enter, IsAt, IsKnown, Places}
+use Rattle.eval_meanings.specs.Laws.{IsWithin}
 use Rattle.eval_laws.proofs.Keeping.{Keeps}
 
 -- the same slots, and all that is known in the one is known in the other

@@ -1,33 +1,33 @@
 -- Where the parts of a term keep their outcomes, the term does: row by row.
 use Rattle.std.proofs.Common.{ap, subst, inl, inr, List, [], ◌∷◌}
 use Rattle.std.specs.Prelude.{ℕ, Bool, true, not, length, map, Option, Some, None}
-use Rattle.trace_base.specs.declared.place.Place.{Place}
-use Rattle.tla_values.specs.Data.{Val}
-use Rattle.tla_values.specs.declared.fault.EvalKind.TheVariants.{NoCase, OutsideDomain}
-use Rattle.tla_ast.specs.declared.operators.PrefixOperator.{PrefixOperator}
-use Rattle.tla_ast.specs.declared.operators.PrefixOperator.TheVariants as prefix
-use Rattle.tla_ast.specs.declared.operators.InfixOperator.{InfixOperator}
-use Rattle.tla_ast.specs.declared.operators.InfixOperator.TheVariants as infix_operator
-use Rattle.tla_ast.specs.declared.operators.Quantifier.{Quantifier}
-use Rattle.tla_ast.specs.declared.operators.Quantifier.TheVariants as quantifier
-use Rattle.tla_terms.specs.declared.level.Level.TheVariants as levels
-use Rattle.tla_terms.specs.declared.operator.Own.{Own}
-use Rattle.tla_terms.specs.declared.operator.Own.TheVariants as owns
-use Rattle.tla_terms.specs.declared.standard.StandardOperator.{StandardOperator}
-use Rattle.tla_terms.specs.declared.standard.StandardOperator.TheVariants as standard
-use Rattle.tla_terms.specs.Lists.{terms_list, steps_list, bounds_list, fields_list, changes_list, arms_list}
-use Rattle.tla_terms.specs.Terms as term
-use Rattle.tla_terms.specs.Terms.{Term, Meaning, Terms, Operands, Step, Steps, Bounds, Fields, Placed, place_of}
-use Rattle.eval_sets.specs.DescribedSets.{Described, SeqOf}
-use Rattle.tla_eval.specs.Outcomes.{Outcome, Gives, Fails, Then, Each, Operated, place_in}
-use Rattle.tla_eval.specs.Contexts.{Context, Table, Evaluate, Describe, WithDefinition, bind, within, primed, enter}
-use Rattle.tla_eval.specs.Operations.{InfixAnswers, PrefixAnswers}
-use Rattle.tla_eval.specs.Sets.{IsIn, MeansSet, ListedAt, first_operand, other_operands, PartDescribed, ProductDescribed, FieldDescribed, RecordsDescribed, IntervalDescribed, Joined, ChainDescribed}
-use Rattle.tla_eval.specs.Binders.{MembersOf, BoundValues, FirstThat, Passing}
-use Rattle.tla_eval.specs.Functions.{KeyOf, StepKey, AtStep, steps_place, StepsEvaluate, AtKey, Changed, AllChanged}
-use Rattle.tla_eval.specs.Recursion.{Recursion, KeysDescribed, RecursionEvaluates, applied_by, names_at, sets_of_names}
-use Rattle.tla_eval.specs.Unchanged.{TruthOf, prime_of, unchanged_of, changed_of, behind, StaysSame, MeansUnchanged, IsUnchanged}
-use Rattle.tla_eval.specs.Meanings.{ChainEvaluates, ImplicationHolds, AreEquivalent, IsMemberOf, IsSubsetOf, FunctionsDescribed, SequencesDescribed, SubsetsDescribed, InfixDescribed, InfixEvaluates, PrefixEvaluates, StandardEvaluates, BodyDescribed, UseDescribed, UseEvaluates, FirstArm, PairOf, QuantifiedEvaluates, FieldEvaluates, MeaningEvaluates, MeaningDescribes, IsValueOf}
+use Rattle.base_core.specs.declared.place.Place.{Place}
+use Rattle.values_core.specs.Data.{Val}
+use Rattle.values_core.specs.declared.fault.EvalKind.TheVariants.{NoCase, OutsideDomain}
+use Rattle.reading_trees.specs.declared.operators.PrefixOperator.{PrefixOperator}
+use Rattle.reading_trees.specs.declared.operators.PrefixOperator.TheVariants as prefix
+use Rattle.reading_trees.specs.declared.operators.InfixOperator.{InfixOperator}
+use Rattle.reading_trees.specs.declared.operators.InfixOperator.TheVariants as infix_operator
+use Rattle.reading_trees.specs.declared.operators.Quantifier.{Quantifier}
+use Rattle.reading_trees.specs.declared.operators.Quantifier.TheVariants as quantifier
+use Rattle.names_terms.specs.declared.level.Level.TheVariants as levels
+use Rattle.names_terms.specs.declared.operator.Own.{Own}
+use Rattle.names_terms.specs.declared.operator.Own.TheVariants as owns
+use Rattle.names_terms.specs.declared.standard.StandardOperator.{StandardOperator}
+use Rattle.names_terms.specs.declared.standard.StandardOperator.TheVariants as standard
+use Rattle.names_terms.specs.Lists.{terms_list, steps_list, bounds_list, fields_list, changes_list, arms_list}
+use Rattle.names_terms.specs.Terms as term
+use Rattle.names_terms.specs.Terms.{Term, Meaning, Terms, Operands, Step, Steps, Bounds, Fields, Placed, place_of}
+use Rattle.values_sets.specs.DescribedSets.{Described, SeqOf}
+use Rattle.eval_meanings.specs.Outcomes.{Outcome, Gives, Fails, Then, Each, Operated, place_in}
+use Rattle.eval_meanings.specs.Contexts.{Context, Table, Evaluate, Describe, WithDefinition, bind, within, primed, enter}
+use Rattle.eval_meanings.specs.Operations.{InfixAnswers, PrefixAnswers}
+use Rattle.eval_meanings.specs.Sets.{IsIn, MeansSet, ListedAt, first_operand, other_operands, PartDescribed, ProductDescribed, FieldDescribed, RecordsDescribed, IntervalDescribed, Joined, ChainDescribed}
+use Rattle.eval_meanings.specs.Binders.{MembersOf, BoundValues, FirstThat, Passing}
+use Rattle.eval_meanings.specs.Functions.{KeyOf, StepKey, AtStep, steps_place, StepsEvaluate, AtKey, Changed, AllChanged}
+use Rattle.eval_meanings.specs.Recursion.{Recursion, KeysDescribed, RecursionEvaluates, applied_by, names_at, sets_of_names}
+use Rattle.eval_meanings.specs.Unchanged.{TruthOf, prime_of, unchanged_of, changed_of, behind, StaysSame, MeansUnchanged, IsUnchanged}
+use Rattle.eval_meanings.specs.Meanings.{ChainEvaluates, ImplicationHolds, AreEquivalent, IsMemberOf, IsSubsetOf, FunctionsDescribed, SequencesDescribed, SubsetsDescribed, InfixDescribed, InfixEvaluates, PrefixEvaluates, StandardEvaluates, BodyDescribed, UseDescribed, UseEvaluates, FirstArm, PairOf, QuantifiedEvaluates, FieldEvaluates, MeaningEvaluates, MeaningDescribes, IsValueOf}
 use Rattle.eval_laws.proofs.Keeping.{Keeps, keeps_itself, keeps_then, keeps_first, keeps_either, keeps_each, keeps_all_true, keeps_some_true, keeps_truth}
 use Rattle.eval_laws.proofs.KeptContexts.{KnowsMore, bind_more, within_more, primed_more, enter_more, keeps_known, keeps_slot}
 

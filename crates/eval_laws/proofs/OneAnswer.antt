@@ -2,25 +2,25 @@
 use Rattle.std.proofs.Common.{◌≡◌, ◌⊎◌, inl, inr, ap, sym, ◌∙◌, subst, refl, arith, ℕ, ◌<◌, ◌≤◌, List, [], ◌∷◌, length}
 use Rattle.std.specs.Prelude.{Result, Ok, Err, Contains}
 use Rattle.std.proofs.lemmas.List.{length-map}
-use Rattle.tla_values.specs.Data.{Val, model, truth, integer, string, set, function, depth, entries}
-use Rattle.tla_values.specs.IsValue.{IsValue, max_members, max_depth}
-use Rattle.tla_values.specs.Integers.{the_term}
-use Rattle.tla_values.specs.Ascending.{cons_cases}
-use Rattle.tla_values.specs.Order.{val_eq}
-use Rattle.tla_values.specs.OrderLaws.{val_eq_equiv}
-use Rattle.tla_values.specs.Sets.{items_of}
-use Rattle.tla_values.specs.SetLaws.{same_members, member_shallow}
-use Rattle.tla_values.specs.SetOperations.{GivesSet, IsSetWith, AreTooMany, IsOneTooDeep, AreDifferent, OnSet, OnSets}
-use Rattle.tla_values.specs.Functions.{IsSequence, HasKeyTwice, pairs_in, values_in, numbered_from, sequence_of}
-use Rattle.tla_values.specs.FunctionLaws.{functions_by_pairs, function_is, key_count, count_cons, entries-pairs_of}
-use Rattle.tla_values.specs.FunctionOperations.{GivesFunction, IsFunctionWith, AreTooManyPairs, IsPairTooDeep, GivesValue, GivesSequence, OnFunction, OnFunctions, OnSequence}
-use Rattle.tla_values.specs.declared.fault.EvalKind.TheVariants.{NotSet, NotFunction, NotSequence, TooLarge, TooDeep}
-use Rattle.tla_values.specs.declared.fault.OpFault.{OpFault}
-use Rattle.tla_values.specs.declared.fault.OpFault.TheVariants.{Refused, NoMemory}
-use Rattle.tla_values.proofs.FunctionLemmas.{pair_depth_in}
-use Rattle.tla_values.proofs.SequenceLemmas.{length-numbered}
-use Rattle.value_ops.proofs.Listing.{no_longer}
-use Rattle.value_ops.proofs.Taking.{few_items}
+use Rattle.values_core.specs.Data.{Val, model, truth, integer, string, set, function, depth, entries}
+use Rattle.values_core.specs.IsValue.{IsValue, max_members, max_depth}
+use Rattle.values_core.specs.Integers.{the_term}
+use Rattle.values_core.specs.Ascending.{cons_cases}
+use Rattle.values_core.specs.Order.{val_eq}
+use Rattle.values_core.specs.OrderLaws.{val_eq_equiv}
+use Rattle.values_core.specs.Sets.{items_of}
+use Rattle.values_core.specs.SetLaws.{same_members, member_shallow}
+use Rattle.values_core.specs.SetOperations.{GivesSet, IsSetWith, AreTooMany, IsOneTooDeep, AreDifferent, OnSet, OnSets}
+use Rattle.values_core.specs.Functions.{IsSequence, HasKeyTwice, pairs_in, values_in, numbered_from, sequence_of}
+use Rattle.values_core.specs.FunctionLaws.{functions_by_pairs, function_is, key_count, count_cons, entries-pairs_of}
+use Rattle.values_core.specs.FunctionOperations.{GivesFunction, IsFunctionWith, AreTooManyPairs, IsPairTooDeep, GivesValue, GivesSequence, OnFunction, OnFunctions, OnSequence}
+use Rattle.values_core.specs.declared.fault.EvalKind.TheVariants.{NotSet, NotFunction, NotSequence, TooLarge, TooDeep}
+use Rattle.values_core.specs.declared.fault.OpFault.{OpFault}
+use Rattle.values_core.specs.declared.fault.OpFault.TheVariants.{Refused, NoMemory}
+use Rattle.values_core.proofs.FunctionLemmas.{pair_depth_in}
+use Rattle.values_core.proofs.SequenceLemmas.{length-numbered}
+use Rattle.values_operations.proofs.Listing.{no_longer}
+use Rattle.values_operations.proofs.Taking.{few_items}
 use Rattle.std.specs.Prelude.{Bool, true, false, cond}
 
 -- of two answers one is want of memory, or they are one

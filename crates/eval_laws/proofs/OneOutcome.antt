@@ -1,11 +1,11 @@
 -- A term has at most one outcome, and one description, and what it has is a value.
 use Rattle.std.specs.Prelude.{ℕ, zero, suc}
-use Rattle.tla_values.specs.IsValue.{IsValue}
-use Rattle.tla_values.specs.declared.fault.EvalKind.TheVariants.{Nested}
-use Rattle.tla_terms.specs.Terms.{Term, Placed, place_of}
-use Rattle.tla_eval.specs.Contexts.{Context, Table}
-use Rattle.tla_eval.specs.Evaluates.{Evaluates, Describes}
-use Rattle.tla_eval.specs.Laws.{KnowsValues, ReadsValues, HasOneOutcome, HasOneDescription, GivesOnlyValues}
+use Rattle.values_core.specs.IsValue.{IsValue}
+use Rattle.values_core.specs.declared.fault.EvalKind.TheVariants.{Nested}
+use Rattle.names_terms.specs.Terms.{Term, Placed, place_of}
+use Rattle.eval_meanings.specs.Contexts.{Context, Table}
+use Rattle.eval_meanings.specs.Evaluates.{Evaluates, Describes}
+use Rattle.eval_meanings.specs.Laws.{KnowsValues, ReadsValues, HasOneOutcome, HasOneDescription, GivesOnlyValues}
 use Rattle.eval_laws.proofs.Fine.{IsFine, fine_fails}
 use Rattle.eval_laws.proofs.FineContexts.{HoldsValues, BodiesKnow}
 use Rattle.eval_laws.proofs.FineRows.{IsDescription, fine_meaning, fine_description}

@@ -6,27 +6,27 @@ use Rattle.std.specs.List.{AllByRecursion}
 use Rattle.std.proofs.lemmas.List.{length-map}
 use Rattle.std.proofs.lemmas.Int.{ints}
 use Rattle.std.proofs.lemmas.Bool.Decides.{nat_tests}
-use Rattle.tla_values.specs.Data.{Val, model, truth, integer, string, set, function, int_of, members}
-use Rattle.tla_values.specs.IsValue.{IsValue}
-use Rattle.tla_values.specs.Ascending.{cons_cases, head_in, tail_in, none_in}
-use Rattle.tla_values.specs.Sets.{IsSet, Member}
-use Rattle.tla_values.specs.Functions.{InDomain, HasPair, pairs_in, values_in}
-use Rattle.tla_values.specs.FunctionLaws.{one_value_at_key}
-use Rattle.tla_values.specs.Integers.{the_term, fitted, on_int, on_ints, int_operand, int_operands, is_i64, power, sum_of, difference_of, product_of, negation_of, quotient_of, remainder_of, power_of, is_less, is_at_most}
-use Rattle.tla_values.specs.SetOperations.{GivesSet, InUnion, InIntersection, InDifference, InBigUnion, UnitesMembers, cardinality_of}
-use Rattle.tla_values.specs.FunctionOperations.{GivesFunction, GivesValue, GivesSequence, GivesFirst, GivesRest, GivesPart, GivesPartBetween, InMerge, InExcept, OnSequence, AppliesAt, Excepts}
-use Rattle.tla_values.specs.declared.fault.EvalKind.TheVariants.{NotSet, NotInteger, OutsideDomain, BadDivisor, Overflow, EmptySequence, BadRange}
-use Rattle.tla_values.specs.declared.fault.OpFault.{OpFault}
-use Rattle.tla_values.specs.declared.fault.OpFault.TheVariants.{Refused}
-use Rattle.tla_ast.specs.declared.operators.PrefixOperator.{PrefixOperator}
-use Rattle.tla_ast.specs.declared.operators.PrefixOperator.TheVariants as prefix
-use Rattle.tla_ast.specs.declared.operators.InfixOperator.{InfixOperator}
-use Rattle.tla_ast.specs.declared.operators.InfixOperator.TheVariants as infix_operator
-use Rattle.tla_terms.specs.declared.standard.StandardOperator.{StandardOperator}
-use Rattle.tla_terms.specs.declared.standard.StandardOperator.TheVariants as standard
-use Rattle.value_ops.proofs.Taking.{few_items}
-use Rattle.eval_sets.proofs.Collecting.{pair_value}
-use Rattle.tla_eval.specs.Operations.{IsWhether, tested, is_greater, is_at_least, InfixAnswers, PrefixAnswers, StandardAnswers}
+use Rattle.values_core.specs.Data.{Val, model, truth, integer, string, set, function, int_of, members}
+use Rattle.values_core.specs.IsValue.{IsValue}
+use Rattle.values_core.specs.Ascending.{cons_cases, head_in, tail_in, none_in}
+use Rattle.values_core.specs.Sets.{IsSet, Member}
+use Rattle.values_core.specs.Functions.{InDomain, HasPair, pairs_in, values_in}
+use Rattle.values_core.specs.FunctionLaws.{one_value_at_key}
+use Rattle.values_core.specs.Integers.{the_term, fitted, on_int, on_ints, int_operand, int_operands, is_i64, power, sum_of, difference_of, product_of, negation_of, quotient_of, remainder_of, power_of, is_less, is_at_most}
+use Rattle.values_core.specs.SetOperations.{GivesSet, InUnion, InIntersection, InDifference, InBigUnion, UnitesMembers, cardinality_of}
+use Rattle.values_core.specs.FunctionOperations.{GivesFunction, GivesValue, GivesSequence, GivesFirst, GivesRest, GivesPart, GivesPartBetween, InMerge, InExcept, OnSequence, AppliesAt, Excepts}
+use Rattle.values_core.specs.declared.fault.EvalKind.TheVariants.{NotSet, NotInteger, OutsideDomain, BadDivisor, Overflow, EmptySequence, BadRange}
+use Rattle.values_core.specs.declared.fault.OpFault.{OpFault}
+use Rattle.values_core.specs.declared.fault.OpFault.TheVariants.{Refused}
+use Rattle.reading_trees.specs.declared.operators.PrefixOperator.{PrefixOperator}
+use Rattle.reading_trees.specs.declared.operators.PrefixOperator.TheVariants as prefix
+use Rattle.reading_trees.specs.declared.operators.InfixOperator.{InfixOperator}
+use Rattle.reading_trees.specs.declared.operators.InfixOperator.TheVariants as infix_operator
+use Rattle.names_terms.specs.declared.standard.StandardOperator.{StandardOperator}
+use Rattle.names_terms.specs.declared.standard.StandardOperator.TheVariants as standard
+use Rattle.values_operations.proofs.Taking.{few_items}
+use Rattle.values_sets.proofs.Collecting.{pair_value}
+use Rattle.eval_meanings.specs.Operations.{IsWhether, tested, is_greater, is_at_least, InfixAnswers, PrefixAnswers, StandardAnswers}
 use Rattle.eval_laws.proofs.OneAnswer.{HasOneAnswer, IsSure, sure_none, sure_same, sure_refusal, sure_or, sure_set, sure_function, sure_sequence, sure_value, sure_on_set, sure_on_sets, sure_on_function, sure_on_functions, sure_on_sequence, few_pairs}
 
 -- truth values

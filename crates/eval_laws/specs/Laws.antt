@@ -1,11 +1,11 @@
 -- Laws of evaluation, beside those of the definition's own crate.
 use Rattle.std.specs.Prelude.{◌≡◌, ℕ, Result}
-use Rattle.tla_core.specs.declared.fault.Fault.{Fault}
-use Rattle.tla_terms.specs.Terms.{Term}
-use Rattle.eval_sets.specs.DescribedSets.{Described}
-use Rattle.tla_eval.specs.Contexts.{Context, Table}
-use Rattle.tla_eval.specs.Evaluates.{Describes}
-use Rattle.tla_eval.specs.Laws.{IsWithin}
+use Rattle.states_core.specs.declared.fault.Fault.{Fault}
+use Rattle.names_terms.specs.Terms.{Term}
+use Rattle.values_sets.specs.DescribedSets.{Described}
+use Rattle.eval_meanings.specs.Contexts.{Context, Table}
+use Rattle.eval_meanings.specs.Evaluates.{Describes}
+use Rattle.eval_meanings.specs.Laws.{IsWithin}
 
 -- a term keeps its description where more values are known
 abbrev pub KeepsDescription : Type 0

@@ -1,4 +1,4 @@
-ghost use Rattle.tla_eval.specs.Laws.{GivesOnlyValues, HasOneDescription, HasOneOutcome, KeepsOutcome};
+ghost use Rattle.eval_meanings.specs.Laws.{GivesOnlyValues, HasOneDescription, HasOneOutcome, KeepsOutcome};
 ghost use Rattle.eval_laws.specs.Laws.{KeepsDescription};
 
 /// A term has at most one outcome in given states, and at most one description.

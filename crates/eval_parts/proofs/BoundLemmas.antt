@@ -4,34 +4,34 @@ use Rattle.std.proofs.lemmas.List.{take_more, take_all, map-append}
 use Rattle.std.specs.Prelude.{Result, Ok, Err, Contains}
 use Rattle.std.specs.List.Sorted.{IsStrictlySortedBy}
 use Rattle.std.proofs.lemmas.Map.Keys.{sorted_tail}
-use Rattle.tla_core.specs.declared.fault.Fault.{Fault}
-use Rattle.trace_base.specs.declared.place.Place.{Place}
-use Rattle.tla_values.specs.Ascending.{below, not_itself}
-use Rattle.tla_values.specs.Data.{Val, model, truth, integer, string, set, function}
-use Rattle.tla_values.specs.IsValue.{IsValue}
-use Rattle.tla_values.specs.Order.{val_cmp}
-use Rattle.tla_values.specs.OrderLaws.{val_total}
-use Rattle.tla_values.specs.SetOperations.{AreDifferent}
-use Rattle.tla_values.specs.Sets.{IsSet, items_of}
-use Rattle.tla_values.specs.declared.fault.EvalKind.TheVariants.{NotSet}
-use Rattle.tla_ast.specs.declared.operators.Quantifier.{Quantifier}
-use Rattle.tla_ast.specs.declared.operators.Quantifier.TheVariants as quantifier
-use Rattle.tla_terms.specs.Lists.{bounds_list}
-use Rattle.tla_terms.specs.Terms.{Term, Bounds, NoBounds, MoreBounds, place_of, width}
-use Rattle.tla_terms.specs.TermViews.{bound_item, bounds_of}
-use Rattle.tla_terms.specs.declared.term.Bound.{Bound}
-use Rattle.tla_eval.specs.declared.fault.EvalFault.{EvalFault}
-use Rattle.tla_eval.specs.declared.fault.EvalFault.TheVariants.{Refused, NoMemory}
-use Rattle.tla_eval.specs.Answers.{Tells}
-use Rattle.tla_eval.specs.Binders.{BoundValues, combinations, members_at, ranges, times}
-use Rattle.tla_eval.specs.Contexts.{Context, Evaluate, bind}
-use Rattle.tla_eval.specs.Meanings.{QuantifiedEvaluates}
-use Rattle.tla_eval.specs.Outcomes.{Outcome, Each, Gives, Then, fault}
-use Rattle.tla_eval.specs.Unchanged.{TruthOf}
+use Rattle.states_core.specs.declared.fault.Fault.{Fault}
+use Rattle.base_core.specs.declared.place.Place.{Place}
+use Rattle.values_core.specs.Ascending.{below, not_itself}
+use Rattle.values_core.specs.Data.{Val, model, truth, integer, string, set, function}
+use Rattle.values_core.specs.IsValue.{IsValue}
+use Rattle.values_core.specs.Order.{val_cmp}
+use Rattle.values_core.specs.OrderLaws.{val_total}
+use Rattle.values_core.specs.SetOperations.{AreDifferent}
+use Rattle.values_core.specs.Sets.{IsSet, items_of}
+use Rattle.values_core.specs.declared.fault.EvalKind.TheVariants.{NotSet}
+use Rattle.reading_trees.specs.declared.operators.Quantifier.{Quantifier}
+use Rattle.reading_trees.specs.declared.operators.Quantifier.TheVariants as quantifier
+use Rattle.names_terms.specs.Lists.{bounds_list}
+use Rattle.names_terms.specs.Terms.{Term, Bounds, NoBounds, MoreBounds, place_of, width}
+use Rattle.names_terms.specs.TermViews.{bound_item, bounds_of}
+use Rattle.names_terms.specs.declared.term.Bound.{Bound}
+use Rattle.eval_meanings.specs.declared.fault.EvalFault.{EvalFault}
+use Rattle.eval_meanings.specs.declared.fault.EvalFault.TheVariants.{Refused, NoMemory}
+use Rattle.eval_meanings.specs.Answers.{Tells}
+use Rattle.eval_meanings.specs.Binders.{BoundValues, combinations, members_at, ranges, times}
+use Rattle.eval_meanings.specs.Contexts.{Context, Evaluate, bind}
+use Rattle.eval_meanings.specs.Meanings.{QuantifiedEvaluates}
+use Rattle.eval_meanings.specs.Outcomes.{Outcome, Each, Gives, Then, fault}
+use Rattle.eval_meanings.specs.Unchanged.{TruthOf}
 use Rattle.eval_parts.proofs.Listed.{bounds_listed}
 use Rattle.eval_parts.proofs.Loops.{Cut, EachSoFar, each_stops}
 use Rattle.eval_parts.specs.BoundSets.{BoundEvaluates, HasMembers, bound_members, bound_value}
-use Rattle.eval_reads.specs.Reads.{Reading, ReadsEach}
+use Rattle.eval_meanings.specs.Reads.{Reading, ReadsEach}
 use Rattle.eval_parts.specs.Scenes.{Stops}
 use Rattle.eval_parts.specs.Walks.{AllDiffer, Decided}
 use Rattle.eval_parts.specs.declared.bound_values.BoundSet.{BoundSet}

@@ -2,28 +2,28 @@
 use Rattle.std.proofs.Common.{◌≡◌, inl, inr, refl, ap, sym, ◌∙◌, subst, List, [], ◌∷◌, ◌++◌, length, drop, ◌≤◌, ◌+◌, ℕ, map, arith}
 use Rattle.std.specs.Prelude.{Option, Some, None, Result, Ok, Err, option_copied, option_map}
 use denote.Ref.{Bor}
-use Rattle.trace_base.specs.declared.place.Place.{Place}
-use Rattle.tla_core.specs.declared.fault.Fault.{Fault}
-use Rattle.tla_values.specs.Data.{Val}
-use Rattle.tla_values.specs.Functions.{Applies, HasPair, IsFunction}
-use Rattle.tla_values.specs.FunctionOperations.{Excepts}
-use Rattle.tla_terms.specs.Lists.{changes_list, steps_list}
-use Rattle.tla_terms.specs.Terms as term
-use Rattle.tla_terms.specs.Terms.{Changes, Term, Step, Steps}
-use Rattle.tla_terms.specs.TermViews.{change_item, changes_of, step_item, step_view, steps_of}
-use Rattle.tla_terms.specs.declared.term.Change.{Change}
-use Rattle.tla_terms.specs.declared.term.StepAt.{StepAt}
-use Rattle.tla_eval.specs.declared.fault.EvalFault.{EvalFault}
-use Rattle.tla_eval.specs.declared.fault.EvalFault.TheVariants.{Refused, NoMemory}
-use Rattle.tla_eval.specs.Answers.{Tells}
-use Rattle.tla_eval.specs.Contexts.{Context, Evaluate, bind}
-use Rattle.tla_eval.specs.Functions.{AllChanged, Changed, StepKey}
-use Rattle.tla_values.specs.declared.fault.EvalKind.{EvalKind}
-use Rattle.tla_values.specs.declared.fault.EvalKind.TheVariants.{NotFunction}
-use Rattle.tla_eval.specs.Outcomes.{Outcome, Fails, Gives, Then, Operated, fault}
+use Rattle.base_core.specs.declared.place.Place.{Place}
+use Rattle.states_core.specs.declared.fault.Fault.{Fault}
+use Rattle.values_core.specs.Data.{Val}
+use Rattle.values_core.specs.Functions.{Applies, HasPair, IsFunction}
+use Rattle.values_core.specs.FunctionOperations.{Excepts}
+use Rattle.names_terms.specs.Lists.{changes_list, steps_list}
+use Rattle.names_terms.specs.Terms as term
+use Rattle.names_terms.specs.Terms.{Changes, Term, Step, Steps}
+use Rattle.names_terms.specs.TermViews.{change_item, changes_of, step_item, step_view, steps_of}
+use Rattle.names_terms.specs.declared.term.Change.{Change}
+use Rattle.names_terms.specs.declared.term.StepAt.{StepAt}
+use Rattle.eval_meanings.specs.declared.fault.EvalFault.{EvalFault}
+use Rattle.eval_meanings.specs.declared.fault.EvalFault.TheVariants.{Refused, NoMemory}
+use Rattle.eval_meanings.specs.Answers.{Tells}
+use Rattle.eval_meanings.specs.Contexts.{Context, Evaluate, bind}
+use Rattle.eval_meanings.specs.Functions.{AllChanged, Changed, StepKey}
+use Rattle.values_core.specs.declared.fault.EvalKind.{EvalKind}
+use Rattle.values_core.specs.declared.fault.EvalKind.TheVariants.{NotFunction}
+use Rattle.eval_meanings.specs.Outcomes.{Outcome, Fails, Gives, Then, Operated, fault}
 use Rattle.eval_parts.proofs.Listed.{changes_listed, steps_listed}
 use Rattle.eval_parts.proofs.Loops.{Cut, cut_end}
-use Rattle.eval_reads.specs.Reads.{ChangesRead, PathReads, Reading, ReadsUnder}
+use Rattle.eval_meanings.specs.Reads.{ChangesRead, PathReads, Reading, ReadsUnder}
 use Rattle.eval_parts.specs.Scenes.{Stops}
 use Rattle.eval_parts.specs.ChangePaths.{HasKey, InsideAt, Rebuilt, StepReads}
 use Rattle.eval_parts.specs.declared.changing.Layer.{Layer}

@@ -1,32 +1,32 @@
 -- What UNCHANGED follows: one name at a time; and the rows of UNCHANGED and of `[A]_v`.
 use Rattle.std.proofs.Common.{◌≡◌, inl, inr, refl, ap, sym, ◌∙◌, subst, List, [], ◌∷◌, length, drop, map, ◌<◌, ◌≤◌, ◌+◌, ◌-◌, ℕ, zero, suc, min, arith}
 use Rattle.std.specs.Prelude.{◌↔◌, Bool, true, false, Option, Some, None, Result, Ok, Err, IsTrue, slice_get}
-use Rattle.trace_base.specs.declared.place.Place.{Place}
-use Rattle.tla_core.specs.declared.fault.Fault.{Fault}
-use Rattle.tla_values.specs.Data.{Val, truth}
-use Rattle.tla_values.specs.Order.{val_eq}
-use Rattle.tla_values.specs.OrderLaws.{val_same, val_eq_equiv}
-use Rattle.tla_values.specs.declared.fault.EvalKind.TheVariants.{Nested}
-use Rattle.tla_core.specs.declared.var_id.VarId.{VarId}
-use Rattle.tla_terms.specs.declared.ids.DefId.{DefId}
-use Rattle.tla_terms.specs.declared.level.Level.{Level}
-use Rattle.tla_terms.specs.declared.level.Level.TheVariants as levels
-use Rattle.tla_terms.specs.declared.operator.Operator.{Operator}
-use Rattle.tla_terms.specs.Terms as term
-use Rattle.tla_terms.specs.Terms.{Term, Placed, Meaning, Terms, place_of}
-use Rattle.tla_terms.specs.TermViews.{node_view}
-use Rattle.tla_terms.specs.declared.term.TermNode.{TermNode}
-use Rattle.tla_terms.specs.declared.term.TermNode.TheVariants as node
-use Rattle.tla_eval.specs.declared.fault.EvalFault.{EvalFault}
-use Rattle.tla_eval.specs.declared.fault.EvalFault.TheVariants.{Refused, NoMemory}
-use Rattle.tla_eval.specs.Answers.{Tells}
-use Rattle.tla_eval.specs.Contexts.{Context, Evaluate, Table, within}
-use Rattle.tla_eval.specs.Evaluates.{Evaluates}
-use Rattle.tla_eval.specs.Outcomes.{Outcome, Decides, Gives, IsTruth, SomeTrue, Then, fault, truth_at}
-use Rattle.tla_eval.specs.Unchanged.{IsUnchanged, MeansUnchanged, StaysSame, TruthOf, behind, unchanged_of}
+use Rattle.base_core.specs.declared.place.Place.{Place}
+use Rattle.states_core.specs.declared.fault.Fault.{Fault}
+use Rattle.values_core.specs.Data.{Val, truth}
+use Rattle.values_core.specs.Order.{val_eq}
+use Rattle.values_core.specs.OrderLaws.{val_same, val_eq_equiv}
+use Rattle.values_core.specs.declared.fault.EvalKind.TheVariants.{Nested}
+use Rattle.states_core.specs.declared.var_id.VarId.{VarId}
+use Rattle.names_terms.specs.declared.ids.DefId.{DefId}
+use Rattle.names_terms.specs.declared.level.Level.{Level}
+use Rattle.names_terms.specs.declared.level.Level.TheVariants as levels
+use Rattle.names_terms.specs.declared.operator.Operator.{Operator}
+use Rattle.names_terms.specs.Terms as term
+use Rattle.names_terms.specs.Terms.{Term, Placed, Meaning, Terms, place_of}
+use Rattle.names_terms.specs.TermViews.{node_view}
+use Rattle.names_terms.specs.declared.term.TermNode.{TermNode}
+use Rattle.names_terms.specs.declared.term.TermNode.TheVariants as node
+use Rattle.eval_meanings.specs.declared.fault.EvalFault.{EvalFault}
+use Rattle.eval_meanings.specs.declared.fault.EvalFault.TheVariants.{Refused, NoMemory}
+use Rattle.eval_meanings.specs.Answers.{Tells}
+use Rattle.eval_meanings.specs.Contexts.{Context, Evaluate, Table, within}
+use Rattle.eval_meanings.specs.Evaluates.{Evaluates}
+use Rattle.eval_meanings.specs.Outcomes.{Outcome, Decides, Gives, IsTruth, SomeTrue, Then, fault, truth_at}
+use Rattle.eval_meanings.specs.Unchanged.{IsUnchanged, MeansUnchanged, StaysSame, TruthOf, behind, unchanged_of}
 use Rattle.eval_parts.specs.Following.{followed, variable_at}
 use Rattle.eval_parts.proofs.Loops.{Cut}
-use Rattle.eval_reads.specs.Reads.{Knows, MeansUnchangedReads, Reading, Reads, ReadsEach, SameReads, UnchangedReads}
+use Rattle.eval_meanings.specs.Reads.{Knows, MeansUnchangedReads, Reading, Reads, ReadsEach, SameReads, UnchangedReads}
 
 -- a term that stands for no definition
 pub behind_stops : (ops : Table) (n m : ℕ) (e : Term) → followed ops e ≡ None → behind ops n m e ≡ (m, e)

@@ -1,15 +1,15 @@
 -- The items of a list of a term are those that it was made of.
 use Rattle.std.proofs.Common.{◌≡◌, List, [], ◌∷◌, ◌++◌, ◌∙◌, append_assoc, rules}
 use Rattle.std.specs.Prelude.{map}
-use Rattle.tla_terms.specs.Terms as term
-use Rattle.tla_terms.specs.Terms.{Term, Terms, Steps, Bounds, Fields, Changes, Arms}
-use Rattle.tla_terms.specs.TermViews.{step_view, terms_from, steps_from, bounds_from, fields_from, changes_from, arms_from, terms_of, steps_of, bounds_of, fields_of, changes_of, arms_of, step_item, bound_item, field_item, change_item, arm_item}
-use Rattle.tla_terms.specs.Lists.{terms_list, steps_list, bounds_list, fields_list, changes_list, arms_list}
-use Rattle.tla_terms.specs.declared.term.StepAt.{StepAt}
-use Rattle.tla_terms.specs.declared.term.Bound.{Bound}
-use Rattle.tla_terms.specs.declared.term.Field.{Field}
-use Rattle.tla_terms.specs.declared.term.Change.{Change}
-use Rattle.tla_terms.specs.declared.term.Arm.{Arm}
+use Rattle.names_terms.specs.Terms as term
+use Rattle.names_terms.specs.Terms.{Term, Terms, Steps, Bounds, Fields, Changes, Arms}
+use Rattle.names_terms.specs.TermViews.{step_view, terms_from, steps_from, bounds_from, fields_from, changes_from, arms_from, terms_of, steps_of, bounds_of, fields_of, changes_of, arms_of, step_item, bound_item, field_item, change_item, arm_item}
+use Rattle.names_terms.specs.Lists.{terms_list, steps_list, bounds_list, fields_list, changes_list, arms_list}
+use Rattle.names_terms.specs.declared.term.StepAt.{StepAt}
+use Rattle.names_terms.specs.declared.term.Bound.{Bound}
+use Rattle.names_terms.specs.declared.term.Field.{Field}
+use Rattle.names_terms.specs.declared.term.Change.{Change}
+use Rattle.names_terms.specs.declared.term.Arm.{Arm}
 
 append_none : {A : Type 0} (xs : List A) → xs ≡ xs ++ []
 append_none xs = search rules

@@ -3,28 +3,28 @@ use Rattle.std.proofs.Common.{◌≡◌, inl, inr, refl, ap, sym, ◌∙◌, sub
 use Rattle.std.specs.Prelude.{Bool, true, false, Result, Ok, Err, if◌then◌else◌}
 use Rattle.std.proofs.Math.Seq.{drop-cons}
 use Rattle.std.specs.List.{drop-map}
-use Rattle.tla_core.specs.declared.fault.Fault.{Fault}
-use Rattle.tla_eval.specs.declared.fault.EvalFault.{EvalFault}
-use Rattle.tla_eval.specs.declared.fault.EvalFault.TheVariants.{Refused, NoMemory}
-use Rattle.tla_values.specs.Data.{Val}
-use Rattle.tla_values.specs.declared.fault.EvalKind.TheVariants.{NoChoice}
-use Rattle.tla_eval.specs.Answers.{Tells}
-use Rattle.tla_eval.specs.Binders.{FirstThat, Passing}
-use Rattle.tla_ast.specs.declared.operators.InfixOperator.{InfixOperator}
-use Rattle.tla_eval.specs.Contexts.{Context, Evaluate}
-use Rattle.tla_eval.specs.Meanings.{ChainEvaluates, FirstArm}
-use Rattle.tla_eval.specs.Unchanged.{TruthOf}
-use Rattle.tla_eval.specs.Operations.{InfixAnswers}
-use Rattle.tla_eval.specs.Sets.{first_operand, other_operands}
-use Rattle.tla_eval.specs.Outcomes.{Outcome, Gives, Then, Each, AllTrue, SomeTrue, Operated, fault, place_in}
-use Rattle.trace_base.specs.declared.place.Place.{Place}
-use Rattle.tla_terms.specs.Terms.{Arms, Term, Terms, NoTerms, MoreTerms, Operands, First, Next, place_of}
-use Rattle.tla_terms.specs.declared.term.Operand.{Operand}
-use Rattle.tla_terms.specs.declared.term.Arm.{Arm}
-use Rattle.tla_terms.specs.TermViews.{arm_item, arms_of, terms_of, operands_from, operands_of}
-use Rattle.tla_terms.specs.Lists.{arms_list, terms_list}
+use Rattle.states_core.specs.declared.fault.Fault.{Fault}
+use Rattle.eval_meanings.specs.declared.fault.EvalFault.{EvalFault}
+use Rattle.eval_meanings.specs.declared.fault.EvalFault.TheVariants.{Refused, NoMemory}
+use Rattle.values_core.specs.Data.{Val}
+use Rattle.values_core.specs.declared.fault.EvalKind.TheVariants.{NoChoice}
+use Rattle.eval_meanings.specs.Answers.{Tells}
+use Rattle.eval_meanings.specs.Binders.{FirstThat, Passing}
+use Rattle.reading_trees.specs.declared.operators.InfixOperator.{InfixOperator}
+use Rattle.eval_meanings.specs.Contexts.{Context, Evaluate}
+use Rattle.eval_meanings.specs.Meanings.{ChainEvaluates, FirstArm}
+use Rattle.eval_meanings.specs.Unchanged.{TruthOf}
+use Rattle.eval_meanings.specs.Operations.{InfixAnswers}
+use Rattle.eval_meanings.specs.Sets.{first_operand, other_operands}
+use Rattle.eval_meanings.specs.Outcomes.{Outcome, Gives, Then, Each, AllTrue, SomeTrue, Operated, fault, place_in}
+use Rattle.base_core.specs.declared.place.Place.{Place}
+use Rattle.names_terms.specs.Terms.{Arms, Term, Terms, NoTerms, MoreTerms, Operands, First, Next, place_of}
+use Rattle.names_terms.specs.declared.term.Operand.{Operand}
+use Rattle.names_terms.specs.declared.term.Arm.{Arm}
+use Rattle.names_terms.specs.TermViews.{arm_item, arms_of, terms_of, operands_from, operands_of}
+use Rattle.names_terms.specs.Lists.{arms_list, terms_list}
 use Rattle.eval_parts.proofs.Listed.{arms_listed, terms_listed}
-use Rattle.eval_reads.specs.Reads.{ArmsRead, InfixReads, Reading, ReadsEach, is_chained}
+use Rattle.eval_meanings.specs.Reads.{ArmsRead, InfixReads, Reading, ReadsEach, is_chained}
 use Rattle.eval_parts.specs.Scenes.{HasMore, Stops, operand_item}
 
 abbrev pub Cut : {X : Type 0} → List X → ℕ → X → Type 0

@@ -1,18 +1,18 @@
 -- Parts of a product: those at hand, those that are still to come, and the whole.
 use Rattle.std.proofs.Common.{◌≡◌, inl, inr, refl, ap, sym, ◌∙◌, subst, List, [], ◌∷◌, ◌++◌, length, drop, map, ◌≤◌, ◌+◌, ℕ, append_assoc, rules}
 use Rattle.std.specs.Prelude.{Result, Ok, Err}
-use Rattle.trace_base.specs.declared.place.Place.{Place}
-use Rattle.tla_core.specs.declared.fault.Fault.{Fault}
-use Rattle.tla_ast.specs.declared.operators.InfixOperator.TheVariants as infix_operator
-use Rattle.tla_terms.specs.Terms.{Term, Operands, Next}
-use Rattle.tla_terms.specs.declared.term.Operand.{Operand}
-use Rattle.eval_sets.specs.DescribedSets.{Described, Product, Parts, NoParts, MoreParts, parts_list}
-use Rattle.eval_sets.specs.Soundness.{IsSound, PartsAreSound}
-use Rattle.tla_eval.specs.declared.fault.EvalFault.{EvalFault}
-use Rattle.tla_eval.specs.declared.fault.EvalFault.TheVariants.{Refused, NoMemory}
-use Rattle.tla_eval.specs.Answers.{IsReady, Tells}
-use Rattle.tla_eval.specs.Outcomes.{Outcome, Each, Gives, Then, fault}
-use Rattle.tla_eval.specs.Sets.{first_operand, other_operands, parts_of, set_at}
+use Rattle.base_core.specs.declared.place.Place.{Place}
+use Rattle.states_core.specs.declared.fault.Fault.{Fault}
+use Rattle.reading_trees.specs.declared.operators.InfixOperator.TheVariants as infix_operator
+use Rattle.names_terms.specs.Terms.{Term, Operands, Next}
+use Rattle.names_terms.specs.declared.term.Operand.{Operand}
+use Rattle.values_sets.specs.DescribedSets.{Described, Product, Parts, NoParts, MoreParts, parts_list}
+use Rattle.values_sets.specs.Soundness.{IsSound, PartsAreSound}
+use Rattle.eval_meanings.specs.declared.fault.EvalFault.{EvalFault}
+use Rattle.eval_meanings.specs.declared.fault.EvalFault.TheVariants.{Refused, NoMemory}
+use Rattle.eval_meanings.specs.Answers.{IsReady, Tells}
+use Rattle.eval_meanings.specs.Outcomes.{Outcome, Each, Gives, Then, fault}
+use Rattle.eval_meanings.specs.Sets.{first_operand, other_operands, parts_of, set_at}
 use Rattle.eval_parts.specs.ReadyParts.{AreReady}
 use Rattle.eval_parts.specs.Scenes.{operand_item}
 

@@ -2,22 +2,22 @@
 use Rattle.std.proofs.Common.{◌≡◌, inl, inr, refl, ap, sym, ◌∙◌, subst, List, [], ◌∷◌, ◌++◌, length, map, ℕ, arith}
 use Rattle.std.specs.Prelude.{Result, Ok, Err}
 use Rattle.std.specs.List.{Contains}
-use Rattle.trace_base.specs.declared.place.Place.{Place}
-use Rattle.tla_core.specs.declared.fault.Fault.{Fault}
-use Rattle.tla_values.specs.Ascending.{cons_cases, head_in, tail_in, none_in}
-use Rattle.tla_values.specs.Data.{Val, string}
-use Rattle.tla_values.specs.SetOperations.{AreDifferent}
-use Rattle.tla_terms.specs.Terms.{Term, place_of}
-use Rattle.eval_sets.specs.DescribedSets as sets
-use Rattle.eval_sets.specs.DescribedSets.{Described, Fields, Records, fields_list}
-use Rattle.eval_sets.specs.Membership.{names_of}
-use Rattle.eval_sets.specs.Soundness.{FieldsAreSound, IsSound, IsString}
-use Rattle.tla_eval.specs.declared.fault.EvalFault.{EvalFault}
-use Rattle.tla_eval.specs.declared.fault.EvalFault.TheVariants.{Refused, NoMemory}
-use Rattle.tla_eval.specs.Answers.{Tells}
-use Rattle.tla_eval.specs.Contexts.{Context, Describe}
-use Rattle.tla_eval.specs.Outcomes.{Outcome, Each, Gives, Then, fault}
-use Rattle.tla_eval.specs.Sets.{FieldDescribed, fields_of}
+use Rattle.base_core.specs.declared.place.Place.{Place}
+use Rattle.states_core.specs.declared.fault.Fault.{Fault}
+use Rattle.values_core.specs.Ascending.{cons_cases, head_in, tail_in, none_in}
+use Rattle.values_core.specs.Data.{Val, string}
+use Rattle.values_core.specs.SetOperations.{AreDifferent}
+use Rattle.names_terms.specs.Terms.{Term, place_of}
+use Rattle.values_sets.specs.DescribedSets as sets
+use Rattle.values_sets.specs.DescribedSets.{Described, Fields, Records, fields_list}
+use Rattle.values_sets.specs.Membership.{names_of}
+use Rattle.values_sets.specs.Soundness.{FieldsAreSound, IsSound, IsString}
+use Rattle.eval_meanings.specs.declared.fault.EvalFault.{EvalFault}
+use Rattle.eval_meanings.specs.declared.fault.EvalFault.TheVariants.{Refused, NoMemory}
+use Rattle.eval_meanings.specs.Answers.{Tells}
+use Rattle.eval_meanings.specs.Contexts.{Context, Describe}
+use Rattle.eval_meanings.specs.Outcomes.{Outcome, Each, Gives, Then, fault}
+use Rattle.eval_meanings.specs.Sets.{FieldDescribed, fields_of}
 use Rattle.eval_parts.specs.Scenes.{Stops}
 use Rattle.eval_parts.specs.ChangePaths.{SetOfField, part_item}
 use Rattle.eval_parts.specs.declared.field_sets.Part.{Part}

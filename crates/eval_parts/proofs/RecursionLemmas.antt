@@ -2,20 +2,20 @@
 use Rattle.std.proofs.Common.{◌≡◌, ◌∙◌, ap, inl, inr, refl, sym, subst, List, [], ◌∷◌, ◌++◌, length, drop, map, ℕ, zero, suc, ◌+◌, arith, append_assoc}
 use Rattle.std.proofs.lemmas.List.{length-append, map-append}
 use Rattle.std.specs.Prelude.{Result, Ok, replicate}
-use Rattle.tla_core.specs.declared.fault.Fault.{Fault}
-use Rattle.tla_values.specs.Data.{Val}
-use Rattle.tla_values.specs.Functions.{IsSequence, values_in}
-use Rattle.tla_terms.specs.Lists.{bounds_list}
-use Rattle.tla_terms.specs.Terms as term
-use Rattle.tla_terms.specs.Terms.{Term, Bounds, width}
-use Rattle.eval_sets.specs.DescribedSets.{Described, Product}
-use Rattle.eval_sets.specs.Membership.{AreOfParts, Belongs}
-use Rattle.eval_sets.proofs.Tuples.{is_a_sequence, values-sequence_of}
-use Rattle.tla_eval.specs.Contexts.{Context, Describe}
-use Rattle.tla_eval.specs.Outcomes.{Each}
-use Rattle.tla_eval.specs.Recursion.{KeysDescribed, names_at, sets_of_names}
-use Rattle.tla_eval.specs.Sets.{MeansSet, PartDescribed, ProductDescribed, parts_of, set_at}
-use Rattle.eval_reads.specs.Reads.{Reading, ReadsEach}
+use Rattle.states_core.specs.declared.fault.Fault.{Fault}
+use Rattle.values_core.specs.Data.{Val}
+use Rattle.values_core.specs.Functions.{IsSequence, values_in}
+use Rattle.names_terms.specs.Lists.{bounds_list}
+use Rattle.names_terms.specs.Terms as term
+use Rattle.names_terms.specs.Terms.{Term, Bounds, width}
+use Rattle.values_sets.specs.DescribedSets.{Described, Product}
+use Rattle.values_sets.specs.Membership.{AreOfParts, Belongs}
+use Rattle.values_sets.proofs.Tuples.{is_a_sequence, values-sequence_of}
+use Rattle.eval_meanings.specs.Contexts.{Context, Describe}
+use Rattle.eval_meanings.specs.Outcomes.{Each}
+use Rattle.eval_meanings.specs.Recursion.{KeysDescribed, names_at, sets_of_names}
+use Rattle.eval_meanings.specs.Sets.{MeansSet, PartDescribed, ProductDescribed, parts_of, set_at}
+use Rattle.eval_meanings.specs.Reads.{Reading, ReadsEach}
 use Rattle.eval_parts.specs.Recursions.{HasNames, IsKey}
 
 -- ONE TERM MORE

@@ -1,22 +1,22 @@
 -- Rows of the language by what their helpers tell.
 use Rattle.std.proofs.Common.{◌≡◌, inl, inr, refl, [], ◌∷◌}
 use Rattle.std.specs.Prelude.{Bool, true, false, Result, Ok, Err}
-use Rattle.trace_base.specs.declared.place.Place.{Place}
-use Rattle.tla_values.specs.Data.{Val, model, truth, integer, string, set, function}
-use Rattle.tla_values.specs.Sets.{IsSet, items_of}
-use Rattle.tla_ast.specs.declared.operators.InfixOperator.{InfixOperator}
-use Rattle.tla_ast.specs.declared.operators.InfixOperator.TheVariants as infix_operator
-use Rattle.tla_terms.specs.Terms.{Term, Operands, First, Infix, Next, place_of}
-use Rattle.tla_eval.specs.declared.fault.EvalFault.{EvalFault}
-use Rattle.tla_eval.specs.declared.fault.EvalFault.TheVariants.{Refused, NoMemory}
-use Rattle.tla_eval.specs.Answers.{Tells, is_joining}
-use Rattle.tla_eval.specs.Binders.{members_at}
-use Rattle.tla_eval.specs.Contexts.{Context, Evaluate, Describe, Table}
-use Rattle.eval_sets.specs.DescribedSets.{Described}
-use Rattle.tla_eval.specs.Meanings.{ChainEvaluates, InfixDescribed, InfixEvaluates, IsValueOf, MeaningDescribes, MeaningEvaluates}
-use Rattle.tla_eval.specs.Sets.{ChainDescribed, ListedAt, first_operand, other_operands}
+use Rattle.base_core.specs.declared.place.Place.{Place}
+use Rattle.values_core.specs.Data.{Val, model, truth, integer, string, set, function}
+use Rattle.values_core.specs.Sets.{IsSet, items_of}
+use Rattle.reading_trees.specs.declared.operators.InfixOperator.{InfixOperator}
+use Rattle.reading_trees.specs.declared.operators.InfixOperator.TheVariants as infix_operator
+use Rattle.names_terms.specs.Terms.{Term, Operands, First, Infix, Next, place_of}
+use Rattle.eval_meanings.specs.declared.fault.EvalFault.{EvalFault}
+use Rattle.eval_meanings.specs.declared.fault.EvalFault.TheVariants.{Refused, NoMemory}
+use Rattle.eval_meanings.specs.Answers.{Tells, is_joining}
+use Rattle.eval_meanings.specs.Binders.{members_at}
+use Rattle.eval_meanings.specs.Contexts.{Context, Evaluate, Describe, Table}
+use Rattle.values_sets.specs.DescribedSets.{Described}
+use Rattle.eval_meanings.specs.Meanings.{ChainEvaluates, InfixDescribed, InfixEvaluates, IsValueOf, MeaningDescribes, MeaningEvaluates}
+use Rattle.eval_meanings.specs.Sets.{ChainDescribed, ListedAt, first_operand, other_operands}
 use Rattle.eval_parts.specs.Scenes.{Stops, makes_set, truth_answer}
-use Rattle.tla_eval.specs.Outcomes.{Outcome, AllTrue, Gives, Then}
+use Rattle.eval_meanings.specs.Outcomes.{Outcome, AllTrue, Gives, Then}
 
 -- a part of which nothing more is made
 pub gives_it : {A : Type 0} (P : Outcome A) (r : Result A EvalFault) → Tells r P → Tells r (Then P (λ u. Gives u))

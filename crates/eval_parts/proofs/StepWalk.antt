@@ -3,25 +3,25 @@ use Rattle.std.proofs.Common.{◌≡◌, inl, inr, refl, ap, sym, ◌∙◌, sub
 use Rattle.std.proofs.lemmas.List.{get_or_push, length-map}
 use Rattle.std.proofs.Math.ListN.{get_or-map}
 use Rattle.std.specs.Prelude.{Option, Some, None, Result, Ok, Err}
-use Rattle.trace_base.specs.declared.place.Place.{Place}
-use Rattle.tla_core.specs.declared.fault.Fault.{Fault}
-use Rattle.tla_values.specs.Data.{Val}
-use Rattle.tla_values.specs.FunctionOperations.{AppliesAt}
-use Rattle.tla_terms.specs.Lists.{steps_list}
-use Rattle.tla_terms.specs.Terms as term
-use Rattle.tla_terms.specs.Terms.{Term, Step, Steps, place_of}
-use Rattle.tla_terms.specs.TermViews.{step_item, steps_of}
-use Rattle.tla_terms.specs.declared.term.StepAt.{StepAt}
-use Rattle.tla_eval.specs.declared.fault.EvalFault.{EvalFault}
-use Rattle.tla_eval.specs.declared.fault.EvalFault.TheVariants.{Refused, NoMemory}
-use Rattle.tla_eval.specs.Answers.{Tells}
-use Rattle.tla_eval.specs.Contexts.{Context, Table, Evaluate, Describe, primed}
-use Rattle.tla_eval.specs.Functions.{AtStep, StepKey, StepsEvaluate, steps_place}
-use Rattle.tla_eval.specs.Outcomes.{Outcome, Then, Operated, fault, place_in}
-use Rattle.tla_eval.specs.Recursion.{Recursion as Seen, applied_by}
+use Rattle.base_core.specs.declared.place.Place.{Place}
+use Rattle.states_core.specs.declared.fault.Fault.{Fault}
+use Rattle.values_core.specs.Data.{Val}
+use Rattle.values_core.specs.FunctionOperations.{AppliesAt}
+use Rattle.names_terms.specs.Lists.{steps_list}
+use Rattle.names_terms.specs.Terms as term
+use Rattle.names_terms.specs.Terms.{Term, Step, Steps, place_of}
+use Rattle.names_terms.specs.TermViews.{step_item, steps_of}
+use Rattle.names_terms.specs.declared.term.StepAt.{StepAt}
+use Rattle.eval_meanings.specs.declared.fault.EvalFault.{EvalFault}
+use Rattle.eval_meanings.specs.declared.fault.EvalFault.TheVariants.{Refused, NoMemory}
+use Rattle.eval_meanings.specs.Answers.{Tells}
+use Rattle.eval_meanings.specs.Contexts.{Context, Table, Evaluate, Describe, primed}
+use Rattle.eval_meanings.specs.Functions.{AtStep, StepKey, StepsEvaluate, steps_place}
+use Rattle.eval_meanings.specs.Outcomes.{Outcome, Then, Operated, fault, place_in}
+use Rattle.eval_meanings.specs.Recursion.{Recursion as Seen, applied_by}
 use Rattle.eval_parts.proofs.Listed.{steps_listed}
 use Rattle.eval_parts.proofs.Loops.{Cut, cut_end}
-use Rattle.eval_reads.specs.Reads.{Reading, RecursionReads, StepsRead}
+use Rattle.eval_meanings.specs.Reads.{Reading, RecursionReads, StepsRead}
 use Rattle.eval_parts.specs.ChangePaths.{HasKey, StepMakes, StepReads, StepsMake, StepsMakeReads, primes_in, under, with_prime}
 use Rattle.eval_parts.specs.Recursions.{FirstMakes, FirstReads, first_applied}
 

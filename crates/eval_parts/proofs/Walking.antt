@@ -2,8 +2,8 @@
 use Rattle.std.proofs.Common.{◌≡◌, refl, ap, sym, ◌∙◌, subst, ℕ, zero, suc, ◌+◌, ◌<◌, ◌≤◌, Bool, true, false, List, [], ◌∷◌, ◌++◌, length, map, take, drop, set, get_or, drop-cons, append_assoc, arith, rules}
 use Rattle.std.proofs.lemmas.List.{take_more, take-set, drop-set, length-set, map-append}
 use Rattle.std.specs.Prelude.{◌↔◌, IsTrue, Some, slice_get}
-use Rattle.tla_values.specs.Data.{Val}
-use Rattle.tla_eval.specs.Binders.{combinations, with_each, times, ranges}
+use Rattle.values_core.specs.Data.{Val}
+use Rattle.eval_meanings.specs.Binders.{combinations, with_each, times, ranges}
 use Rattle.eval_parts.specs.Walks.{AreWithin, at_places, first_places, first_with, from_places, left_from}
 
 length_both : {X : Type 0} (xs ys : List X) → length (xs ++ ys) ≡ length xs + length ys

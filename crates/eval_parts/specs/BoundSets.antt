@@ -1,12 +1,12 @@
 -- The sets that names are bound over, as Rust holds them.
 use Rattle.std.specs.Prelude.{ℕ, List}
-use Rattle.trace_base.specs.declared.place.Place.{Place}
-use Rattle.tla_values.specs.Data.{Val}
-use Rattle.tla_values.specs.Sets.{items_of}
-use Rattle.tla_terms.specs.Terms.{Term, place_of}
-use Rattle.tla_eval.specs.Binders.{members_at}
-use Rattle.tla_eval.specs.Contexts.{Context, Evaluate}
-use Rattle.tla_eval.specs.Outcomes.{Outcome, Gives, Then}
+use Rattle.base_core.specs.declared.place.Place.{Place}
+use Rattle.values_core.specs.Data.{Val}
+use Rattle.values_core.specs.Sets.{items_of}
+use Rattle.names_terms.specs.Terms.{Term, place_of}
+use Rattle.eval_meanings.specs.Binders.{members_at}
+use Rattle.eval_meanings.specs.Contexts.{Context, Evaluate}
+use Rattle.eval_meanings.specs.Outcomes.{Outcome, Gives, Then}
 use Rattle.eval_parts.specs.declared.bound_values.BoundSet.{BoundSet}
 
 -- how many names go over a value, the place of its term, and the value

@@ -1,19 +1,19 @@
 -- Steps behind a primary from left to right, changes of EXCEPT from the inside out, and the fields of a set of records one by one.
 use Rattle.std.specs.Prelude.{◌⊎◌, ℕ, zero, suc, List, [], ◌∷◌, Option, Some, None}
-use Rattle.trace_base.specs.declared.place.Place.{Place}
-use Rattle.tla_values.specs.Data.{Val, string}
-use Rattle.tla_values.specs.Functions.{IsFunction, InDomain, HasPair}
-use Rattle.tla_values.specs.FunctionOperations.{AppliesAt, Excepts}
-use Rattle.tla_values.specs.declared.fault.EvalKind.TheVariants.{NotFunction}
-use Rattle.tla_terms.specs.Lists.{terms_list}
-use Rattle.tla_terms.specs.Terms as term
-use Rattle.tla_terms.specs.Terms.{Step}
-use Rattle.eval_sets.specs.DescribedSets.{Described}
-use Rattle.tla_eval.specs.Contexts.{Context, Evaluate, primed}
-use Rattle.tla_eval.specs.Functions.{StepKey}
-use Rattle.tla_eval.specs.Outcomes.{Outcome, Gives, Fails, Then, Operated, place_in}
-use Rattle.tla_eval.specs.Sets.{set_at}
-use Rattle.eval_reads.specs.Reads.{Reading, ReadsEach}
+use Rattle.base_core.specs.declared.place.Place.{Place}
+use Rattle.values_core.specs.Data.{Val, string}
+use Rattle.values_core.specs.Functions.{IsFunction, InDomain, HasPair}
+use Rattle.values_core.specs.FunctionOperations.{AppliesAt, Excepts}
+use Rattle.values_core.specs.declared.fault.EvalKind.TheVariants.{NotFunction}
+use Rattle.names_terms.specs.Lists.{terms_list}
+use Rattle.names_terms.specs.Terms as term
+use Rattle.names_terms.specs.Terms.{Step}
+use Rattle.values_sets.specs.DescribedSets.{Described}
+use Rattle.eval_meanings.specs.Contexts.{Context, Evaluate, primed}
+use Rattle.eval_meanings.specs.Functions.{StepKey}
+use Rattle.eval_meanings.specs.Outcomes.{Outcome, Gives, Fails, Then, Operated, place_in}
+use Rattle.eval_meanings.specs.Sets.{set_at}
+use Rattle.eval_meanings.specs.Reads.{Reading, ReadsEach}
 use Rattle.eval_parts.specs.declared.changing.Layer.{Layer}
 use Rattle.eval_parts.specs.declared.field_sets.Part.{Part}
 

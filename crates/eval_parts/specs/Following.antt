@@ -1,11 +1,11 @@
 -- What UNCHANGED follows, and what it looks for there.
 use Rattle.std.specs.Prelude.{ℕ, List, Option, Some, None, slice_get}
-use Rattle.trace_base.specs.declared.place.Place.{Place}
-use Rattle.tla_terms.specs.declared.level.Level.TheVariants as levels
-use Rattle.tla_terms.specs.declared.operator.Operator.{Operator}
-use Rattle.tla_terms.specs.Terms as term
-use Rattle.tla_terms.specs.Terms.{Term, Placed}
-use Rattle.tla_eval.specs.Contexts.{Table}
+use Rattle.base_core.specs.declared.place.Place.{Place}
+use Rattle.names_terms.specs.declared.level.Level.TheVariants as levels
+use Rattle.names_terms.specs.declared.operator.Operator.{Operator}
+use Rattle.names_terms.specs.Terms as term
+use Rattle.names_terms.specs.Terms.{Term, Placed}
+use Rattle.eval_meanings.specs.Contexts.{Table}
 
 -- the definition that a name of level 1 without arguments stands for, if the term is such a name
 abbrev pub followed : Table → Term → Option Operator

@@ -1,8 +1,8 @@
 -- The parts of a product in the midst of their description: each beside its place.
 use Rattle.std.specs.Prelude.{List, [], ◌∷◌}
-use Rattle.trace_base.specs.declared.place.Place.{Place}
-use Rattle.eval_sets.specs.DescribedSets.{Described}
-use Rattle.tla_eval.specs.Answers.{IsReady}
+use Rattle.base_core.specs.declared.place.Place.{Place}
+use Rattle.values_sets.specs.DescribedSets.{Described}
+use Rattle.eval_meanings.specs.Answers.{IsReady}
 
 -- each is a sound set, or a value that may be no set
 abbrev pub AreReady : List (Place × Described) → Type 0

@@ -1,15 +1,15 @@
 -- Functions that use themselves, as the code has them, and the first step behind a primary.
 use Rattle.std.specs.Prelude.{◌≡◌, List, [], ◌∷◌, Option, Some, None, length}
-use Rattle.trace_base.specs.declared.place.Place.{Place}
-use Rattle.tla_values.specs.Data.{Val}
-use Rattle.tla_values.specs.Functions.{IsSequence}
-use Rattle.tla_terms.specs.Terms as term
-use Rattle.tla_terms.specs.Terms.{Term, Step}
-use Rattle.tla_eval.specs.Contexts.{Context, Table, Evaluate, Describe, within}
-use Rattle.tla_eval.specs.Functions.{StepKey}
-use Rattle.tla_eval.specs.Outcomes.{Outcome, Then}
-use Rattle.tla_eval.specs.Recursion.{Recursion as Seen, RecursionEvaluates, applied_by, names_at}
-use Rattle.eval_reads.specs.Reads.{Reading, RecursionReads}
+use Rattle.base_core.specs.declared.place.Place.{Place}
+use Rattle.values_core.specs.Data.{Val}
+use Rattle.values_core.specs.Functions.{IsSequence}
+use Rattle.names_terms.specs.Terms as term
+use Rattle.names_terms.specs.Terms.{Term, Step}
+use Rattle.eval_meanings.specs.Contexts.{Context, Table, Evaluate, Describe, within}
+use Rattle.eval_meanings.specs.Functions.{StepKey}
+use Rattle.eval_meanings.specs.Outcomes.{Outcome, Then}
+use Rattle.eval_meanings.specs.Recursion.{Recursion as Seen, RecursionEvaluates, applied_by, names_at}
+use Rattle.eval_meanings.specs.Reads.{Reading, RecursionReads}
 use Rattle.eval_parts.specs.ChangePaths.{HasKey, StepReads, StepsMake, StepsMakeReads, primes_in, under}
 use Rattle.eval_parts.specs.declared.recursion.Recursion.{Recursion}
 

@@ -1,17 +1,17 @@
 -- What a scene of Rust stands for: the definitions and the context in which a term is evaluated.
 use Rattle.std.specs.Prelude.{Bool, true, false, not, List, Option, Some, None, Result, Ok, Err, map}
-use Rattle.tla_values.specs.Data.{Val, truth}
-use Rattle.tla_values.specs.declared.fault.EvalKind.TheVariants.{NoCase}
-use Rattle.tla_eval.specs.Contexts.{Context, Evaluate, Table}
-use Rattle.trace_base.specs.declared.place.Place.{Place}
-use Rattle.tla_ast.specs.declared.operators.InfixOperator.{InfixOperator}
-use Rattle.tla_ast.specs.declared.operators.InfixOperator.TheVariants as infix_operator
-use Rattle.tla_terms.specs.declared.term.Operand.{Operand}
-use Rattle.tla_terms.specs.Terms.{Term, Operands, First, Next}
-use Rattle.eval_sets.specs.DescribedSets.{Described, Listed}
-use Rattle.tla_eval.specs.declared.fault.EvalFault.{EvalFault}
-use Rattle.tla_eval.specs.declared.fault.EvalFault.TheVariants.{Refused, NoMemory}
-use Rattle.tla_eval.specs.Outcomes.{Fails, Outcome, fault}
+use Rattle.values_core.specs.Data.{Val, truth}
+use Rattle.values_core.specs.declared.fault.EvalKind.TheVariants.{NoCase}
+use Rattle.eval_meanings.specs.Contexts.{Context, Evaluate, Table}
+use Rattle.base_core.specs.declared.place.Place.{Place}
+use Rattle.reading_trees.specs.declared.operators.InfixOperator.{InfixOperator}
+use Rattle.reading_trees.specs.declared.operators.InfixOperator.TheVariants as infix_operator
+use Rattle.names_terms.specs.declared.term.Operand.{Operand}
+use Rattle.names_terms.specs.Terms.{Term, Operands, First, Next}
+use Rattle.values_sets.specs.DescribedSets.{Described, Listed}
+use Rattle.eval_meanings.specs.declared.fault.EvalFault.{EvalFault}
+use Rattle.eval_meanings.specs.declared.fault.EvalFault.TheVariants.{Refused, NoMemory}
+use Rattle.eval_meanings.specs.Outcomes.{Fails, Outcome, fault}
 use Rattle.eval_parts.specs.declared.scene.Scene.{Scene}
 
 abbrev pub table : Scene → Table

@@ -1,11 +1,11 @@
 -- A walk over the combinations of the members of lists, by the place of the member that is taken of each list: places of later lists change faster.
 use Rattle.std.specs.Prelude.{ℕ, ◌<◌, Bool, true, false, List, [], ◌∷◌, ◌++◌, length, map, take, drop}
-use Rattle.tla_values.specs.Data.{Val}
-use Rattle.tla_values.specs.SetOperations.{AreDifferent}
-use Rattle.tla_ast.specs.declared.operators.Quantifier.{Quantifier}
-use Rattle.tla_ast.specs.declared.operators.Quantifier.TheVariants as quantifier
-use Rattle.tla_eval.specs.Binders.{combinations, with_each}
-use Rattle.tla_eval.specs.Outcomes.{Outcome, AllTrue, SomeTrue}
+use Rattle.values_core.specs.Data.{Val}
+use Rattle.values_core.specs.SetOperations.{AreDifferent}
+use Rattle.reading_trees.specs.declared.operators.Quantifier.{Quantifier}
+use Rattle.reading_trees.specs.declared.operators.Quantifier.TheVariants as quantifier
+use Rattle.eval_meanings.specs.Binders.{combinations, with_each}
+use Rattle.eval_meanings.specs.Outcomes.{Outcome, AllTrue, SomeTrue}
 
 -- the first place of each list
 abbrev pub first_places : List (List Val) → List ℕ

@@ -1,25 +1,25 @@
 //! What is made of answers: of truth values, of the values of operands, and of the sets that operands describe.
 
 ghost use Rattle.std.specs.Prelude.{◌≡◌, [], ◌∷◌, IfErr, IfOk, Ok, true};
-ghost use Rattle.tla_values.specs.Sets.{IsSet, items_of};
-ghost use Rattle.eval_sets.specs.DescribedSets.{Functions};
-ghost use Rattle.tla_eval.specs.Answers.{IsReady, Tells, is_joining, is_operation};
-ghost use Rattle.tla_eval.specs.Binders.{members_at};
-ghost use Rattle.tla_eval.specs.Meanings.{both_or_neither};
-ghost use Rattle.tla_eval.specs.Operations.{InfixAnswers};
-ghost use Rattle.tla_eval.specs.Outcomes.{Gives, Operated, Then, place_in, truth_at};
-ghost use Rattle.tla_eval.specs.Sets.{IntervalDescribed, IsWithin, Joined, set_at};
-ghost use Rattle.tla_terms.specs.Terms.{place_of};
+ghost use Rattle.values_core.specs.Sets.{IsSet, items_of};
+ghost use Rattle.values_sets.specs.DescribedSets.{Functions};
+ghost use Rattle.eval_meanings.specs.Answers.{IsReady, Tells, is_joining, is_operation};
+ghost use Rattle.eval_meanings.specs.Binders.{members_at};
+ghost use Rattle.eval_meanings.specs.Meanings.{both_or_neither};
+ghost use Rattle.eval_meanings.specs.Operations.{InfixAnswers};
+ghost use Rattle.eval_meanings.specs.Outcomes.{Gives, Operated, Then, place_in, truth_at};
+ghost use Rattle.eval_meanings.specs.Sets.{IntervalDescribed, IsWithin, Joined, set_at};
+ghost use Rattle.names_terms.specs.Terms.{place_of};
 ghost use Rattle.eval_parts.specs.Scenes.{Stops, denied_answer, truth_answer};
 
 use crate::lists::boxed;
-use eval_sets::{Described, DescribedNode};
+use base_core::Place;
+use eval_meanings::{EvalFault, expect_set, infix, interval, is_within, joined, set_at, truth_at};
+use names_terms::Term;
+use reading_trees::InfixOperator;
 use std::alloc::Global;
-use tla_ast::InfixOperator;
-use tla_eval::{EvalFault, expect_set, infix, interval, is_within, joined, set_at, truth_at};
-use tla_terms::Term;
-use tla_values::Value;
-use trace_base::Place;
+use values_core::Value;
+use values_sets::{Described, DescribedNode};
 
 /// A truth value as a value.
 pub fn truth_value(answer: Result<bool, EvalFault>) -> Result<Value, EvalFault>

@@ -1,21 +1,21 @@
 //! The values of bound names: the sets that they are bound over, and one combination of members after another, later names changing faster.
 
 ghost use Rattle.std.specs.Prelude.{◌≡◌, ◌+◌, ◌<◌, ◌≤◌, ◌∷◌, ◌++◌, ◌↔◌, IfErr, IfOk, IsTrue, MatchOption, Ok, OnOk, Some, length, map, slice_get};
-ghost use Rattle.tla_eval.specs.Answers.{Tells};
-ghost use Rattle.tla_eval.specs.Binders.{ranges, times};
-ghost use Rattle.tla_eval.specs.Functions.{KeyOf};
-ghost use Rattle.tla_eval.specs.Outcomes.{Each};
-ghost use Rattle.tla_terms.specs.Terms.{place_of};
+ghost use Rattle.eval_meanings.specs.Answers.{Tells};
+ghost use Rattle.eval_meanings.specs.Binders.{ranges, times};
+ghost use Rattle.eval_meanings.specs.Functions.{KeyOf};
+ghost use Rattle.eval_meanings.specs.Outcomes.{Each};
+ghost use Rattle.names_terms.specs.Terms.{place_of};
 ghost use Rattle.eval_parts.specs.BoundSets.{HasMembers, bound_members, bound_value};
 ghost use Rattle.eval_parts.specs.Scenes.{Stops};
 ghost use Rattle.eval_parts.specs.Walks.{AllDiffer, AreWithin, at_places, first_places, from_places, left_from};
 
 use crate::scene::first_slots;
+use base_core::Place;
+use eval_meanings::{EvalFault, expect_set, key_of};
+use names_terms::Bound;
 use std::alloc::{AllocError, Global};
-use tla_eval::{EvalFault, expect_set, key_of};
-use tla_terms::Bound;
-use tla_values::Value;
-use trace_base::Place;
+use values_core::Value;
 
 /// The value of the set of a bound: how many names go over it, and the place of its term.
 #[derive(Drop)]

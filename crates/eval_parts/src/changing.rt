@@ -1,24 +1,24 @@
 //! Values at keys, values with one change within them, and what stands behind a primary.
 
 ghost use Rattle.std.specs.Prelude.{◌≡◌, ◌∷◌, [], IfErr, IfOk, Ok, option_copied};
-ghost use Rattle.tla_values.specs.Data.{string};
-ghost use Rattle.tla_values.specs.FunctionOperations.{AppliesAt, Excepts};
-ghost use Rattle.tla_terms.specs.Lists.{steps_list};
-ghost use Rattle.tla_terms.specs.Terms.{place_of};
-ghost use Rattle.tla_terms.specs.TermViews.{step_view};
-ghost use Rattle.tla_eval.specs.Answers.{Tells};
-ghost use Rattle.tla_eval.specs.Functions.{steps_place};
-ghost use Rattle.tla_eval.specs.Outcomes.{Gives, Operated, place_in};
+ghost use Rattle.values_core.specs.Data.{string};
+ghost use Rattle.values_core.specs.FunctionOperations.{AppliesAt, Excepts};
+ghost use Rattle.names_terms.specs.Lists.{steps_list};
+ghost use Rattle.names_terms.specs.Terms.{place_of};
+ghost use Rattle.names_terms.specs.TermViews.{step_view};
+ghost use Rattle.eval_meanings.specs.Answers.{Tells};
+ghost use Rattle.eval_meanings.specs.Functions.{steps_place};
+ghost use Rattle.eval_meanings.specs.Outcomes.{Gives, Operated, place_in};
 ghost use Rattle.eval_parts.specs.Scenes.{Stops, context, table};
 ghost use Rattle.eval_parts.specs.ChangePaths.{InsideAt, Rebuilt, primes_in, under, with_prime};
 
 use crate::scene::{Scene, primed};
+use base_core::{Place, Text};
+use eval_meanings::{EvalFault, expect_function};
+use names_terms::{Step, Steps, Term};
 use std::alloc::{AllocError, Global};
-use tla_eval::{EvalFault, expect_function};
-use tla_terms::{Step, Steps, Term};
-use tla_values::{OpFault, Value};
-use trace_base::{Place, Text};
-use value_ops::{apply_at, except_one};
+use values_core::{OpFault, Value};
+use values_operations::{apply_at, except_one};
 
 /// A function and the key at which something in it changes.
 #[derive(Drop)]

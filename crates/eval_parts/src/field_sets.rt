@@ -2,24 +2,24 @@
 
 ghost use Rattle.std.specs.Prelude.{◌≡◌, IfErr, IfOk, Ok, map};
 ghost use Rattle.std.specs.List.{All};
-ghost use Rattle.eval_sets.specs.DescribedSets.{Records, fields_list};
-ghost use Rattle.eval_sets.specs.DescribedViews.{field_item};
-ghost use Rattle.eval_sets.specs.Soundness.{FieldsAreSound, IsSound, IsString};
-ghost use Rattle.tla_terms.specs.Terms.{place_of};
-ghost use Rattle.tla_eval.specs.Answers.{IsReady, Tells};
-ghost use Rattle.tla_eval.specs.Outcomes.{Each, Gives, Then};
-ghost use Rattle.tla_eval.specs.Sets.{fields_of};
-ghost use Rattle.tla_values.specs.Data.{string};
-ghost use Rattle.tla_values.specs.SetOperations.{AreDifferent};
+ghost use Rattle.values_sets.specs.DescribedSets.{Records, fields_list};
+ghost use Rattle.values_sets.specs.DescribedViews.{field_item};
+ghost use Rattle.values_sets.specs.Soundness.{FieldsAreSound, IsSound, IsString};
+ghost use Rattle.names_terms.specs.Terms.{place_of};
+ghost use Rattle.eval_meanings.specs.Answers.{IsReady, Tells};
+ghost use Rattle.eval_meanings.specs.Outcomes.{Each, Gives, Then};
+ghost use Rattle.eval_meanings.specs.Sets.{fields_of};
+ghost use Rattle.values_core.specs.Data.{string};
+ghost use Rattle.values_core.specs.SetOperations.{AreDifferent};
 ghost use Rattle.eval_parts.specs.Scenes.{Stops};
 ghost use Rattle.eval_parts.specs.ChangePaths.{SetOfField, part_item};
 
-use eval_sets::{Described, DescribedNode, Field as DescribedField, Fields as DescribedFields};
+use base_core::{Place, Text};
+use eval_meanings::{EvalFault, set_at};
+use names_terms::Field;
 use std::alloc::{AllocError, Global};
-use tla_eval::{EvalFault, set_at};
-use tla_terms::Field;
-use tla_values::Value;
-use trace_base::{Place, Text};
+use values_core::Value;
+use values_sets::{Described, DescribedNode, Field as DescribedField, Fields as DescribedFields};
 
 /// What a field means: its name, the place of its set, and the set, which may be none.
 #[derive(Drop)]

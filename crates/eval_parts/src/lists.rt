@@ -1,12 +1,12 @@
 //! Lists and boxes that are made.
 
 ghost use Rattle.std.specs.Prelude.{◌≡◌, ◌++◌, ◌∷◌, [], if◌then◌else◌, IfOk, OnOk};
-ghost use Rattle.tla_values.specs.Data.{string};
+ghost use Rattle.values_core.specs.Data.{string};
 
-use eval_sets::Described;
+use names_terms::Field;
 use std::alloc::{AllocError, Global};
-use tla_terms::Field;
-use tla_values::Value;
+use values_core::Value;
+use values_sets::Described;
 
 /// Adds an item at the end.
 pub fn push<T: Drop>(items: &mut Vec<T>, item: T) -> Result<(), AllocError>

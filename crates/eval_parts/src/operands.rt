@@ -1,16 +1,16 @@
 //! The operands of a term, and their places.
 
 ghost use Rattle.std.specs.Prelude.{◌≡◌, [], ◌∷◌, IfOk, MatchOption, length, map};
-ghost use Rattle.tla_eval.specs.Sets.{first_operand, other_operands};
-ghost use Rattle.tla_terms.specs.Lists.{terms_list};
-ghost use Rattle.tla_terms.specs.Terms.{First, place_of};
+ghost use Rattle.eval_meanings.specs.Sets.{first_operand, other_operands};
+ghost use Rattle.names_terms.specs.Lists.{terms_list};
+ghost use Rattle.names_terms.specs.Terms.{First, place_of};
 ghost use Rattle.eval_parts.specs.Scenes.{HasMore, operand_item, makes_set};
 
 use crate::lists::push;
+use base_core::Place;
+use names_terms::{Operand, Operands, Term, Terms};
+use reading_trees::InfixOperator;
 use std::alloc::{AllocError, Global};
-use tla_ast::InfixOperator;
-use tla_terms::{Operand, Operands, Term, Terms};
-use trace_base::Place;
 
 /// The places of terms.
 pub fn places_of(alloc: Global, terms: &Terms) -> Result<Vec<Place>, AllocError>

@@ -1,18 +1,18 @@
 //! The parts of a product of sets.
 
 ghost use Rattle.std.specs.Prelude.{◌≡◌, ◌∷◌, ◌++◌, [], IfOk, map};
-ghost use Rattle.eval_sets.specs.DescribedSets.{Product};
-ghost use Rattle.tla_eval.specs.Answers.{IsReady, Tells};
-ghost use Rattle.tla_eval.specs.Outcomes.{Each, Gives, Then};
-ghost use Rattle.tla_eval.specs.Sets.{parts_of, set_at};
-ghost use Rattle.tla_terms.specs.Terms.{place_of};
+ghost use Rattle.values_sets.specs.DescribedSets.{Product};
+ghost use Rattle.eval_meanings.specs.Answers.{IsReady, Tells};
+ghost use Rattle.eval_meanings.specs.Outcomes.{Each, Gives, Then};
+ghost use Rattle.eval_meanings.specs.Sets.{parts_of, set_at};
+ghost use Rattle.names_terms.specs.Terms.{place_of};
 ghost use Rattle.eval_parts.specs.ReadyParts.{AreReady};
 
-use eval_sets::{Described, DescribedNode, Parts};
+use base_core::Place;
+use eval_meanings::{EvalFault, set_at};
+use names_terms::{Operand, Term};
 use std::alloc::{AllocError, Global};
-use tla_eval::{EvalFault, set_at};
-use tla_terms::{Operand, Term};
-use trace_base::Place;
+use values_sets::{Described, DescribedNode, Parts};
 
 /// The operands of a chain in their order: the first, those behind it, and the last.
 pub fn operand_terms<'a>(

@@ -1,17 +1,17 @@
 //! Functions that use themselves: which of them a term names, the sets of the names that they bind, and the names at a key.
 
 ghost use Rattle.std.specs.Prelude.{◌≡◌, ◌++◌, IfOk, OnOk, Some, map, option_map, replicate};
-ghost use Rattle.tla_values.specs.Functions.{IsSequence, values_in};
-ghost use Rattle.tla_eval.specs.Recursion.{applied_by, names_at, recursion_at, recursion_of, sets_of_names};
-ghost use Rattle.tla_terms.specs.Lists.{bounds_list};
-ghost use Rattle.tla_terms.specs.Terms.{NoSteps};
-ghost use Rattle.tla_terms.specs.TermViews.{step_item, step_view};
+ghost use Rattle.values_core.specs.Functions.{IsSequence, values_in};
+ghost use Rattle.eval_meanings.specs.Recursion.{applied_by, names_at, recursion_at, recursion_of, sets_of_names};
+ghost use Rattle.names_terms.specs.Lists.{bounds_list};
+ghost use Rattle.names_terms.specs.Terms.{NoSteps};
+ghost use Rattle.names_terms.specs.TermViews.{step_item, step_view};
 ghost use Rattle.eval_parts.specs.Recursions.{HasNames, first_applied, seen};
 
 use crate::scene::first_slots;
+use names_terms::{Bounds, Operator, Operators, Own, Step, StepAt, Steps, Term, TermNode};
 use std::alloc::{AllocError, Global};
-use tla_terms::{Bounds, Operator, Operators, Own, Step, StepAt, Steps, Term, TermNode};
-use tla_values::Value;
+use values_core::Value;
 
 /// A function that uses itself: how many slots stand around its definition, which names it binds over which sets, and what it is there.
 #[derive(Clone, Copy, Drop)]

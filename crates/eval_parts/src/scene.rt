@@ -1,18 +1,18 @@
 //! What a term is evaluated in.
 
 ghost use Rattle.std.specs.Prelude.{◌≡◌, ◌≤◌, ◌++◌, ◌∷◌, [], IfOk, Some, length, map, slice_get, take};
-ghost use Rattle.tla_values.specs.Data.{Val};
-ghost use Rattle.tla_eval.specs.Answers.{Tells};
-ghost use Rattle.tla_eval.specs.Contexts.{IsAt, IsKnown, primed};
-ghost use Rattle.tla_terms.specs.declared.operator.Operator.{Operator};
-ghost use Rattle.eval_reads.specs.Reads.{Knows};
+ghost use Rattle.values_core.specs.Data.{Val};
+ghost use Rattle.eval_meanings.specs.Answers.{Tells};
+ghost use Rattle.eval_meanings.specs.Contexts.{IsAt, IsKnown, primed};
+ghost use Rattle.names_terms.specs.declared.operator.Operator.{Operator};
+ghost use Rattle.eval_meanings.specs.Reads.{Knows};
 ghost use Rattle.eval_parts.specs.Scenes.{context, table, with_slots};
 
+use eval_meanings::EvalFault;
+use names_terms::{DefId, Operator, Operators};
+use states_core::{Partial, VarId};
 use std::alloc::{AllocError, Global};
-use tla_core::{Partial, VarId};
-use tla_eval::EvalFault;
-use tla_terms::{DefId, Operator, Operators};
-use tla_values::Value;
+use values_core::Value;
 
 /// The definitions of the specification, the values of the slots, the state in which variables are read, and the one in which primed variables
 /// are read.

@@ -1,20 +1,20 @@
 //! What UNCHANGED follows and looks at, where nothing is evaluated.
 
 ghost use Rattle.std.specs.Prelude.{◌≡◌, ◌≤◌, Some, length, option_copied, slice_get};
-ghost use Rattle.tla_eval.specs.Answers.{Tells};
-ghost use Rattle.tla_eval.specs.Contexts.{within};
-ghost use Rattle.tla_eval.specs.Evaluates.{Evaluates};
-ghost use Rattle.tla_eval.specs.Unchanged.{StaysSame, behind};
+ghost use Rattle.eval_meanings.specs.Answers.{Tells};
+ghost use Rattle.eval_meanings.specs.Contexts.{within};
+ghost use Rattle.eval_meanings.specs.Evaluates.{Evaluates};
+ghost use Rattle.eval_meanings.specs.Unchanged.{StaysSame, behind};
 ghost use Rattle.eval_parts.specs.Following.{followed, variable_at};
-ghost use Rattle.eval_reads.specs.Reads.{Knows, Reads, SameReads};
+ghost use Rattle.eval_meanings.specs.Reads.{Knows, Reads, SameReads};
 ghost use Rattle.eval_parts.specs.Scenes.{context, table};
 
 use crate::scene::{Scene, with_slots};
-use tla_core::{Partial, VarId};
-use tla_eval::EvalFault;
-use tla_terms::{Level, Operator, Operators, Term, TermNode};
-use tla_values::{EvalKind, Value};
-use trace_base::Place;
+use base_core::Place;
+use eval_meanings::EvalFault;
+use names_terms::{Level, Operator, Operators, Term, TermNode};
+use states_core::{Partial, VarId};
+use values_core::{EvalKind, Value};
 
 /// What stands behind a name of level 1 without arguments, and how many of the slots in scope are in scope there.
 pub fn behind<'a>(scene: Scene<'a>, term: &'a Term) -> (usize, &'a Term)

@@ -2,17 +2,17 @@
 use Rattle.std.proofs.Common.{◌≡◌, ℕ, List, [], ◌∷◌, ◌++◌, length}
 use Rattle.std.specs.List.{All}
 use Rattle.std.proofs.lemmas.List.Elements.{All-nil, All-push}
-use Rattle.tla_core.specs.States.{Values, shown}
-use Rattle.tla_core.specs.Runs.{Run, start, wait, go}
-use Rattle.tla_core.specs.declared.state.Mark.TheVariants.{Init, Silent, Line}
-use Rattle.tla_core.specs.declared.state.Shown.{Shown}
-use Rattle.tla_terms.specs.declared.spec.Spec.{Spec}
-use Rattle.path_updates.specs.declared.line.Log.{Log}
-use Rattle.line_steps.specs.Logs.{Asked, system}
-use Rattle.line_steps.specs.Says.{IsState}
-use Rattle.state_verdicts.specs.Laws.{FoundIsValid}
-use Rattle.state_verdicts.specs.Asks.{IsMonotone}
-use Rattle.spec_pairs.specs.Filling.{pair_asks}
+use Rattle.states_core.specs.States.{Values, shown}
+use Rattle.states_core.specs.Runs.{Run, start, wait, go}
+use Rattle.states_core.specs.declared.state.Mark.TheVariants.{Init, Silent, Line}
+use Rattle.states_core.specs.declared.state.Shown.{Shown}
+use Rattle.names_terms.specs.declared.spec.Spec.{Spec}
+use Rattle.logs_updates.specs.declared.line.Log.{Log}
+use Rattle.steps_lines_defs.specs.Logs.{Asked, system}
+use Rattle.steps_lines_defs.specs.Says.{IsState}
+use Rattle.states_verdicts.specs.Laws.{FoundIsValid}
+use Rattle.states_verdicts.specs.Asks.{IsMonotone}
+use Rattle.judge_pairs.specs.Filling.{pair_asks}
 use Rattle.judge_verdicts.specs.Explained.{BehavesOverStates, ExplainedIsValid}
 
 abbrev IsOf : Spec → Shown → Type 0

@@ -1,17 +1,17 @@
 -- What is explained is valid, and states have one verdict: of one log, and of logs whose lines may stand in several orders.
-use Rattle.tla_terms.specs.declared.spec.Spec.{Spec}
-use Rattle.line_steps.specs.Logs.{Asked, system}
-use Rattle.action_truth_laws.specs.Laws.{FaultsStay}
-use Rattle.form_growth.specs.Laws.{FormsStay}
-use Rattle.state_verdicts.proofs.Law.{found_is_valid}
-use Rattle.state_verdicts.proofs.One.{one_verdict}
-use Rattle.spec_pairs.specs.Composing.{composed}
-use Rattle.spec_pairs.specs.Filling.{pair_asks}
-use Rattle.spec_pairs.proofs.Keeping.{monotone}
+use Rattle.names_terms.specs.declared.spec.Spec.{Spec}
+use Rattle.steps_lines_defs.specs.Logs.{Asked, system}
+use Rattle.judge_truth.specs.Faults.{FaultsStay}
+use Rattle.actions_form_laws.specs.Growth.{FormsStay}
+use Rattle.states_verdicts.proofs.Law.{found_is_valid}
+use Rattle.states_verdicts.proofs.One.{one_verdict}
+use Rattle.judge_pairs.specs.Composing.{composed}
+use Rattle.judge_pairs.specs.Filling.{pair_asks}
+use Rattle.judge_pairs.proofs.Keeping.{monotone}
 use Rattle.judge_verdicts.proofs.Explaining.{behaves_over}
-use Rattle.tied_logs.specs.declared.logs.Lined.{Lined}
-use Rattle.tied_logs.specs.declared.logs.Lined.TheVariants.{Sequence, Tied}
-use Rattle.tied_steps.specs.Tied.{tied_system}
+use Rattle.logs_tied.specs.declared.logs.Lined.{Lined}
+use Rattle.logs_tied.specs.declared.logs.Lined.TheVariants.{Sequence, Tied}
+use Rattle.steps_tied.specs.Tied.{tied_system}
 use Rattle.judge_verdicts.proofs.TiedJudging as tied
 use Rattle.steps_lined.specs.Beside.{IsReadyOver}
 use Rattle.judge_verdicts.specs.LinedLaws.{ExplainedAreStates, ExplainedIsJudgedValid, HaveOneOf}

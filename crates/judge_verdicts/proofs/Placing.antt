@@ -4,22 +4,22 @@ use Rattle.std.specs.Prelude.{All, slice_get, Some}
 use Rattle.std.specs.List.{AllZip}
 use Rattle.std.proofs.lemmas.List.Elements.{All-cons, All-get_or, All-nil}
 use Rattle.std.proofs.lemmas.Option.{get_or_from_slice_get, slice_get_within}
-use Rattle.tla_core.specs.declared.state.Shown.{Shown}
-use Rattle.tla_terms.specs.declared.spec.Spec.{Spec}
-use Rattle.clock_merge.specs.declared.order.LineRef.{LineRef}
-use Rattle.path_updates.specs.declared.line.Line.{Line}
-use Rattle.path_updates.specs.declared.line.Log.{Log}
-use Rattle.path_updates.specs.declared.update.See.{See}
-use Rattle.log_cuts.specs.Cuts.{total}
-use Rattle.log_cuts.specs.Orders.{sizes}
-use Rattle.log_cuts.proofs.Lengths.{as_long}
-use Rattle.ready_specs.specs.Beside.{IsReady}
-use Rattle.ready_specs.specs.Ready.{AreOfVariables, IsReadyLine}
-use Rattle.tied_logs.specs.Lines.{AreTied, StandsIn}
-use Rattle.tied_logs.specs.Named.{IsNamedLog}
-use Rattle.tied_logs.specs.declared.logs.Logs.{Logs}
-use Rattle.tied_logs.proofs.Zips.{zip_long}
-use Rattle.tied_steps.specs.Beside.{IsReadyBeside}
+use Rattle.states_core.specs.declared.state.Shown.{Shown}
+use Rattle.names_terms.specs.declared.spec.Spec.{Spec}
+use Rattle.base_clock_order.specs.declared.order.LineRef.{LineRef}
+use Rattle.logs_updates.specs.declared.line.Line.{Line}
+use Rattle.logs_updates.specs.declared.line.Log.{Log}
+use Rattle.logs_updates.specs.declared.update.See.{See}
+use Rattle.base_cuts.specs.Cuts.{total}
+use Rattle.base_cuts.specs.Orders.{sizes}
+use Rattle.base_cuts.proofs.Lengths.{as_long}
+use Rattle.steps_ready_defs.specs.Beside.{IsReady}
+use Rattle.steps_ready_defs.specs.Ready.{AreOfVariables, IsReadyLine}
+use Rattle.logs_tied.specs.Lines.{AreTied, StandsIn}
+use Rattle.logs_tied.specs.Named.{IsNamedLog}
+use Rattle.logs_tied.specs.declared.logs.Logs.{Logs}
+use Rattle.logs_tied.proofs.Zips.{zip_long}
+use Rattle.steps_tied.specs.Beside.{IsReadyBeside}
 
 has_all : {X : Type 0} (P : X → Type 0) (xs : List X) (i : ℕ) (x : X) → slice_get xs i ≡ Some x → All P xs → P x
 has_all P xs i x at all = subst P (get_or_from_slice_get xs i x x at) (All-get_or P xs i x (slice_get_within xs i x at) all)

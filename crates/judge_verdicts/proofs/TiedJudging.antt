@@ -2,31 +2,31 @@
 use Rattle.std.proofs.Common.{◌≡◌, ℕ, List, [], ◌∷◌, ◌++◌, length, sym, ◌∙◌, subst, refl}
 use Rattle.std.specs.List.{All}
 use Rattle.std.proofs.lemmas.List.Elements.{All-nil, All-push}
-use Rattle.tla_core.specs.Runs.{Run, start, wait, go}
-use Rattle.tla_core.specs.States.{shown}
-use Rattle.tla_core.specs.declared.state.Mark.TheVariants.{Init, Silent, Line}
-use Rattle.tla_core.specs.declared.state.Shown.{Shown}
-use Rattle.tla_terms.specs.declared.spec.Spec.{Spec}
-use Rattle.path_updates.specs.declared.line.Log.{Log}
-use Rattle.line_steps.specs.Logs.{Asked}
-use Rattle.line_steps.specs.Says.{IsState}
-use Rattle.action_truth_laws.specs.Laws.{FaultsStay}
-use Rattle.form_growth.specs.Laws.{FormsStay}
-use Rattle.state_verdicts.specs.Laws.{AreOne}
-use Rattle.state_verdicts.specs.Verdicts.{IsVerdict}
-use Rattle.state_verdicts.specs.declared.verdict.Verdict.{Verdict}
-use Rattle.state_verdicts.proofs.Law.{found_is_valid}
-use Rattle.state_verdicts.proofs.One.{one_verdict}
-use Rattle.spec_pairs.specs.Composing.{composed}
-use Rattle.spec_pairs.specs.Filling.{pair_asks}
-use Rattle.spec_pairs.proofs.Keeping.{monotone}
-use Rattle.tied_logs.specs.Lines.{AreTied}
-use Rattle.tied_logs.specs.Named.{IsNamedLog}
-use Rattle.tied_logs.specs.declared.logs.Logs.{Logs}
-use Rattle.tied_logs.proofs.Marked.{name_one_order}
-use Rattle.tied_steps.specs.Beside.{IsReadyBeside}
-use Rattle.tied_steps.specs.Tied.{CutState, tied_system}
-use Rattle.tied_steps.proofs.OfSpecs.{behaviours_are_named}
+use Rattle.states_core.specs.Runs.{Run, start, wait, go}
+use Rattle.states_core.specs.States.{shown}
+use Rattle.states_core.specs.declared.state.Mark.TheVariants.{Init, Silent, Line}
+use Rattle.states_core.specs.declared.state.Shown.{Shown}
+use Rattle.names_terms.specs.declared.spec.Spec.{Spec}
+use Rattle.logs_updates.specs.declared.line.Log.{Log}
+use Rattle.steps_lines_defs.specs.Logs.{Asked}
+use Rattle.steps_lines_defs.specs.Says.{IsState}
+use Rattle.judge_truth.specs.Faults.{FaultsStay}
+use Rattle.actions_form_laws.specs.Growth.{FormsStay}
+use Rattle.states_verdicts.specs.Laws.{AreOne}
+use Rattle.states_verdicts.specs.Verdicts.{IsVerdict}
+use Rattle.states_verdicts.specs.declared.verdict.Verdict.{Verdict}
+use Rattle.states_verdicts.proofs.Law.{found_is_valid}
+use Rattle.states_verdicts.proofs.One.{one_verdict}
+use Rattle.judge_pairs.specs.Composing.{composed}
+use Rattle.judge_pairs.specs.Filling.{pair_asks}
+use Rattle.judge_pairs.proofs.Keeping.{monotone}
+use Rattle.logs_tied.specs.Lines.{AreTied}
+use Rattle.logs_tied.specs.Named.{IsNamedLog}
+use Rattle.logs_tied.specs.declared.logs.Logs.{Logs}
+use Rattle.logs_tied.proofs.Marked.{name_one_order}
+use Rattle.steps_tied.specs.Beside.{IsReadyBeside}
+use Rattle.steps_tied.specs.Tied.{CutState, tied_system}
+use Rattle.steps_tied.proofs.OfSpecs.{behaviours_are_named}
 use Rattle.judge_verdicts.specs.TiedLaws.{BehavesOverTied, HaveOneTied, TiedExplainedIsValid}
 use Rattle.judge_verdicts.proofs.Placing.{ready_named}
 

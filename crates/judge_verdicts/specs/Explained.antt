@@ -1,16 +1,16 @@
 -- What the search explains, judged.
 use Rattle.std.specs.Prelude.{ℕ, List, All, length}
-use Rattle.tla_core.specs.Runs.{IsBehaviour}
-use Rattle.tla_core.specs.declared.state.Shown.{Shown}
-use Rattle.tla_terms.specs.declared.spec.Spec.{Spec}
-use Rattle.path_updates.specs.declared.line.Log.{Log}
-use Rattle.line_steps.specs.Logs.{Asked, system}
-use Rattle.line_steps.specs.Says.{IsState}
-use Rattle.state_layers.specs.Answers.{IsAnswer}
-use Rattle.state_layers.specs.declared.answer.Answer.TheVariants.{Explained}
-use Rattle.state_verdicts.specs.Verdicts.{IsVerdict}
-use Rattle.state_verdicts.specs.declared.verdict.Verdict.TheVariants.{Valid}
-use Rattle.spec_pairs.specs.Filling.{pair_asks}
+use Rattle.states_core.specs.Runs.{IsBehaviour}
+use Rattle.states_core.specs.declared.state.Shown.{Shown}
+use Rattle.names_terms.specs.declared.spec.Spec.{Spec}
+use Rattle.logs_updates.specs.declared.line.Log.{Log}
+use Rattle.steps_lines_defs.specs.Logs.{Asked, system}
+use Rattle.steps_lines_defs.specs.Says.{IsState}
+use Rattle.states_layers.specs.Answers.{IsAnswer}
+use Rattle.states_layers.specs.declared.answer.Answer.TheVariants.{Explained}
+use Rattle.states_verdicts.specs.Verdicts.{IsVerdict}
+use Rattle.states_verdicts.specs.declared.verdict.Verdict.TheVariants.{Valid}
+use Rattle.judge_pairs.specs.Filling.{pair_asks}
 
 -- The behaviour of each true answer EXPLAINED is valid.
 abbrev pub ExplainedIsValid : Spec → Log → Asked → Type 0

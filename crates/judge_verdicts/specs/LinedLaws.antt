@@ -1,14 +1,14 @@
 -- What a search explains of the lines of all logs, judged.
 use Rattle.std.specs.Prelude.{ℕ, List, All, length}
-use Rattle.tla_core.specs.declared.state.Shown.{Shown}
-use Rattle.tla_terms.specs.declared.spec.Spec.{Spec}
-use Rattle.line_steps.specs.Logs.{Asked}
-use Rattle.line_steps.specs.Says.{IsState}
-use Rattle.tied_logs.specs.declared.logs.Lined.{Lined}
-use Rattle.state_layers.specs.declared.answer.Answer.TheVariants.{Explained}
-use Rattle.state_verdicts.specs.Laws.{AreOne}
-use Rattle.state_verdicts.specs.declared.verdict.Verdict.{Verdict}
-use Rattle.state_verdicts.specs.declared.verdict.Verdict.TheVariants.{Valid}
+use Rattle.states_core.specs.declared.state.Shown.{Shown}
+use Rattle.names_terms.specs.declared.spec.Spec.{Spec}
+use Rattle.steps_lines_defs.specs.Logs.{Asked}
+use Rattle.steps_lines_defs.specs.Says.{IsState}
+use Rattle.logs_tied.specs.declared.logs.Lined.{Lined}
+use Rattle.states_layers.specs.declared.answer.Answer.TheVariants.{Explained}
+use Rattle.states_verdicts.specs.Laws.{AreOne}
+use Rattle.states_verdicts.specs.declared.verdict.Verdict.{Verdict}
+use Rattle.states_verdicts.specs.declared.verdict.Verdict.TheVariants.{Valid}
 use Rattle.steps_lined.specs.Answers.{IsTrueOf}
 use Rattle.steps_lined.specs.Beside.{AreTellable}
 use Rattle.judge_verdicts.specs.Lined.{IsJudgedOf}

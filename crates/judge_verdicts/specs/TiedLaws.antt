@@ -1,18 +1,18 @@
 -- What a search over cuts explains, judged.
 use Rattle.std.specs.Prelude.{ℕ, List, All, length}
-use Rattle.tla_core.specs.Runs.{IsBehaviour}
-use Rattle.tla_core.specs.declared.state.Shown.{Shown}
-use Rattle.tla_terms.specs.declared.spec.Spec.{Spec}
-use Rattle.line_steps.specs.Logs.{Asked}
-use Rattle.line_steps.specs.Says.{IsState}
-use Rattle.state_layers.specs.Answers.{IsAnswer}
-use Rattle.state_layers.specs.declared.answer.Answer.TheVariants.{Explained}
-use Rattle.state_verdicts.specs.Laws.{AreOne}
-use Rattle.state_verdicts.specs.declared.verdict.Verdict.{Verdict}
-use Rattle.state_verdicts.specs.declared.verdict.Verdict.TheVariants.{Valid}
-use Rattle.tied_logs.specs.Lines.{HaveOwnPlaces}
-use Rattle.tied_logs.specs.declared.logs.Logs.{Logs}
-use Rattle.tied_steps.specs.Tied.{tied_system}
+use Rattle.states_core.specs.Runs.{IsBehaviour}
+use Rattle.states_core.specs.declared.state.Shown.{Shown}
+use Rattle.names_terms.specs.declared.spec.Spec.{Spec}
+use Rattle.steps_lines_defs.specs.Logs.{Asked}
+use Rattle.steps_lines_defs.specs.Says.{IsState}
+use Rattle.states_layers.specs.Answers.{IsAnswer}
+use Rattle.states_layers.specs.declared.answer.Answer.TheVariants.{Explained}
+use Rattle.states_verdicts.specs.Laws.{AreOne}
+use Rattle.states_verdicts.specs.declared.verdict.Verdict.{Verdict}
+use Rattle.states_verdicts.specs.declared.verdict.Verdict.TheVariants.{Valid}
+use Rattle.logs_tied.specs.Lines.{HaveOwnPlaces}
+use Rattle.logs_tied.specs.declared.logs.Logs.{Logs}
+use Rattle.steps_tied.specs.Tied.{tied_system}
 use Rattle.judge_verdicts.specs.Tied.{IsTiedVerdict}
 
 -- The behaviour of each true answer EXPLAINED over cuts is valid.

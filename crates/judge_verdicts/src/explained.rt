@@ -1,8 +1,8 @@
 ghost use Rattle.judge_verdicts.specs.Explained.{BehavesOverStates, ExplainedIsValid};
-ghost use Rattle.ready_specs.specs.Beside.{IsReady, asked};
+ghost use Rattle.steps_ready_defs.specs.Beside.{IsReady, asked};
 
-use spec_pairs::{SpecPairs, monotone_law};
-use state_verdicts::found_law;
+use judge_pairs::{SpecPairs, monotone_law};
+use states_verdicts::found_law;
 
 /// The behaviour of a true answer EXPLAINED is valid, and each of its states has a value for each variable.
 pub fn explained_law(pairs: &SpecPairs<'_>)

@@ -1,19 +1,19 @@
 ghost use Rattle.std.specs.Prelude.{◌≤◌, All, IfOk, length};
-ghost use Rattle.line_steps.specs.Says.{IsState};
-ghost use Rattle.tied_logs.specs.declared.logs.Lined.TheVariants.{Sequence, Tied};
-ghost use Rattle.ready_specs.specs.Beside.{asked};
+ghost use Rattle.steps_lines_defs.specs.Says.{IsState};
+ghost use Rattle.logs_tied.specs.declared.logs.Lined.TheVariants.{Sequence, Tied};
+ghost use Rattle.steps_ready_defs.specs.Beside.{asked};
 ghost use Rattle.steps_lined.specs.Beside.{IsReadyOver, lines_of};
 ghost use Rattle.judge_verdicts.specs.Lined.{IsJudgedOf};
 
 use crate::tied::{TiedPairs, tied_verdict};
-use path_updates::Log;
-use spec_pairs::SpecPairs;
-use spec_verdicts::verdict_on;
-use state_verdicts::Verdict;
+use crate::verdict::verdict_on;
+use judge_pairs::SpecPairs;
+use logs_tied::{Lined, Logs};
+use logs_updates::Log;
+use names_terms::Spec;
+use states_core::Behaviour;
+use states_verdicts::Verdict;
 use std::alloc::{AllocError, Global};
-use tied_logs::{Lined, Logs};
-use tla_core::Behaviour;
-use tla_terms::Spec;
 
 /// A specification beside the lines of all logs, against which given states are judged, and what a search is asked for beside them: whether a line without
 /// an event may leave the state as it is, how many steps there may be from one line's state to the next line's, and how many members a layer may have.

@@ -1,11 +1,11 @@
-ghost use Rattle.line_steps.specs.Logs.{Asked};
+ghost use Rattle.steps_lines_defs.specs.Logs.{Asked};
 ghost use Rattle.steps_lined.specs.Beside.{IsReadyOver};
 ghost use Rattle.judge_verdicts.specs.LinedLaws.{ExplainedAreStates, ExplainedIsJudgedValid, HaveOneOf};
 
-use action_truth_laws::fault_law;
-use form_growth::staying_laws;
-use tied_logs::Lined;
-use tla_terms::Spec;
+use actions_form_laws::staying_laws;
+use judge_truth::fault_law;
+use logs_tied::Lined;
+use names_terms::Spec;
 
 /// The behaviour of a true answer EXPLAINED is valid, each of its states has a value for each variable, and given states have one verdict.
 pub fn lined_laws(spec: &Spec, lined: &Lined)

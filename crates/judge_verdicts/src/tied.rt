@@ -1,23 +1,23 @@
 ghost use Rattle.std.specs.Prelude.{◌≤◌, All, IfOk, length};
-ghost use Rattle.line_steps.specs.Says.{IsState};
-ghost use Rattle.log_cuts.specs.Cuts.{total};
-ghost use Rattle.log_cuts.specs.Orders.{sizes};
-ghost use Rattle.tied_logs.specs.Lines.{AreTied};
-ghost use Rattle.tied_logs.specs.Named.{IsNamedLog};
-ghost use Rattle.tied_steps.specs.Beside.{IsReadyBeside};
-ghost use Rattle.ready_specs.specs.Beside.{asked};
-ghost use Rattle.state_verdicts.specs.Verdicts.{IsVerdict};
-ghost use Rattle.spec_pairs.specs.Filling.{pair_asks};
+ghost use Rattle.steps_lines_defs.specs.Says.{IsState};
+ghost use Rattle.base_cuts.specs.Cuts.{total};
+ghost use Rattle.base_cuts.specs.Orders.{sizes};
+ghost use Rattle.logs_tied.specs.Lines.{AreTied};
+ghost use Rattle.logs_tied.specs.Named.{IsNamedLog};
+ghost use Rattle.steps_tied.specs.Beside.{IsReadyBeside};
+ghost use Rattle.steps_ready_defs.specs.Beside.{asked};
+ghost use Rattle.states_verdicts.specs.Verdicts.{IsVerdict};
+ghost use Rattle.judge_pairs.specs.Filling.{pair_asks};
 ghost use Rattle.judge_verdicts.specs.Tied.{IsTiedVerdict};
 
-use path_updates::Log;
-use spec_pairs::SpecPairs;
-use spec_verdicts::verdict_on;
-use state_verdicts::Verdict;
+use crate::verdict::verdict_on;
+use judge_pairs::SpecPairs;
+use logs_tied::{Logs, named_log};
+use logs_updates::Log;
+use names_terms::Spec;
+use states_core::Behaviour;
+use states_verdicts::Verdict;
 use std::alloc::{AllocError, Global};
-use tied_logs::{Logs, named_log};
-use tla_core::Behaviour;
-use tla_terms::Spec;
 
 /// A specification beside several logs, against which given states are judged, and what a search is asked for beside them: whether a line without an
 /// event may leave the state as it is, how many steps there may be from one line's state to the next line's, and how many entries a layer may have.

@@ -1,12 +1,12 @@
-ghost use Rattle.line_steps.specs.Logs.{Asked};
-ghost use Rattle.tied_logs.specs.Lines.{AreTied};
-ghost use Rattle.tied_steps.specs.Beside.{IsReadyBeside};
+ghost use Rattle.steps_lines_defs.specs.Logs.{Asked};
+ghost use Rattle.logs_tied.specs.Lines.{AreTied};
+ghost use Rattle.steps_tied.specs.Beside.{IsReadyBeside};
 ghost use Rattle.judge_verdicts.specs.TiedLaws.{BehavesOverTied, HaveOneTied, TiedExplainedIsValid};
 
-use action_truth_laws::fault_law;
-use form_growth::staying_laws;
-use tied_logs::Logs;
-use tla_terms::Spec;
+use actions_form_laws::staying_laws;
+use judge_truth::fault_law;
+use logs_tied::Logs;
+use names_terms::Spec;
 
 /// The behaviour of a true answer EXPLAINED over cuts is valid, each of its states has a value for each variable, and given states have one verdict.
 pub fn tied_verdict_laws(spec: &Spec, logs: &Logs)

@@ -1,25 +1,25 @@
 -- From what each stage of `check` ensures to the first refusal of its reading.
 use Rattle.std.proofs.Common.{◌≡◌, ◌≤◌, refl, sym, subst, ℕ, List, [], length, string_bytes, All, Option, Result, Ok, Err, IfOk, IfErr}
-use Rattle.trace_base.specs.Device.{File, Rose, Lacks, IsLonger}
-use Rattle.trace_base.specs.declared.reading.ReadFault.{ReadFault}
-use Rattle.trace_base.specs.declared.reading.ReadFault.TheVariants as fault
-use Rattle.tla_ast.specs.declared.config.Config.{Config}
-use Rattle.tla_ast.specs.declared.module.Program.{Program}
-use Rattle.tla_terms.specs.declared.spec.Spec.{Spec}
-use Rattle.tla_values.specs.IsValue.{IsValue}
-use Rattle.tla_core.specs.declared.state.Shown.{Shown}
-use Rattle.line_steps.specs.Says.{IsState}
-use Rattle.state_files.specs.Files.{StateFileSays}
-use Rattle.state_files.specs.declared.refusal.StateRefusal.{StateRefusal}
+use Rattle.base_core.specs.Device.{File, Rose, Lacks, IsLonger}
+use Rattle.base_core.specs.declared.reading.ReadFault.{ReadFault}
+use Rattle.base_core.specs.declared.reading.ReadFault.TheVariants as fault
+use Rattle.reading_trees.specs.declared.config.Config.{Config}
+use Rattle.reading_trees.specs.declared.module.Program.{Program}
+use Rattle.names_terms.specs.declared.spec.Spec.{Spec}
+use Rattle.values_core.specs.IsValue.{IsValue}
+use Rattle.states_core.specs.declared.state.Shown.{Shown}
+use Rattle.steps_lines_defs.specs.Says.{IsState}
+use Rattle.states_files.specs.Files.{StateFileSays}
+use Rattle.states_files.specs.declared.refusal.StateRefusal.{StateRefusal}
 use Rattle.run_words.specs.declared.job.Job.{Job}
 use Rattle.run_texts.specs.Files.{missing_text, too_long_text}
 use Rattle.run_texts.specs.GivenStates.{states_refusal}
-use Rattle.run_reading.specs.Texts.{HasText, LogsRead}
-use Rattle.run_reading.specs.Reaches.{Reaches, logged}
-use Rattle.run_reading.specs.Refusals as rejects
-use Rattle.run_reading.specs.Refusals.{IsRefusal}
-use Rattle.run_reading.specs.Given.{GivenWants, IsGivenRefusal, are_refused, is_missing, is_refused, is_too_long, states_limit, wants_before}
-use Rattle.run_reading.proofs.Later.{later_lacks, later_rose}
+use Rattle.run_reading_defs.specs.Texts.{HasText, LogsRead}
+use Rattle.run_reading_defs.specs.Reaches.{Reaches, logged}
+use Rattle.run_reading_defs.specs.Refusals as rejects
+use Rattle.run_reading_defs.specs.Refusals.{IsRefusal}
+use Rattle.run_reading_defs.specs.Given.{GivenWants, IsGivenRefusal, are_refused, is_missing, is_refused, is_too_long, states_limit, wants_before}
+use Rattle.run_reading_defs.proofs.Later.{later_lacks, later_rose}
 use Rattle.run_stages.specs.declared.stop.Stop.{Stop}
 use Rattle.run_stages.specs.declared.stop.Stop.TheVariants.{Refused, Device, NoMemory}
 use Rattle.run_stages.specs.Stops.{IsUnreadBy, RefusedWith, StopsBy}

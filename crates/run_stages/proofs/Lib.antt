@@ -3,3 +3,4 @@ pub mod Reached
 pub mod Unresolved
 pub mod OnTheWay
 pub mod GivenStopping
+pub mod Told

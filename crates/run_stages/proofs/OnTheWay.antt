@@ -4,28 +4,28 @@ use Rattle.std.specs.Prelude.{true, false, if◌then◌else◌}
 use Rattle.std.specs.List.{AllZip}
 use Rattle.std.proofs.lemmas.List.{length-map}
 use Rattle.std.proofs.lemmas.List.Elements.{All-nil, All-push, All-weaker}
-use Rattle.trace_base.specs.Device.{File}
-use Rattle.log_lines.specs.Files.{FileSays, first_line}
-use Rattle.log_lines.specs.Laws.{Precedes, StepsKeep}
-use Rattle.log_lines.specs.declared.clocks.ClockForm.TheVariants.{Free}
-use Rattle.log_lines.specs.declared.file.FileLines.{FileLines}
-use Rattle.log_lines.specs.declared.file.Refusal.{Refusal}
-use Rattle.path_updates.specs.Clocks.{number_in, vector_in}
-use Rattle.path_updates.specs.declared.line.Line.{Line}
-use Rattle.clock_merge.specs.declared.order.LineRef.{LineRef}
-use Rattle.clock_merge.specs.Orders.{Clocks, lines_in}
-use Rattle.clock_merge.proofs.Counting.{as_long}
-use Rattle.log_cuts.specs.Cuts.{total}
-use Rattle.log_cuts.specs.Orders.{Order, by_clock, by_vectors, sizes, sizes_of}
-use Rattle.tied_logs.specs.declared.logs.Lined.{Lined}
-use Rattle.tied_logs.specs.declared.logs.Lined.TheVariants.{Sequence, Tied}
+use Rattle.base_core.specs.Device.{File}
+use Rattle.logs_lines.specs.Files.{FileSays, first_line}
+use Rattle.logs_lines.specs.Laws.{Precedes, StepsKeep}
+use Rattle.logs_lines.specs.declared.clocks.ClockForm.TheVariants.{Free}
+use Rattle.logs_lines.specs.declared.file.FileLines.{FileLines}
+use Rattle.logs_lines.specs.declared.file.Refusal.{Refusal}
+use Rattle.logs_updates.specs.Clocks.{number_in, vector_in}
+use Rattle.logs_updates.specs.declared.line.Line.{Line}
+use Rattle.base_clock_order.specs.declared.order.LineRef.{LineRef}
+use Rattle.base_clock_order.specs.Orders.{Clocks, lines_in}
+use Rattle.base_clock_order.proofs.Counting.{as_long}
+use Rattle.base_cuts.specs.Cuts.{total}
+use Rattle.base_cuts.specs.Orders.{Order, by_clock, by_vectors, sizes, sizes_of}
+use Rattle.logs_tied.specs.declared.logs.Lined.{Lined}
+use Rattle.logs_tied.specs.declared.logs.Lined.TheVariants.{Sequence, Tied}
 use Rattle.steps_lined.specs.Beside.{lines_of}
-use Rattle.log_files.specs.Lined.{IsLinedOf}
-use Rattle.log_files.specs.Logs.{AreFew, NoneFalls, StandsAt, are_vectors, clocks_in, numbers_in, vectors_in}
-use Rattle.log_files.proofs.KeptFiles as kept
-use Rattle.spec_names.specs.Names.{names_of}
-use Rattle.run_reading.specs.Texts.{HasText, no_logs}
-use Rattle.run_reading.specs.Reaches.{Reaches, Wants, log_next, logged, reads_log}
+use Rattle.logs_files.specs.Lined.{IsLinedOf}
+use Rattle.logs_files.specs.Logs.{AreFew, NoneFalls, StandsAt, are_vectors, clocks_in, numbers_in, vectors_in}
+use Rattle.logs_files.proofs.KeptFiles as kept
+use Rattle.steps_names.specs.Names.{names_of}
+use Rattle.run_reading_defs.specs.Texts.{HasText, no_logs}
+use Rattle.run_reading_defs.specs.Reaches.{Reaches, Wants, log_next, logged, reads_log}
 use Rattle.run_stages.specs.declared.logs.Course.{Course}
 use Rattle.run_stages.specs.declared.logs.LogsSoFar.{LogsSoFar}
 use Rattle.run_stages.specs.Logs.{AreKept, IsOnTheWay, read_of}

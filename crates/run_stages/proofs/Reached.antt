@@ -2,35 +2,35 @@
 use Rattle.std.proofs.Common.{◌≡◌, ◌≤◌, ◌+◌, refl, ℕ, List, ◌∷◌, Option, Ok, length, All}
 use Rattle.std.specs.Prelude.{Bool}
 use Rattle.std.proofs.lemmas.List.Elements.{All-nil, All-push}
-use Rattle.trace_base.specs.Device.{File}
-use Rattle.tla_ast.specs.declared.config.Config.{Config}
-use Rattle.tla_ast.specs.declared.module.Program.{Program}
-use Rattle.tla_ast.specs.declared.module.WholeProgram.{WholeProgram}
-use Rattle.tla_modules.specs.declared.notes.Noted.{Noted}
-use Rattle.tla_terms.specs.declared.spec.Spec.{Spec}
-use Rattle.tla_tables.specs.Values.{AreSpelled}
-use Rattle.tla_levels.specs.Resolved.{IsOneForm}
-use Rattle.specification_names.proofs.Readings.{resolved_with}
-use Rattle.resolved_laws.specs.InOrder.{IsWellFormed, ResolvedAreInOrder}
-use Rattle.expanded_laws.specs.Laws.{ExpandedAreWellFormed}
-use Rattle.load_laws.specs.AnyReading.{LoadedHaveFewFilesBy}
-use Rattle.load_laws.specs.Loaded.{ConfigurationsAreSpelled, ConfigurationsHaveOneForm, PlainHasOneForm, PlainIsSpelled}
-use Rattle.wide_modules.specs.declared.unread.Unread.{Unread}
-use Rattle.wide_modules.specs.Wide.{reading_by}
-use Rattle.whole_programs.specs.Expansion.{ExpansionBy}
-use Rattle.wide_reading.specs.Answers.{IsResolution}
-use Rattle.wide_reading.specs.declared.resolution.Resolution.{Resolution}
-use Rattle.wide_reading.specs.Laws.{PassedAreWellFormed}
-use Rattle.spec_laws.specs.IsSpec.{IsSpec}
-use Rattle.tied_logs.specs.declared.logs.Lined.{Lined}
-use Rattle.tied_logs.specs.declared.logs.Lined.TheVariants.{Sequence, Tied}
-use Rattle.log_files.specs.Lined.{AreMadeSo}
-use Rattle.ready_specs.specs.Ready.{IsReadySpec}
+use Rattle.base_core.specs.Device.{File}
+use Rattle.reading_trees.specs.declared.config.Config.{Config}
+use Rattle.reading_trees.specs.declared.module.Program.{Program}
+use Rattle.reading_trees.specs.declared.module.WholeProgram.{WholeProgram}
+use Rattle.reading_modules.specs.declared.notes.Noted.{Noted}
+use Rattle.names_terms.specs.declared.spec.Spec.{Spec}
+use Rattle.names_tables.specs.Values.{AreSpelled}
+use Rattle.names_resolving.specs.Resolved.{IsOneForm}
+use Rattle.names_specification.proofs.Readings.{resolved_with}
+use Rattle.names_resolved_laws.specs.InOrder.{IsWellFormed, ResolvedAreInOrder}
+use Rattle.names_expanded_laws.specs.Expansion.{ExpandedAreWellFormed}
+use Rattle.names_load_laws.specs.AnyReading.{LoadedHaveFewFilesBy}
+use Rattle.names_load_laws.specs.Loaded.{ConfigurationsAreSpelled, ConfigurationsHaveOneForm, PlainHasOneForm, PlainIsSpelled}
+use Rattle.reading_wide_modules.specs.declared.unread.Unread.{Unread}
+use Rattle.reading_wide_modules.specs.Wide.{reading_by}
+use Rattle.names_whole_programs.specs.Expansion.{ExpansionBy}
+use Rattle.run_wide.specs.Answers.{IsResolution}
+use Rattle.run_wide.specs.declared.resolution.Resolution.{Resolution}
+use Rattle.run_wide.specs.Laws.{PassedAreWellFormed}
+use Rattle.names_specification_laws.specs.IsSpec.{IsSpec}
+use Rattle.logs_tied.specs.declared.logs.Lined.{Lined}
+use Rattle.logs_tied.specs.declared.logs.Lined.TheVariants.{Sequence, Tied}
+use Rattle.logs_files.specs.Lined.{AreMadeSo}
+use Rattle.steps_ready_defs.specs.Ready.{IsReadySpec}
 use Rattle.steps_lined.specs.Beside.{IsReadyOver}
-use Rattle.ready_lines.specs.Laws.{FilesAreReady, IsReadyFile, IsReadyLined}
+use Rattle.steps_ready_lines.specs.Lines.{FilesAreReady, IsReadyFile, IsReadyLined}
 use Rattle.run_words.specs.declared.job.Job.{Job}
-use Rattle.run_reading.specs.Texts.{LogsRead, are_several, steps_left}
-use Rattle.run_reading.specs.Reaches.{Reaches, configured, given, has_forms, loaded, loads, logged, needs_no_configuration, passes, reads_configuration, reads_log, resolved, resolves}
+use Rattle.run_reading_defs.specs.Texts.{LogsRead, are_several, steps_left}
+use Rattle.run_reading_defs.specs.Reaches.{Reaches, configured, given, has_forms, loaded, loads, logged, needs_no_configuration, passes, reads_configuration, reads_log, resolved, resolves}
 
 pub loaded_few : (holds : Option (List File)) (job : Job) (whole : WholeProgram) (unread : List (Noted Unread)) → ((word : Bool) → LoadedHaveFewFilesBy (reading_by word))
     → Reaches holds job (loaded whole unread) → length whole.program.files ≤ 32

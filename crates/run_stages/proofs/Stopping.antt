@@ -1,34 +1,34 @@
 -- From what each stage ensures to the first refusal of the reading.
 use Rattle.std.proofs.Common.{◌≡◌, ◌≤◌, ◌++◌, refl, sym, subst, ℕ, List, [], ◌∷◌, length, string_bytes, Option, Some, Result, Ok, Err, IfOk, IfErr}
-use Rattle.trace_base.specs.Device.{File, Rose, Lacks, IsLonger}
-use Rattle.trace_base.specs.declared.place.Place.{Place}
-use Rattle.trace_base.specs.declared.reading.ReadFault.{ReadFault}
-use Rattle.trace_base.specs.declared.reading.ReadFault.TheVariants as fault
-use Rattle.tla_ast.specs.declared.config.Config.{Config}
-use Rattle.tla_ast.specs.declared.module.Declared.{Declared}
-use Rattle.tla_ast.specs.declared.module.Instance.{Instance as ModuleInstance}
-use Rattle.tla_ast.specs.declared.module.Program.{Program}
-use Rattle.tla_ast.specs.declared.module.WholeProgram.{WholeProgram}
-use Rattle.tla_ast.specs.declared.module.Unit.{Unit as ModuleUnit}
-use Rattle.tla_modules.specs.declared.fault.LoadFault.TheVariants as loads
-use Rattle.tla_modules.specs.declared.fault.LoadWhy.{LoadWhy}
-use Rattle.tla_modules.specs.declared.fault.LoadWhy.TheVariants.{Read, Lex, Lay, Parse, Cycle, TooMany, Twice, WrongName, Nested}
-use Rattle.tla_modules.specs.declared.notes.Noted.{Noted}
-use Rattle.tla_modules.specs.Flattened.{FlattenedBy}
-use Rattle.tla_modules.specs.Loads.{IsRefusedBy, LoadsBy, files_of, in_a_module, in_the_whole}
-use Rattle.tla_modules.specs.Paths.{IsPath}
-use Rattle.tla_modules.specs.Refusals.{IsCaused, module_limit}
-use Rattle.tla_modules.specs.Twice.{OneRepeats, Repeats, RepeatsInside, behind_it, in_instance, in_program, in_this}
-use Rattle.wide_modules.specs.declared.unread.Unread.{Unread}
-use Rattle.wide_modules.specs.Wide.{reading_by}
-use Rattle.tla_config.specs.declared.fault.ConfigKind.{ConfigKind}
-use Rattle.wide_config.specs.Wide.{ReadsBy}
-use Rattle.tla_levels.specs.declared.fault.ResolveFault.{ResolveFault}
-use Rattle.whole_programs.specs.Expansion.{ExpansionBy}
-use Rattle.tla_terms.specs.declared.spec.Spec.{Spec}
-use Rattle.tla_actions.specs.declared.fault.FormFault.{FormFault}
-use Rattle.spec_forms.specs.Forms.{IsFirstFault}
-use Rattle.log_lines.specs.declared.file.Refusal.{Refusal}
+use Rattle.base_core.specs.Device.{File, Rose, Lacks, IsLonger}
+use Rattle.base_core.specs.declared.place.Place.{Place}
+use Rattle.base_core.specs.declared.reading.ReadFault.{ReadFault}
+use Rattle.base_core.specs.declared.reading.ReadFault.TheVariants as fault
+use Rattle.reading_trees.specs.declared.config.Config.{Config}
+use Rattle.reading_trees.specs.declared.module.Declared.{Declared}
+use Rattle.reading_trees.specs.declared.module.Instance.{Instance as ModuleInstance}
+use Rattle.reading_trees.specs.declared.module.Program.{Program}
+use Rattle.reading_trees.specs.declared.module.WholeProgram.{WholeProgram}
+use Rattle.reading_trees.specs.declared.module.Unit.{Unit as ModuleUnit}
+use Rattle.reading_modules.specs.declared.fault.LoadFault.TheVariants as loads
+use Rattle.reading_modules.specs.declared.fault.LoadWhy.{LoadWhy}
+use Rattle.reading_modules.specs.declared.fault.LoadWhy.TheVariants.{Read, Lex, Lay, Parse, Cycle, TooMany, Twice, WrongName, Nested}
+use Rattle.reading_modules.specs.declared.notes.Noted.{Noted}
+use Rattle.reading_modules.specs.Flattened.{FlattenedBy}
+use Rattle.reading_modules.specs.Loads.{IsRefusedBy, LoadsBy, files_of, in_a_module, in_the_whole}
+use Rattle.reading_modules.specs.Paths.{IsPath}
+use Rattle.reading_modules.specs.Refusals.{IsCaused, module_limit}
+use Rattle.reading_modules.specs.Twice.{OneRepeats, Repeats, RepeatsInside, behind_it, in_instance, in_program, in_this}
+use Rattle.reading_wide_modules.specs.declared.unread.Unread.{Unread}
+use Rattle.reading_wide_modules.specs.Wide.{reading_by}
+use Rattle.reading_configuration.specs.declared.fault.ConfigKind.{ConfigKind}
+use Rattle.reading_wide_configuration.specs.Wide.{ReadsBy}
+use Rattle.names_resolving.specs.declared.fault.ResolveFault.{ResolveFault}
+use Rattle.names_whole_programs.specs.Expansion.{ExpansionBy}
+use Rattle.names_terms.specs.declared.spec.Spec.{Spec}
+use Rattle.actions_meanings.specs.declared.fault.FormFault.{FormFault}
+use Rattle.steps_forms.specs.Forms.{IsFirstFault}
+use Rattle.logs_lines.specs.declared.file.Refusal.{Refusal}
 use Rattle.run_words.specs.declared.job.Job.{Job}
 use Rattle.run_texts.specs.Files.{missing_text, too_long_text}
 use Rattle.run_texts.specs.Modules.{module_refusal, piece_refusal}
@@ -36,12 +36,12 @@ use Rattle.run_texts.specs.Configs.{config_refusal}
 use Rattle.run_texts.specs.Resolved.{names_refusal}
 use Rattle.run_texts.specs.Forms.{form_refusal}
 use Rattle.run_texts.specs.Logs.{log_refusal}
-use Rattle.run_reading.specs.Texts.{HasText, LogsRead, config_limit}
-use Rattle.run_reading.specs.Reaches.{IsLog, LogSays, Reaches, Wants, begins, begun, configured, given, loaded, logged, module_next, passes, reads_configuration, resolved}
-use Rattle.run_reading.specs.Refusals as rejects
-use Rattle.run_reading.specs.Refusals.{IsOfText, IsRefusal, all_files, is_missing, is_refused, is_too_long}
-use Rattle.run_reading.proofs.Later.{later_refusal, later_rose}
-use Rattle.run_reading.proofs.Unread.{unread_cause, wants_read}
+use Rattle.run_reading_defs.specs.Texts.{HasText, LogsRead, config_limit}
+use Rattle.run_reading_defs.specs.Reaches.{IsLog, LogSays, Reaches, Wants, begins, begun, configured, given, loaded, logged, module_next, passes, reads_configuration, resolved}
+use Rattle.run_reading_defs.specs.Refusals as rejects
+use Rattle.run_reading_defs.specs.Refusals.{IsOfText, IsRefusal, all_files, is_missing, is_refused, is_too_long}
+use Rattle.run_reading_defs.proofs.Later.{later_refusal, later_rose}
+use Rattle.run_reading_defs.proofs.Unread.{unread_cause, wants_read}
 use Rattle.run_stages.specs.declared.stop.Stop.{Stop}
 use Rattle.run_stages.specs.declared.stop.Stop.TheVariants.{Refused, Device, NoMemory}
 use Rattle.run_stages.specs.Stops.{FailsAt, IsModuleStop, IsUnreadBy, RefusedWith, StopsBy}

@@ -2,17 +2,17 @@
 use Rattle.std.proofs.Common.{◌≡◌, ◌∙◌, ◌<◌, sym, subst, ap, ℕ, List, Option, Some, length}
 use Rattle.std.specs.Prelude.{Bool, slice_get}
 use Rattle.std.proofs.lemmas.Option.{same_Some, slice_get_within}
-use Rattle.tla_ast.specs.declared.config.Config.{Config}
-use Rattle.tla_ast.specs.declared.module.Program.{Program}
-use Rattle.tla_modules.specs.declared.notes.Noted.{Noted}
-use Rattle.tla_levels.specs.declared.fault.ResolveFault.{ResolveFault}
-use Rattle.wide_modules.specs.declared.unread.Unread.{Unread}
-use Rattle.wide_reading.specs.Answers.{IsResolutionFault}
-use Rattle.wide_reading.specs.declared.resolution.ResolutionFault.{ResolutionFault}
-use Rattle.wide_reading.specs.declared.resolution.ResolutionFault.TheVariants.{Names, Piece}
+use Rattle.reading_trees.specs.declared.config.Config.{Config}
+use Rattle.reading_trees.specs.declared.module.Program.{Program}
+use Rattle.reading_modules.specs.declared.notes.Noted.{Noted}
+use Rattle.names_resolving.specs.declared.fault.ResolveFault.{ResolveFault}
+use Rattle.reading_wide_modules.specs.declared.unread.Unread.{Unread}
+use Rattle.run_wide.specs.Answers.{IsResolutionFault}
+use Rattle.run_wide.specs.declared.resolution.ResolutionFault.{ResolutionFault}
+use Rattle.run_wide.specs.declared.resolution.ResolutionFault.TheVariants.{Names, Piece}
 use Rattle.run_texts.specs.Modules.{piece_refusal}
 use Rattle.run_texts.specs.Resolved.{names_refusal}
-use Rattle.run_reading.specs.Refusals.{all_files}
+use Rattle.run_reading_defs.specs.Refusals.{all_files}
 use Rattle.run_stages.specs.Resolving.{IsUnresolved, by_a_piece, by_names}
 
 module _ (wide : Bool) (p : Program) (c : Config) (silent : Option (List ℕ)) (unread : List (Noted Unread)) where

@@ -1,8 +1,8 @@
 -- Why the reading of `check` stops.
 use Rattle.std.specs.Prelude.{ℕ, List, Option, string_bytes}
-use Rattle.trace_base.specs.Device.{File, Rose}
+use Rattle.base_core.specs.Device.{File, Rose}
 use Rattle.run_words.specs.declared.job.Job.{Job}
-use Rattle.run_reading.specs.Given.{GivenWants, IsGivenRefusal}
+use Rattle.run_reading_defs.specs.Given.{GivenWants, IsGivenRefusal}
 use Rattle.run_stages.specs.declared.stop.Stop.{Stop}
 use Rattle.run_stages.specs.declared.stop.Stop.TheVariants.{Refused, Device, NoMemory}
 

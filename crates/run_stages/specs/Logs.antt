@@ -1,13 +1,13 @@
 -- The reading of logs on its way.
 use Rattle.std.specs.Prelude.{◌≡◌, ◌+◌, ◌≤◌, ℕ, List, [], All, length, Option}
-use Rattle.trace_base.specs.Device.{File}
-use Rattle.clock_merge.specs.Orders.{lines_in}
-use Rattle.log_lines.specs.Laws.{Precedes}
-use Rattle.log_files.specs.Logs.{numbers_in}
-use Rattle.log_lines.specs.declared.file.FileLines.{FileLines}
+use Rattle.base_core.specs.Device.{File}
+use Rattle.base_clock_order.specs.Orders.{lines_in}
+use Rattle.logs_lines.specs.Laws.{Precedes}
+use Rattle.logs_files.specs.Logs.{numbers_in}
+use Rattle.logs_lines.specs.declared.file.FileLines.{FileLines}
 use Rattle.std.specs.Prelude.{AllPairs}
-use Rattle.run_reading.specs.Texts.{LogsRead, logs_limit}
-use Rattle.run_reading.specs.Reaches.{Reaches, logged}
+use Rattle.run_reading_defs.specs.Texts.{LogsRead, logs_limit}
+use Rattle.run_reading_defs.specs.Reaches.{Reaches, logged}
 use Rattle.run_stages.specs.declared.logs.Course.{Course}
 use Rattle.run_stages.specs.declared.logs.LogsSoFar.{LogsSoFar}
 

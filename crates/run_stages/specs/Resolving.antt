@@ -1,16 +1,16 @@
 -- Why no specification comes of what was read.
 use Rattle.std.specs.Prelude.{◌≡◌, ℕ, Bool, true, List, Option, Err}
-use Rattle.tla_ast.specs.declared.config.Config.{Config}
-use Rattle.tla_ast.specs.declared.module.Program.{Program}
-use Rattle.tla_modules.specs.declared.notes.Noted.{Noted}
-use Rattle.tla_levels.specs.declared.fault.ResolveFault.{ResolveFault}
-use Rattle.wide_modules.specs.declared.unread.Unread.{Unread}
-use Rattle.specification_names.specs.Resolving.{ResolvedBy}
-use Rattle.wide_reading.specs.Answers.{NeedsPiece}
-use Rattle.wide_reading.specs.Passing.{Passes}
+use Rattle.reading_trees.specs.declared.config.Config.{Config}
+use Rattle.reading_trees.specs.declared.module.Program.{Program}
+use Rattle.reading_modules.specs.declared.notes.Noted.{Noted}
+use Rattle.names_resolving.specs.declared.fault.ResolveFault.{ResolveFault}
+use Rattle.reading_wide_modules.specs.declared.unread.Unread.{Unread}
+use Rattle.names_specification.specs.Resolving.{ResolvedBy}
+use Rattle.run_wide.specs.Answers.{NeedsPiece}
+use Rattle.run_wide.specs.Passing.{Passes}
 use Rattle.run_texts.specs.Modules.{piece_refusal}
 use Rattle.run_texts.specs.Resolved.{names_refusal}
-use Rattle.run_reading.specs.Refusals.{all_files}
+use Rattle.run_reading_defs.specs.Refusals.{all_files}
 
 -- the report: names or levels are refused of what is left, or a piece was not read that is needed
 pub data IsUnresolved (wide : Bool) (p : Program) (c : Config) (silent : Option (List ℕ)) (unread : List (Noted Unread)) : List ℕ → Type 0 where

@@ -1,18 +1,19 @@
 -- Why reading stops, and what each stage owes.
-use Rattle.std.specs.Prelude.{◌≡◌, ◌++◌, ◌∷◌, [], ℕ, List, Option, string_bytes}
-use Rattle.trace_base.specs.Device.{File, Rose}
-use Rattle.trace_base.specs.declared.place.Place.{Place}
-use Rattle.trace_base.specs.declared.reading.ReadFault.{ReadFault}
-use Rattle.trace_base.specs.declared.reading.ReadFault.TheVariants as fault
-use Rattle.tla_ast.specs.declared.config.Config.{Config}
-use Rattle.tla_ast.specs.declared.module.Program.{Program}
-use Rattle.tla_modules.specs.declared.fault.LoadWhy.{LoadWhy}
-use Rattle.tla_modules.specs.declared.fault.LoadWhy.TheVariants.{Read, Lex, Lay, Parse, Cycle, TooMany, Twice, WrongName, Nested}
+use Rattle.std.specs.Prelude.{◌≡◌, ◌++◌, ◌∷◌, [], ℕ, List, Option, Some, string_bytes}
+use Rattle.base_core.specs.Device.{File, Rose}
+use Rattle.base_core.specs.Failures.{Failures, one_more}
+use Rattle.base_core.specs.declared.place.Place.{Place}
+use Rattle.base_core.specs.declared.reading.ReadFault.{ReadFault}
+use Rattle.base_core.specs.declared.reading.ReadFault.TheVariants as fault
+use Rattle.reading_trees.specs.declared.config.Config.{Config}
+use Rattle.reading_trees.specs.declared.module.Program.{Program}
+use Rattle.reading_modules.specs.declared.fault.LoadWhy.{LoadWhy}
+use Rattle.reading_modules.specs.declared.fault.LoadWhy.TheVariants.{Read, Lex, Lay, Parse, Cycle, TooMany, Twice, WrongName, Nested}
 use Rattle.run_words.specs.declared.job.Job.{Job}
 use Rattle.run_texts.specs.Files.{missing_text, too_long_text}
 use Rattle.run_texts.specs.Modules.{module_refusal}
-use Rattle.run_reading.specs.Reaches.{Wants}
-use Rattle.run_reading.specs.Refusals.{IsRefusal}
+use Rattle.run_reading_defs.specs.Reaches.{Wants}
+use Rattle.run_reading_defs.specs.Refusals.{IsRefusal}
 use Rattle.run_stages.specs.declared.stop.Stop.{Stop}
 use Rattle.run_stages.specs.declared.stop.Stop.TheVariants.{Refused, Device, NoMemory}
 
@@ -21,6 +22,13 @@ abbrev pub StopsBy : Option (List File) → ℕ → ℕ → Job → Stop → Typ
 StopsBy holds before now job (Refused report) = IsRefusal holds before now job (string_bytes report)
 StopsBy holds before now job (Device name) = Rose before now × ((limit : ℕ) × Wants holds job name limit)
 StopsBy holds before now job NoMemory = Unit {0}
+
+-- Which calls on files failed, before a reading that stops so and after it: one more where a read failed, of the file that was asked for; and none more where a text is
+-- refused.
+abbrev pub IsToldBy : Failures → Failures → Stop → Type 0
+IsToldBy before now (Refused report) = now ≡ before
+IsToldBy before now (Device name) = now ≡ one_more (Some name) before
+IsToldBy before now NoMemory = Unit {0}
 
 -- a refusal with such a report, or memory is wanting
 abbrev pub RefusedWith : (List ℕ → Type 0) → Stop → Type 0

@@ -1,27 +1,25 @@
-ghost use Rattle.std.specs.Prelude.{◌≡◌, ◌≤◌, ◌++◌, ◌∷◌, [], IfOk, IfErr, Ok, Err, length};
-ghost use Rattle.trace_base.specs.declared.place.Place.{Place};
-ghost use Rattle.tla_config.specs.declared.fault.ConfigKind.{ConfigKind};
-ghost use Rattle.wide_config.specs.Wide.{ReadsBy};
+ghost use Rattle.std.specs.Prelude.{◌≡◌, ◌≤◌, ◌++◌, ◌∷◌, [], IfOk, IfErr, OnOk, Ok, Err, length};
+ghost use Rattle.base_core.specs.declared.place.Place.{Place};
+ghost use Rattle.reading_configuration.specs.declared.fault.ConfigKind.{ConfigKind};
+ghost use Rattle.reading_wide_configuration.specs.Wide.{ReadsBy};
 ghost use Rattle.run_texts.specs.Configs.{config_refusal};
-ghost use Rattle.run_reading.specs.Texts.{config_limit, without_file};
-ghost use Rattle.run_reading.specs.Reaches.{Reaches, given, loaded};
-ghost use Rattle.run_stages.specs.Stops.{RefusedWith, StopsBy};
+ghost use Rattle.run_reading_defs.specs.Texts.{config_limit, without_file};
+ghost use Rattle.run_reading_defs.specs.Reaches.{Reaches, given, loaded};
+ghost use Rattle.run_stages.specs.Stops.{IsToldBy, RefusedWith, StopsBy};
 
 use crate::files::with_file;
 use crate::modules::LoadedModules;
 use crate::stop::Stop;
 use crate::wanted::read_wanted;
+use base_core::limits::MAX_CONFIGURATION_BYTES;
+use base_core::{Files, Names, NoMemory, Text};
+use names_expanded_laws::wide_load_laws;
+use reading_configuration::ConfigFault;
+use reading_trees::{Config, Givens, Program};
+use reading_wide_configuration::config_by;
 use run_texts::config_refusal;
 use run_words::Job;
 use std::alloc::Global;
-use tla_ast::{Config, Givens, Program};
-use tla_config::ConfigFault;
-use trace_base::{Files, Names, NoMemory, Text};
-use wide_config::config_by;
-use wide_load_laws::wide_load_laws;
-
-/// How many bytes a configuration's file may have.
-const CONFIG_LIMIT: usize = 65_536;
 
 /// The configuration that the job names, or the one that holds where it names none.
 pub(crate) fn read_config<F: Files>(
@@ -33,6 +31,8 @@ pub(crate) fn read_config<F: Files>(
     requires reaches { Reaches (F.holds files.now) job.now (loaded modules.now.program modules.now.notes) }
     ensures accepted { IfOk result (λ c. Reaches (F.holds files.old) job.now (given modules.now.program modules.now.notes c)) }
     ensures stopped { IfErr result (StopsBy (F.holds files.old) (F.faults files.old) (F.faults files.new) job.now) }
+    ensures quiet { OnOk result (F.failures files.new ≡ F.failures files.old) }
+    ensures told { IfErr result (IsToldBy (F.failures files.old) (F.failures files.new)) }
     ensures same { F.holds files.new ≡ F.holds files.old }
     ensures later { F.faults files.old ≤ F.faults files.new }
 {
@@ -40,7 +40,7 @@ pub(crate) fn read_config<F: Files>(
     match &job.config {
         None => Ok(without_file(alloc)?),
         Some(name) => {
-            let text = read_wanted(alloc, job, files, name, CONFIG_LIMIT)?;
+            let text = read_wanted(alloc, job, files, name, MAX_CONFIGURATION_BYTES)?;
             config_of(alloc, job, &modules.program.program, name, text.as_slice())
         }
     }

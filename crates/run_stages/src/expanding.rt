@@ -1,18 +1,18 @@
 ghost use Rattle.std.specs.Prelude.{◌≡◌, IfOk, IfErr, Ok, Err};
-ghost use Rattle.tla_levels.specs.declared.fault.ResolveFault.{ResolveFault};
-ghost use Rattle.whole_programs.specs.Expansion.{ExpansionBy};
+ghost use Rattle.names_resolving.specs.declared.fault.ResolveFault.{ResolveFault};
+ghost use Rattle.names_whole_programs.specs.Expansion.{ExpansionBy};
 ghost use Rattle.run_texts.specs.Resolved.{names_refusal};
-ghost use Rattle.run_reading.specs.Refusals.{all_files};
+ghost use Rattle.run_reading_defs.specs.Refusals.{all_files};
 ghost use Rattle.run_stages.specs.Stops.{RefusedWith};
 
 use crate::files::all_files;
 use crate::stop::Stop;
+use names_resolving::ResolveFault;
+use names_whole_programs::{check_instances, expand};
+use reading_trees::{Config, Program, WholeProgram};
 use run_texts::names_refusal;
 use run_words::Job;
 use std::alloc::Global;
-use tla_ast::{Config, Program, WholeProgram};
-use tla_levels::ResolveFault;
-use whole_programs::{check_instances, expand};
 
 /// The program of modules with what its instances make. Too many variables are refused, and without `--wide` what is wrong with an instance.
 pub(crate) fn expand_program(

@@ -1,9 +1,9 @@
 ghost use Rattle.std.specs.Prelude.{◌≡◌, ◌++◌, ◌∷◌, [], IfOk};
-ghost use Rattle.run_reading.specs.Refusals.{all_files};
+ghost use Rattle.run_reading_defs.specs.Refusals.{all_files};
 
+use base_core::{Names, NoMemory, Text};
+use reading_trees::{Config, Program};
 use std::alloc::Global;
-use tla_ast::{Config, Program};
-use trace_base::{Names, NoMemory, Text};
 
 /// The names of the files that places speak of: those of the modules, and behind them that of the configuration.
 pub fn all_files(alloc: Global, program: &Program, config: &Config) -> Result<Names, NoMemory>

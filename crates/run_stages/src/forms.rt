@@ -1,20 +1,20 @@
 ghost use Rattle.std.specs.Prelude.{◌≡◌, IfOk, IfErr};
-ghost use Rattle.tla_actions.specs.declared.fault.FormFault.{FormFault};
-ghost use Rattle.spec_laws.specs.IsSpec.{IsSpec};
-ghost use Rattle.spec_forms.specs.Forms.{AreWhole, IsFirstFault};
-ghost use Rattle.ready_specs.specs.Ready.{IsReadySpec};
+ghost use Rattle.actions_meanings.specs.declared.fault.FormFault.{FormFault};
+ghost use Rattle.names_specification_laws.specs.IsSpec.{IsSpec};
+ghost use Rattle.steps_forms.specs.Forms.{AreWhole, IsFirstFault};
+ghost use Rattle.steps_ready_defs.specs.Ready.{IsReadySpec};
 ghost use Rattle.run_texts.specs.Forms.{form_refusal};
-ghost use Rattle.run_reading.specs.Refusals.{all_files};
+ghost use Rattle.run_reading_defs.specs.Refusals.{all_files};
 ghost use Rattle.run_stages.specs.Stops.{RefusedWith};
 
 use crate::files::all_files;
 use crate::stop::Stop;
-use ready_laws::ready_forms;
+use actions_meanings::FormFault;
+use names_terms::Spec;
+use reading_trees::{Config, Program};
 use run_texts::form_refusal;
 use std::alloc::Global;
-use tla_actions::FormFault;
-use tla_ast::{Config, Program};
-use tla_terms::Spec;
+use steps_ready_lines::ready_forms;
 
 /// Tests the forms of Init, Next and the silent operator.
 pub(crate) fn test_forms(

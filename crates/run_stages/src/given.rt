@@ -1,26 +1,24 @@
-ghost use Rattle.std.specs.Prelude.{◌≡◌, ◌≤◌, All, Err, IfErr, IfOk, Ok, length};
-ghost use Rattle.line_steps.specs.Says.{IsState};
+ghost use Rattle.std.specs.Prelude.{◌≡◌, ◌≤◌, All, Err, IfErr, IfOk, OnOk, Ok, length};
+ghost use Rattle.steps_lines_defs.specs.Says.{IsState};
 ghost use Rattle.steps_lined.specs.Beside.{IsReadyOver, lines_of};
-ghost use Rattle.state_files.specs.Files.{StateFileSays};
-ghost use Rattle.state_files.specs.declared.refusal.StateRefusal.{StateRefusal};
+ghost use Rattle.states_files.specs.Files.{StateFileSays};
+ghost use Rattle.states_files.specs.declared.refusal.StateRefusal.{StateRefusal};
 ghost use Rattle.run_words.specs.Words.{JobMeets};
 ghost use Rattle.run_texts.specs.GivenStates.{states_refusal};
-ghost use Rattle.run_reading.specs.Texts.{HasText};
-ghost use Rattle.run_reading.specs.Given.{AllGiven, GivenWants, states_limit};
-ghost use Rattle.run_stages.specs.Stops.{RefusedWith};
+ghost use Rattle.run_reading_defs.specs.Texts.{HasText};
+ghost use Rattle.run_reading_defs.specs.Given.{AllGiven, GivenWants, states_limit};
+ghost use Rattle.run_stages.specs.Stops.{IsToldBy, RefusedWith};
 ghost use Rattle.run_stages.specs.GivenStops.{GivenStopsBy};
 
 use crate::reading::{Accepted, read_all};
 use crate::stop::{Stop, unread};
+use base_core::limits::MAX_STATES_BYTES;
+use base_core::{Files, Names, Text, read_file};
 use run_texts::states_refusal;
 use run_words::Job;
-use state_files::read_states;
+use states_core::Behaviour;
+use states_files::read_states;
 use std::alloc::Global;
-use tla_core::Behaviour;
-use trace_base::{Files, Names, Text, read_file};
-
-/// How many bytes a file of states may have.
-const STATES_LIMIT: usize = 268_435_456;
 
 /// What was made of the texts of a job of `check`: what was accepted, and the states that are given beside it.
 #[derive(Drop)]
@@ -43,6 +41,8 @@ pub fn read_given<F: Files>(
     ensures few_lines { IfOk result (λ g. lines_of g.accepted.lined ≤ 200000) }
     ensures states { IfOk result (λ g. All (λ x. IsState (length g.accepted.spec.variables) x.state) g.states) }
     ensures stopped { IfErr result (GivenStopsBy (F.holds files.old) (F.faults files.old) (F.faults files.new) job.now witness.now) }
+    ensures quiet { OnOk result (F.failures files.new ≡ F.failures files.old) }
+    ensures told { IfErr result (IsToldBy (F.failures files.old) (F.failures files.new)) }
     ensures same { F.holds files.new ≡ F.holds files.old }
     ensures later { F.faults files.old ≤ F.faults files.new }
 {
@@ -62,10 +62,12 @@ fn read_witness<F: Files>(
     requires { GivenWants (F.holds files.now) job.now witness.now witness.now states_limit }
     ensures text { IfOk result (λ text. HasText (F.holds files.old) witness.now states_limit text.items) }
     ensures stopped { IfErr result (GivenStopsBy (F.holds files.old) (F.faults files.old) (F.faults files.new) job.now witness.now) }
+    ensures quiet { OnOk result (F.failures files.new ≡ F.failures files.old) }
+    ensures told { IfErr result (IsToldBy (F.failures files.old) (F.failures files.new)) }
     ensures same { F.holds files.new ≡ F.holds files.old }
     ensures later { F.faults files.old ≤ F.faults files.new }
 {
-    match read_file(alloc, files, witness.as_str(), STATES_LIMIT) {
+    match read_file(alloc, files, witness, MAX_STATES_BYTES) {
         Ok(text) => Ok(text),
         Err(fault) => Err(unread(alloc, fault, witness)?),
     }

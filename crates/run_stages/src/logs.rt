@@ -1,30 +1,26 @@
-ghost use Rattle.std.specs.Prelude.{◌≡◌, ◌≤◌, ◌∷◌, ℕ, List, IfOk, IfErr, length};
-ghost use Rattle.log_files.specs.Lined.{AreMadeSo};
+ghost use Rattle.std.specs.Prelude.{◌≡◌, ◌≤◌, ◌∷◌, ℕ, List, IfOk, IfErr, OnOk, length};
+ghost use Rattle.logs_files.specs.Lined.{AreMadeSo};
 ghost use Rattle.steps_lined.specs.Beside.{lines_of};
-ghost use Rattle.spec_laws.specs.IsSpec.{IsSpec};
-ghost use Rattle.spec_names.specs.Names.{names_of};
-ghost use Rattle.run_reading.specs.Texts.{LogsRead, no_logs};
-ghost use Rattle.run_reading.specs.Reaches.{AllRead, Reaches, logged};
-ghost use Rattle.run_stages.specs.Stops.{StopsBy};
+ghost use Rattle.names_specification_laws.specs.IsSpec.{IsSpec};
+ghost use Rattle.steps_names.specs.Names.{names_of};
+ghost use Rattle.run_reading_defs.specs.Texts.{LogsRead, no_logs};
+ghost use Rattle.run_reading_defs.specs.Reaches.{AllRead, Reaches, logged};
+ghost use Rattle.run_stages.specs.Stops.{IsToldBy, StopsBy};
 ghost use Rattle.run_stages.specs.Logs.{AreKept, IsOnTheWay};
 
 use crate::stop::Stop;
 use crate::wanted::read_wanted;
-use log_files::lined_of;
-use log_lines::{ClockForm, FileLines, line_laws, read_log};
+use base_core::limits::{MAX_LOG_BYTES, MAX_STEPS};
+use base_core::{Files, Text};
+use logs_files::lined_of;
+use logs_lines::{ClockForm, FileLines, line_laws, read_log};
+use logs_tied::Lined;
+use names_terms::Spec;
+use reading_trees::{Config, Program};
 use run_texts::log_refusal;
 use run_words::Job;
-use spec_names::LogNames;
 use std::alloc::Global;
-use tied_logs::Lined;
-use tla_ast::{Config, Program};
-use tla_terms::Spec;
-use trace_base::{Files, Text};
-
-/// How many bytes all logs may have together, and how many steps.
-const LOGS_LIMIT: usize = 67_108_864;
-
-const MAX_STEPS: u32 = 200_000;
+use steps_names::LogNames;
 
 /// What was accepted before the logs are read.
 #[derive(Clone, Copy, Drop)]
@@ -58,6 +54,8 @@ pub(crate) fn read_logs<F: Files>(
     ensures made { IfOk result AreMadeSo }
     ensures few { IfOk result (λ lined. lines_of lined ≤ 200000) }
     ensures stopped { IfErr result (StopsBy (F.holds files.old) (F.faults files.old) (F.faults files.new) course.entry.job.now) }
+    ensures quiet { OnOk result (F.failures files.new ≡ F.failures files.old) }
+    ensures told { IfErr result (IsToldBy (F.failures files.old) (F.failures files.new)) }
     ensures same { F.holds files.new ≡ F.holds files.old }
     ensures later { F.faults files.old ≤ F.faults files.new }
 {
@@ -89,6 +87,8 @@ fn read_next<F: Files>(
     requires way { (rest : List (List ℕ)) × IsOnTheWay (F.holds files.now) course so (name.now ∷ rest) }
     ensures read { IfOk result (λ next. (rest : List (List ℕ)) → IsOnTheWay (F.holds files.old) course.entry so (name.now ∷ rest) → IsOnTheWay (F.holds files.old) course.entry next rest) }
     ensures stopped { IfErr result (StopsBy (F.holds files.old) (F.faults files.old) (F.faults files.new) course.entry.job.now) }
+    ensures quiet { OnOk result (F.failures files.new ≡ F.failures files.old) }
+    ensures told { IfErr result (IsToldBy (F.failures files.old) (F.failures files.new)) }
     ensures same { F.holds files.new ≡ F.holds files.old }
     ensures later { F.faults files.old ≤ F.faults files.new }
 {
@@ -99,7 +99,7 @@ fn read_next<F: Files>(
         form,
         found,
     } = so;
-    let text = read_wanted(alloc, course.job, files, name, LOGS_LIMIT - bytes)?;
+    let text = read_wanted(alloc, course.job, files, name, MAX_LOG_BYTES - bytes)?;
     let piece = text.as_slice();
     let many = course.job.logs.len() > 1;
     line_laws(names);

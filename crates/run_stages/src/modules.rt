@@ -1,16 +1,16 @@
-ghost use Rattle.std.specs.Prelude.{◌≡◌, ◌≤◌, IfOk, IfErr};
+ghost use Rattle.std.specs.Prelude.{◌≡◌, ◌≤◌, IfOk, IfErr, OnOk};
 ghost use Rattle.run_words.specs.Names.{IsModule};
-ghost use Rattle.run_reading.specs.Reaches.{Reaches, loaded};
-ghost use Rattle.run_stages.specs.Stops.{IsModuleStop, StopsBy};
+ghost use Rattle.run_reading_defs.specs.Reaches.{Reaches, loaded};
+ghost use Rattle.run_stages.specs.Stops.{IsModuleStop, IsToldBy, StopsBy};
 
 use crate::stop::{Stop, unread};
+use base_core::{Files, Names, NoMemory};
+use reading_modules::{LoadFault, LoadWhy, Notes};
+use reading_trees::WholeProgram;
+use reading_wide_modules::{Unread, load_modules};
 use run_texts::module_refusal;
 use run_words::Job;
 use std::alloc::Global;
-use tla_ast::WholeProgram;
-use tla_modules::{LoadFault, LoadWhy, Notes};
-use trace_base::{Files, Names, NoMemory};
-use wide_modules::{Unread, load_modules};
 
 /// A program of modules with its instances, and what was not read of them.
 #[derive(Drop)]
@@ -28,6 +28,8 @@ pub(crate) fn load_program<F: Files>(
     requires { IsModule job.now.module }
     ensures accepted { IfOk result (λ l. Reaches (F.holds files.old) job.now (loaded l.program l.notes)) }
     ensures stopped { IfErr result (StopsBy (F.holds files.old) (F.faults files.old) (F.faults files.new) job.now) }
+    ensures quiet { OnOk result (F.failures files.new ≡ F.failures files.old) }
+    ensures told { IfErr result (IsToldBy (F.failures files.old) (F.failures files.new)) }
     ensures same { F.holds files.new ≡ F.holds files.old }
     ensures later { F.faults files.old ≤ F.faults files.new }
 {

@@ -1,8 +1,8 @@
-ghost use Rattle.std.specs.Prelude.{◌≡◌, ◌≤◌, IfOk, IfErr};
+ghost use Rattle.std.specs.Prelude.{◌≡◌, ◌≤◌, IfOk, IfErr, OnOk};
 ghost use Rattle.steps_lined.specs.Beside.{IsReadyOver, lines_of};
 ghost use Rattle.run_words.specs.Words.{JobMeets};
-ghost use Rattle.run_reading.specs.Reaches.{AllRead};
-ghost use Rattle.run_stages.specs.Stops.{StopsBy};
+ghost use Rattle.run_reading_defs.specs.Reaches.{AllRead};
+ghost use Rattle.run_stages.specs.Stops.{IsToldBy, StopsBy};
 
 use crate::configs::read_config;
 use crate::expanding::expand_program;
@@ -11,18 +11,17 @@ use crate::logs::{Course, read_logs};
 use crate::modules::{LoadedModules, load_program};
 use crate::resolving::resolve_spec;
 use crate::stop::Stop;
-use expanded_laws::expanded_laws;
-use load_laws::configuration_laws;
-use ready_lines::{known_values_over, logs_are_ready};
-use resolved_laws::resolved_laws;
+use base_core::Files;
+use logs_tied::Lined;
+use names_expanded_laws::{expanded_laws, wide_load_laws};
+use names_load_laws::configuration_laws;
+use names_resolved_laws::resolved_laws;
+use names_terms::Spec;
+use reading_trees::{Config, Program};
+use run_wide::{Resolution, passing_laws};
 use run_words::Job;
 use std::alloc::Global;
-use tied_logs::Lined;
-use tla_ast::{Config, Program};
-use tla_terms::Spec;
-use trace_base::Files;
-use wide_load_laws::wide_load_laws;
-use wide_reading::{Resolution, passing_laws};
+use steps_ready_lines::{known_values_over, logs_are_ready};
 
 /// What was made of the texts of a job: the program and its configuration without what is passed over, the specification of both, and the lines of all
 /// logs.
@@ -43,6 +42,8 @@ pub fn read_all<F: Files>(alloc: Global, job: &Job, files: &mut F) -> Result<Acc
     ensures ready { IfOk result (λ a. IsReadyOver a.spec a.lined) }
     ensures few_lines { IfOk result (λ a. lines_of a.lined ≤ 200000) }
     ensures stopped { IfErr result (StopsBy (F.holds files.old) (F.faults files.old) (F.faults files.new) job.now) }
+    ensures quiet { OnOk result (F.failures files.new ≡ F.failures files.old) }
+    ensures told { IfErr result (IsToldBy (F.failures files.old) (F.failures files.new)) }
     ensures same { F.holds files.new ≡ F.holds files.old }
     ensures later { F.faults files.old ≤ F.faults files.new }
 {

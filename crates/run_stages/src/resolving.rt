@@ -1,19 +1,19 @@
 ghost use Rattle.std.specs.Prelude.{IfOk, IfErr};
-ghost use Rattle.tla_tables.specs.Values.{AreSpelled};
-ghost use Rattle.tla_levels.specs.Resolved.{IsOneForm};
-ghost use Rattle.wide_reading.specs.Answers.{IsResolution};
+ghost use Rattle.names_tables.specs.Values.{AreSpelled};
+ghost use Rattle.names_resolving.specs.Resolved.{IsOneForm};
+ghost use Rattle.run_wide.specs.Answers.{IsResolution};
 ghost use Rattle.run_stages.specs.Stops.{RefusedWith};
 ghost use Rattle.run_stages.specs.Resolving.{IsUnresolved};
 
 use crate::files::{all_files, copy_names};
 use crate::stop::Stop;
+use reading_modules::Notes;
+use reading_trees::{Config, Program};
+use reading_wide_modules::Unread;
 use run_texts::{names_refusal, piece_refusal};
+use run_wide::{Resolution, ResolutionFault, resolve_read};
 use run_words::Job;
 use std::alloc::Global;
-use tla_ast::{Config, Program};
-use tla_modules::Notes;
-use wide_modules::Unread;
-use wide_reading::{Resolution, ResolutionFault, resolve_read};
 
 /// The specification of modules with their configuration, as the job asks for them to be read, and the program and the configuration that it is of:
 /// what no step needs may be passed over.

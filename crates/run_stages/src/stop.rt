@@ -2,10 +2,10 @@ ghost use Rattle.std.specs.Prelude.{◌≡◌, IfOk};
 ghost use Rattle.run_stages.specs.declared.stop.Stop.TheVariants as stops;
 ghost use Rattle.run_stages.specs.Stops.{IsUnreadBy};
 
+use base_core::{NoMemory, ReadFault, Text};
 use run_texts::{missing_text, too_long_text};
 use std::alloc::{AllocError, AllocFailed, Global};
 use thiserror::Error;
-use trace_base::{NoMemory, ReadFault, Text};
 
 /// Why not all texts of a job are accepted.
 #[derive(Debug, Drop, Error)]

@@ -1,7 +1,7 @@
 -- For the prover: each token outside the profile stands in a table of spellings.
 use Rattle.std.proofs.Common.{codes, refl, inl, inr}
-use Rattle.tla_tokens.specs.Spellings.{kind_in, words, runs, signs}
-use Rattle.tla_tokens.specs.declared.token.Foreign.TheVariants as foreign
+use Rattle.reading_tokens.specs.Spellings.{kind_in, words, runs, signs}
+use Rattle.reading_tokens.specs.declared.token.Foreign.TheVariants as foreign
 use Rattle.run_texts.specs.Spelled.{ForeignIsSpelled}
 
 pub foreign_spelled : ForeignIsSpelled

@@ -1,13 +1,13 @@
 -- The report of an answer.
 use Rattle.std.specs.Prelude.{ℕ, zero, suc, List, [], ◌∷◌, ◌++◌, codes, decimal}
-use Rattle.trace_base.specs.declared.place.Place.{Place}
-use Rattle.trace_base.specs.declared.place.LineAt.{LineAt}
-use Rattle.tla_values.specs.declared.fault.EvalKind.{EvalKind}
-use Rattle.tla_values.specs.FaultCodes.{eval_code}
-use Rattle.tla_core.specs.States.{Values}
-use Rattle.tla_core.specs.declared.state.Shown.{Shown}
-use Rattle.state_layers.specs.declared.answer.Answer.{Answer}
-use Rattle.state_layers.specs.declared.answer.Answer.TheVariants as answer
+use Rattle.base_core.specs.declared.place.Place.{Place}
+use Rattle.base_core.specs.declared.place.LineAt.{LineAt}
+use Rattle.values_core.specs.declared.fault.EvalKind.{EvalKind}
+use Rattle.values_core.specs.FaultCodes.{eval_code}
+use Rattle.states_core.specs.States.{Values}
+use Rattle.states_core.specs.declared.state.Shown.{Shown}
+use Rattle.states_layers.specs.declared.answer.Answer.{Answer}
+use Rattle.states_layers.specs.declared.answer.Answer.TheVariants as answer
 use Rattle.run_texts.specs.Places.{name_at, at_place}
 use Rattle.run_texts.specs.Logs.{line_text}
 use Rattle.run_texts.specs.States.{states_text, faulty_text}

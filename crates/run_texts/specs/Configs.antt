@@ -1,9 +1,9 @@
 -- The lines on configurations that are refused.
 use Rattle.std.specs.Prelude.{ℕ, List, ◌++◌}
-use Rattle.trace_base.specs.declared.place.Place.{Place}
-use Rattle.tla_config.specs.declared.fault.ConfigKind.{ConfigKind}
-use Rattle.tla_config.specs.declared.fault.ConfigKind.TheVariants as config
-use Rattle.tla_config.specs.FaultCodes.{config_code}
+use Rattle.base_core.specs.declared.place.Place.{Place}
+use Rattle.reading_configuration.specs.declared.fault.ConfigKind.{ConfigKind}
+use Rattle.reading_configuration.specs.declared.fault.ConfigKind.TheVariants as config
+use Rattle.reading_configuration.specs.FaultCodes.{config_code}
 use Rattle.run_texts.specs.Places.{at_place, detail, refused}
 
 -- the configuration's file stands in the list behind the program's

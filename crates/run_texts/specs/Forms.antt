@@ -1,8 +1,8 @@
 -- The lines on terms that have no form as an action.
 use Rattle.std.specs.Prelude.{ℕ, List, [], ◌++◌}
-use Rattle.tla_actions.specs.declared.fault.FormFault.{FormFault}
-use Rattle.tla_actions.specs.declared.fault.FormFault.TheVariants as form
-use Rattle.tla_actions.specs.FaultCodes.{form_code}
+use Rattle.actions_meanings.specs.declared.fault.FormFault.{FormFault}
+use Rattle.actions_meanings.specs.declared.fault.FormFault.TheVariants as form
+use Rattle.actions_meanings.specs.FaultCodes.{form_code}
 use Rattle.run_texts.specs.Places.{name_at, at_place, detail, refused}
 
 -- with the names of the variables; nothing is written where memory is wanting

@@ -1,9 +1,9 @@
 -- The lines on files of states that are refused.
 use Rattle.std.specs.Prelude.{ℕ, List, ◌++◌}
-use Rattle.state_files.specs.declared.kind.StateKind.{StateKind}
-use Rattle.state_files.specs.declared.kind.StateKind.TheVariants as states
-use Rattle.state_files.specs.FaultCodes.{state_code}
-use Rattle.state_files.specs.declared.refusal.StateRefusal.{StateRefusal}
+use Rattle.states_files.specs.declared.kind.StateKind.{StateKind}
+use Rattle.states_files.specs.declared.kind.StateKind.TheVariants as states
+use Rattle.states_files.specs.FaultCodes.{state_code}
+use Rattle.states_files.specs.declared.refusal.StateRefusal.{StateRefusal}
 use Rattle.run_texts.specs.Places.{detail, refused}
 use Rattle.run_texts.specs.Logs.{at_line}
 

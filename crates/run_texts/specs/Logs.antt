@@ -1,11 +1,11 @@
 -- The lines on logs that are refused.
 use Rattle.std.specs.Prelude.{ℕ, ℤ, List, ◌++◌, codes, decimal}
 use Rattle.std.specs.Fmt.{signed_decimal}
-use Rattle.line_shapes.specs.Keys.{key_text}
-use Rattle.log_lines.specs.declared.kind.LogKind.{LogKind}
-use Rattle.log_lines.specs.declared.kind.LogKind.TheVariants as log
-use Rattle.log_lines.specs.FaultCodes.{log_code}
-use Rattle.log_lines.specs.declared.file.Refusal.{Refusal}
+use Rattle.logs_shapes.specs.Keys.{key_text}
+use Rattle.logs_lines.specs.declared.kind.LogKind.{LogKind}
+use Rattle.logs_lines.specs.declared.kind.LogKind.TheVariants as log
+use Rattle.logs_lines.specs.FaultCodes.{log_code}
+use Rattle.logs_lines.specs.declared.file.Refusal.{Refusal}
 use Rattle.run_texts.specs.Places.{detail, found_needed, refused}
 
 -- a line of a log: the log's name and the line's number in it

@@ -1,14 +1,14 @@
 -- The lines on modules that are refused.
 use Rattle.std.specs.Prelude.{ℕ, List, [], ◌∷◌, ◌++◌, Option, Some, None, codes}
-use Rattle.trace_base.specs.declared.place.Place.{Place}
-use Rattle.trace_base.specs.declared.reading.ReadFault.{ReadFault}
-use Rattle.trace_base.specs.declared.reading.ReadFault.TheVariants as read
-use Rattle.tla_exprs.specs.declared.fault.ParseFault.{ParseFault}
-use Rattle.tla_exprs.specs.declared.fault.ParseFault.TheVariants as parse
-use Rattle.tla_exprs.specs.FaultCodes.{parse_code}
-use Rattle.tla_modules.specs.declared.fault.LoadWhy.{LoadWhy}
-use Rattle.tla_modules.specs.declared.fault.LoadWhy.TheVariants as load
-use Rattle.tla_modules.specs.FaultCodes.{load_code}
+use Rattle.base_core.specs.declared.place.Place.{Place}
+use Rattle.base_core.specs.declared.reading.ReadFault.{ReadFault}
+use Rattle.base_core.specs.declared.reading.ReadFault.TheVariants as read
+use Rattle.reading_expressions.specs.declared.fault.ParseFault.{ParseFault}
+use Rattle.reading_expressions.specs.declared.fault.ParseFault.TheVariants as parse
+use Rattle.reading_expressions.specs.FaultCodes.{parse_code}
+use Rattle.reading_modules.specs.declared.fault.LoadWhy.{LoadWhy}
+use Rattle.reading_modules.specs.declared.fault.LoadWhy.TheVariants as load
+use Rattle.reading_modules.specs.FaultCodes.{load_code}
 use Rattle.run_texts.specs.Places.{place_text, at_place, detail, refused}
 use Rattle.run_texts.specs.Spelled.{foreign_text}
 use Rattle.run_texts.specs.Files.{missing_text, too_long_text, device_text}

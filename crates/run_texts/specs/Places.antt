@@ -1,6 +1,6 @@
 -- How places are written, and the line of a refusal.
 use Rattle.std.specs.Prelude.{ℕ, List, [], ◌++◌, Option, Some, None, slice_get, codes, decimal}
-use Rattle.trace_base.specs.declared.place.Place.{Place}
+use Rattle.base_core.specs.declared.place.Place.{Place}
 
 -- a text that is there, and else the empty one
 abbrev pub text_or_none : Option (List ℕ) → List ℕ

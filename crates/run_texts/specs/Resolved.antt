@@ -1,10 +1,10 @@
 -- The lines on programs that are no specification.
 use Rattle.std.specs.Prelude.{ℕ, List, [], ◌++◌, codes, decimal}
-use Rattle.tla_terms.specs.declared.level.Level.{Level}
-use Rattle.tla_terms.specs.declared.level.Level.TheVariants as level
-use Rattle.tla_levels.specs.declared.fault.ResolveFault.{ResolveFault}
-use Rattle.tla_levels.specs.declared.fault.ResolveFault.TheVariants as resolve
-use Rattle.tla_levels.specs.FaultCodes.{resolve_code}
+use Rattle.names_terms.specs.declared.level.Level.{Level}
+use Rattle.names_terms.specs.declared.level.Level.TheVariants as level
+use Rattle.names_resolving.specs.declared.fault.ResolveFault.{ResolveFault}
+use Rattle.names_resolving.specs.declared.fault.ResolveFault.TheVariants as resolve
+use Rattle.names_resolving.specs.FaultCodes.{resolve_code}
 use Rattle.run_texts.specs.Places.{at_place, detail, found_needed, refused}
 
 -- levels as numbers

@@ -1,6 +1,6 @@
 -- The report of the smoke test: its numbers, and the first and the last line of the states.
 use Rattle.std.specs.Prelude.{ℕ, List, [], ◌∷◌, ◌++◌, codes, decimal}
-use Rattle.tla_core.specs.declared.state.Shown.{Shown}
+use Rattle.states_core.specs.declared.state.Shown.{Shown}
 use Rattle.run_texts.specs.States.{states_text}
 
 -- the last of states, the first of which is this one

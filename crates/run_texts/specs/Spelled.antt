@@ -1,9 +1,9 @@
 -- How a token outside the profile is spelled.
 use Rattle.std.specs.Prelude.{◌≡◌, ◌⊎◌, ℕ, List, ◌++◌, Some, codes}
-use Rattle.tla_tokens.specs.declared.token.Foreign.{Foreign}
-use Rattle.tla_tokens.specs.declared.token.Foreign.TheVariants as foreign
-use Rattle.tla_tokens.specs.declared.token.Kind.TheVariants as kinds
-use Rattle.tla_tokens.specs.Spellings.{kind_in, words, runs, signs}
+use Rattle.reading_tokens.specs.declared.token.Foreign.{Foreign}
+use Rattle.reading_tokens.specs.declared.token.Foreign.TheVariants as foreign
+use Rattle.reading_tokens.specs.declared.token.Kind.TheVariants as kinds
+use Rattle.reading_tokens.specs.Spellings.{kind_in, words, runs, signs}
 
 abbrev pub foreign_text : Foreign → List ℕ
 foreign_text foreign.Lambda = codes "LAMBDA"

@@ -4,12 +4,12 @@ use Rattle.std.specs.Ordering.{is_lt, nat_cmp}
 use Rattle.std.specs.Cmp.Lexicographic.{slice_cmp}
 use Rattle.serde_json.specs.Data.{string}
 use Rattle.serde_json.specs.Written.{compact_text}
-use Rattle.tla_values.specs.Data.{Val}
-use Rattle.json_values.specs.Prints.{prints}
-use Rattle.tla_core.specs.States.{Values}
-use Rattle.tla_core.specs.declared.state.Mark.{Mark}
-use Rattle.tla_core.specs.declared.state.Mark.TheVariants as mark
-use Rattle.tla_core.specs.declared.state.Shown.{Shown}
+use Rattle.values_core.specs.Data.{Val}
+use Rattle.values_json.specs.Prints.{prints}
+use Rattle.states_core.specs.States.{Values}
+use Rattle.states_core.specs.declared.state.Mark.{Mark}
+use Rattle.states_core.specs.declared.state.Mark.TheVariants as mark
+use Rattle.states_core.specs.declared.state.Shown.{Shown}
 use Rattle.run_texts.specs.Places.{name_at}
 
 -- the number of a variable among these, before the first whose name is above its own

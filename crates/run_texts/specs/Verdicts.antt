@@ -1,9 +1,9 @@
 -- The report of a verdict on given states.
 use Rattle.std.specs.Prelude.{ℕ, List, ◌++◌, codes, decimal}
-use Rattle.state_verdicts.specs.declared.verdict.Reason.{Reason}
-use Rattle.state_verdicts.specs.declared.verdict.Reason.TheVariants as reason
-use Rattle.state_verdicts.specs.declared.verdict.Verdict.{Verdict}
-use Rattle.state_verdicts.specs.declared.verdict.Verdict.TheVariants as verdict
+use Rattle.states_verdicts.specs.declared.verdict.Reason.{Reason}
+use Rattle.states_verdicts.specs.declared.verdict.Reason.TheVariants as reason
+use Rattle.states_verdicts.specs.declared.verdict.Verdict.{Verdict}
+use Rattle.states_verdicts.specs.declared.verdict.Verdict.TheVariants as verdict
 use Rattle.run_texts.specs.Answers.{fault_text}
 
 -- why a state is not clean

@@ -8,10 +8,10 @@ use crate::logs::push_line;
 use crate::order::in_order;
 use crate::places::{name_at, push_at};
 use crate::states::{push_faulty, push_states};
-use state_layers::Answer;
+use base_core::{LineAt, Names, NoMemory, Place};
+use states_core::{Behaviour, EvalKind, State};
+use states_layers::Answer;
 use std::alloc::Global;
-use tla_core::{Behaviour, EvalKind, State};
-use trace_base::{LineAt, Names, NoMemory, Place};
 
 /// The report of an answer.
 pub fn answer_text(alloc: Global, labels: &Labels<'_>, answer: &Answer) -> Result<String, NoMemory>

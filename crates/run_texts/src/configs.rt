@@ -2,9 +2,9 @@ ghost use Rattle.std.specs.Prelude.{◌≡◌, IfOk, string_bytes};
 ghost use Rattle.run_texts.specs.Configs.{config_refusal};
 
 use crate::places::{refused_at, refused_detail};
+use base_core::{Names, NoMemory, Place};
+use reading_configuration::ConfigKind;
 use std::alloc::Global;
-use tla_config::ConfigKind;
-use trace_base::{Names, NoMemory, Place};
 
 /// The line for a configuration that is refused. Its file stands in the list behind the program's.
 pub fn config_refusal(

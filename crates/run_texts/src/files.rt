@@ -1,8 +1,8 @@
 ghost use Rattle.std.specs.Prelude.{◌≡◌, ◌++◌, IfOk, codes, string_bytes};
 ghost use Rattle.run_texts.specs.Files.{words_text, missing_text, too_long_text, device_text};
 
+use base_core::NoMemory;
 use std::alloc::Global;
-use trace_base::NoMemory;
 
 /// The line for words that are in no form of a call.
 pub fn words_text(alloc: Global) -> Result<String, NoMemory>

@@ -2,9 +2,9 @@ ghost use Rattle.std.specs.Prelude.{◌≡◌, IfOk, string_bytes};
 ghost use Rattle.run_texts.specs.Forms.{form_refusal};
 
 use crate::places::{name_at, refused_detail};
+use actions_meanings::FormFault;
+use base_core::{Names, NoMemory};
 use std::alloc::Global;
-use tla_actions::FormFault;
-use trace_base::{Names, NoMemory};
 
 /// The line for a term that has no form as an action, with the names of the variables.
 pub fn form_refusal(

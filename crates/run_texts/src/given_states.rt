@@ -2,9 +2,9 @@ ghost use Rattle.std.specs.Prelude.{◌≡◌, IfOk, string_bytes};
 ghost use Rattle.run_texts.specs.GivenStates.{states_refusal};
 
 use crate::logs::{refused_line, refused_told};
-use state_files::{StateKind, StateRefusal};
+use base_core::NoMemory;
+use states_files::{StateKind, StateRefusal};
 use std::alloc::Global;
-use trace_base::NoMemory;
 
 /// The line for a file of states of this name that is refused.
 pub fn states_refusal(alloc: Global, name: &str, refused: &StateRefusal) -> Result<String, NoMemory>

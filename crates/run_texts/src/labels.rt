@@ -1,4 +1,4 @@
-use trace_base::Names;
+use base_core::Names;
 
 /// What a report names: the specification's files, the logs and the variables, what is not checked, how many
 /// lines there are, and how many states a layer may have.

@@ -3,9 +3,9 @@ ghost use Rattle.run_texts.specs.Places.{detail, found_needed, refused};
 ghost use Rattle.run_texts.specs.Logs.{line_text, at_line, clocks_text, kind_refusal, log_refusal, node_text};
 
 use crate::places::{push_detail, push_found_needed, refusal};
-use log_lines::{LogKind, Refusal};
+use base_core::{NoMemory, Text};
+use logs_lines::{LogKind, Refusal};
 use std::alloc::Global;
-use trace_base::{NoMemory, Text};
 
 /// The line for a log of this name that is refused.
 pub fn log_refusal(alloc: Global, name: &str, refused: Refusal) -> Result<String, NoMemory>

@@ -7,10 +7,10 @@ use crate::places::{
     push_at, push_detail, push_place, refusal, refused_alone, refused_at, refused_detail,
 };
 use crate::spelled::foreign_text;
+use base_core::{Names, NoMemory, Place, ReadFault, Text};
+use reading_expressions::ParseFault;
+use reading_modules::LoadWhy;
 use std::alloc::Global;
-use tla_exprs::ParseFault;
-use tla_modules::LoadWhy;
-use trace_base::{Names, NoMemory, Place, ReadFault, Text};
 
 /// The line for modules that are refused, with the files so far.
 pub fn module_refusal(alloc: Global, files: &Names, why: &LoadWhy) -> Result<String, NoMemory>

@@ -4,8 +4,8 @@ ghost use Rattle.std.specs.Cmp.Lexicographic.{slice_cmp};
 ghost use Rattle.run_texts.specs.States.{in_order, with_number};
 
 use crate::places::name_at;
+use base_core::{Names, NoMemory};
 use std::alloc::Global;
-use trace_base::{Names, NoMemory};
 
 /// The numbers of the variables of these names, in ascending order of the bytes of their names.
 pub fn in_order(alloc: Global, names: &Names) -> Result<Vec<usize>, NoMemory>

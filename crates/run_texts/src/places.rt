@@ -1,8 +1,8 @@
 ghost use Rattle.std.specs.Prelude.{◌≡◌, ◌++◌, IfOk, OnOk, codes, string_bytes};
 ghost use Rattle.run_texts.specs.Places.{name_at, place_text, at_place, detail, found_needed, refused};
 
+use base_core::{Names, NoMemory, Place};
 use std::alloc::Global;
-use trace_base::{Names, NoMemory, Place};
 
 /// The name of that number, from 0; past the end the empty text.
 pub fn name_at(names: &Names, i: usize) -> &str

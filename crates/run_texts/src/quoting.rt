@@ -5,9 +5,9 @@ ghost use Rattle.serde_json.specs.Data.{string};
 ghost use Rattle.serde_json.specs.Written.{compact_text};
 ghost use Rattle.run_texts.specs.Quoting.{IsPlain};
 
+use base_core::NoMemory;
 use serde_json::Value as Json;
 use std::alloc::Global;
-use trace_base::NoMemory;
 
 /// Adds the text in quotes, with what JSON escapes.
 pub(crate) fn push_quoted(alloc: Global, text: &mut String, inner: &str) -> Result<(), NoMemory>

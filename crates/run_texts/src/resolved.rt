@@ -5,10 +5,10 @@ ghost use Rattle.run_texts.specs.Resolved.{level_number, found_allowed, names_re
 use crate::places::{
     push_at, push_detail, push_found_needed, refusal, refused_alone, refused_at, refused_detail,
 };
+use base_core::{Names, NoMemory, Place};
+use names_resolving::ResolveFault;
+use names_terms::Level;
 use std::alloc::Global;
-use tla_levels::ResolveFault;
-use tla_terms::Level;
-use trace_base::{Names, NoMemory, Place};
 
 /// The line for a program that is no specification.
 pub fn names_refusal(alloc: Global, files: &Names, fault: &ResolveFault) -> Result<String, NoMemory>

@@ -4,9 +4,9 @@ ghost use Rattle.run_texts.specs.Smoke.{ends_text, last_behind, smoke_text};
 
 use crate::order::in_order;
 use crate::states::push_shown;
+use base_core::{Names, NoMemory};
+use states_core::{Behaviour, Shown};
 use std::alloc::Global;
-use tla_core::{Behaviour, Shown};
-use trace_base::{Names, NoMemory};
 
 /// The report of the smoke test over so many lines: the number of states in the widest layer, and the first and the last state.
 pub fn smoke_text(

@@ -1,7 +1,7 @@
 ghost use Rattle.std.specs.Prelude.{◌≡◌};
 ghost use Rattle.run_texts.specs.Spelled.{foreign_text};
 
-use tla_tokens::Foreign;
+use reading_tokens::Foreign;
 
 /// How a token outside the profile is spelled.
 pub(crate) fn foreign_text(token: Foreign) -> &'static str

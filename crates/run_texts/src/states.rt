@@ -1,13 +1,13 @@
 ghost use Rattle.std.specs.Prelude.{◌≡◌, ◌++◌, OnOk, slice_get, string_bytes};
-ghost use Rattle.tla_core.specs.declared.state.Mark.TheVariants as mark;
+ghost use Rattle.states_core.specs.declared.state.Mark.TheVariants as mark;
 ghost use Rattle.run_texts.specs.States.{in_order, value_text, field_text, more_text, fields_text, state_text, before_text, behind_text, states_text, faulty_text};
 
 use crate::places::name_at;
 use crate::quoting::push_quoted;
-use json_values::push_json;
+use base_core::{LineAt, Names, NoMemory};
+use states_core::{Behaviour, Mark, Shown, State};
 use std::alloc::Global;
-use tla_core::{Behaviour, Mark, Shown, State};
-use trace_base::{LineAt, Names, NoMemory};
+use values_json::push_json;
 
 /// Adds the lines of states.
 pub(crate) fn push_states(

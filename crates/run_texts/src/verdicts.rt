@@ -3,10 +3,10 @@ ghost use Rattle.run_texts.specs.Answers.{fault_text};
 ghost use Rattle.run_texts.specs.Verdicts.{reason_text, verdict_text};
 
 use crate::answers::faulted;
-use state_verdicts::{Reason, Verdict};
+use base_core::{Names, NoMemory, Place};
+use states_core::EvalKind;
+use states_verdicts::{Reason, Verdict};
 use std::alloc::Global;
-use tla_core::EvalKind;
-use trace_base::{Names, NoMemory, Place};
 
 /// The report of a verdict on so many states.
 pub fn verdict_text(

@@ -4,10 +4,10 @@ use Rattle.std.specs.List.{list_all}
 use Rattle.std.proofs.lemmas.Bool.{false≢true}
 use Rattle.std.proofs.lemmas.List.Elements.{All-from_get_or}
 use Rattle.std.proofs.lemmas.List.Recursion.{and_at}
-use Rattle.tla_tokens.specs.Shapes.{is_word}
-use Rattle.tla_tokens.proofs.NameLaws.{name_bytes}
-use Rattle.tla_modules.specs.Paths.{IsPath, file_of}
-use Rattle.tla_modules.proofs.PathLaws.{path_same}
+use Rattle.reading_tokens.specs.Shapes.{is_word}
+use Rattle.reading_tokens.proofs.NameLaws.{name_bytes}
+use Rattle.reading_modules.specs.Paths.{IsPath, file_of}
+use Rattle.reading_modules.proofs.PathLaws.{path_same}
 use Rattle.run_words.specs.Names.{IsModule, IsName}
 
 abbrev IsFolder : List ℕ → Type 0

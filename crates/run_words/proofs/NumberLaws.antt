@@ -6,7 +6,7 @@ use Rattle.std.specs.Char.{digit_value}
 use Rattle.std.specs.Str.Parse.{AllDigits, IsNumeral, digits_value, without_leading_plus}
 use Rattle.std.proofs.lemmas.Bool.{and_parts}
 use Rattle.std.proofs.lemmas.Bool.Decides.{nat_tests}
-use Rattle.tla_tokens.specs.Shapes.{is_digit}
+use Rattle.reading_tokens.specs.Shapes.{is_digit}
 use Rattle.run_words.specs.Job.{IsNumber}
 
 digit_below : (b : ℕ) → is_digit b ≡ true → digit_value b < 10

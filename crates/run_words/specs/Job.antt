@@ -2,7 +2,7 @@
 use Rattle.std.specs.Prelude.{◌≡◌, ℕ, ◌+◌, ◌≤◌, Bool, true, false, List, [], ◌∷◌, length, Option, Some, None, IfSome, if◌then◌else◌, option_to_list}
 use Rattle.std.specs.List.{list_all}
 use Rattle.std.specs.Str.Parse.{digits_value}
-use Rattle.tla_tokens.specs.Shapes.{is_digit}
+use Rattle.reading_tokens.specs.Shapes.{is_digit}
 use Rattle.run_words.specs.Line.{Text, Given}
 use Rattle.run_words.specs.Names.{IsName, IsModule}
 use Rattle.run_words.specs.declared.command.Flag.{Flag}

@@ -1,7 +1,7 @@
 -- The names of the language, and the paths of its modules.
 use Rattle.std.specs.Prelude.{ℕ, List}
-use Rattle.tla_modules.specs.Paths.{IsPath}
-pub use Rattle.tla_tokens.specs.Names.{IsName}
+use Rattle.reading_modules.specs.Paths.{IsPath}
+pub use Rattle.reading_tokens.specs.Names.{IsName}
 
 -- the path of a module's file, under a name of the language
 pub record IsModule (path : List ℕ) : Type 0 where

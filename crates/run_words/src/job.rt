@@ -1,6 +1,6 @@
 //! What the program is asked to do.
 
-use trace_base::{Names, Text};
+use base_core::{Names, Text};
 
 /// How far an explanation may go: how many steps a line of the log may take, whether a step may stutter, and how many states
 /// a layer may have.

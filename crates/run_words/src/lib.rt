@@ -9,7 +9,6 @@ mod name;
 mod number;
 mod options;
 mod read;
-mod rules;
 
 pub use command::{Command, Flag, Setting};
 pub use job::{Job, Options, Words};

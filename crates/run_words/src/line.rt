@@ -10,10 +10,10 @@ ghost use Rattle.run_words.specs.Line.{Given, Gives, is_given, words_of};
 ghost use Rattle.run_words.specs.Parsers.{Holds, app_for, are_given, bare_app, files_app, flag_rule, given_by, has_given_alone, setting_rule, texts_of, vals, words_rule};
 
 use crate::command::{Command, Flag, Setting};
+use base_core::NoMemory;
 use clap::error::ErrorKind;
 use clap::{Arg, ArgAction, ArgMatches, Error};
 use std::alloc::{AllocError, Global};
-use trace_base::NoMemory;
 
 /// What the words give, or none where they are no line of the command.
 pub(crate) fn read_line<'a>(

@@ -3,8 +3,8 @@
 ghost use Rattle.std.specs.Prelude.{◌↔◌, IsTrue};
 ghost use Rattle.run_words.specs.Names.{IsModule};
 
-use tla_modules::parts_of;
-use tla_tokens::is_name;
+use reading_modules::parts_of;
+use reading_tokens::is_name;
 
 /// Whether the path is that of a module's file, whose name is one of the language.
 pub(crate) fn is_module(path: &str) -> bool

@@ -2,10 +2,10 @@
 
 ghost use Rattle.std.specs.Prelude.{◌≡◌, ℕ, MatchOption};
 ghost use Rattle.std.specs.List.{list_all};
-ghost use Rattle.tla_tokens.specs.Shapes.{is_digit};
+ghost use Rattle.reading_tokens.specs.Shapes.{is_digit};
 ghost use Rattle.run_words.specs.Job.{IsNumber};
 
-use tla_tokens::is_digit;
+use reading_tokens::is_digit;
 
 /// The number of the range that 1 to 10 decimal digits spell.
 pub(crate) fn number(text: &str, least: u32, most: u32) -> Option<u32>

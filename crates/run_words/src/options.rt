@@ -10,7 +10,7 @@ use crate::job::Options;
 use crate::line::values;
 use crate::number::number;
 use clap::ArgMatches;
-use tla_tokens::is_name;
+use reading_tokens::is_name;
 
 /// An option stands more than once.
 #[derive(Clone, Copy, Debug, Drop)]

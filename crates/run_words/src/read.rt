@@ -13,9 +13,9 @@ use crate::line::{read_line, values};
 use crate::name::is_module;
 use crate::number::number;
 use crate::options::{is_set, most_of, operator, read_options, ties, value_of, witness};
+use base_core::{Names, NoMemory, Text};
 use clap::ArgMatches;
 use std::alloc::Global;
-use trace_base::{Names, NoMemory, Text};
 
 /// The command that the words give, without the program's own name; none where they are no command.
 pub fn read_words(alloc: Global, words: &[String]) -> Result<Option<Words>, NoMemory>

@@ -1,13 +1,13 @@
 -- What is true of a specification beside the lines of all logs: of lines in one order by the system beside their log, and of lines that may stand in several
 -- orders by the system over cuts of the logs.
-use Rattle.tla_terms.specs.declared.spec.Spec.{Spec}
-use Rattle.line_steps.specs.Logs.{Asked, system}
-use Rattle.tied_logs.specs.declared.logs.Lined.{Lined}
-use Rattle.tied_logs.specs.declared.logs.Lined.TheVariants.{Sequence, Tied}
-use Rattle.tied_steps.specs.Tied.{tied_system}
-use Rattle.state_layers.specs.Answers.{AllAssumed, IsAnswer}
-use Rattle.state_layers.specs.Says.{IsUnassumed}
-use Rattle.state_layers.specs.declared.answer.Answer.{Answer}
+use Rattle.names_terms.specs.declared.spec.Spec.{Spec}
+use Rattle.steps_lines_defs.specs.Logs.{Asked, system}
+use Rattle.logs_tied.specs.declared.logs.Lined.{Lined}
+use Rattle.logs_tied.specs.declared.logs.Lined.TheVariants.{Sequence, Tied}
+use Rattle.steps_tied.specs.Tied.{tied_system}
+use Rattle.states_layers.specs.Answers.{AllAssumed, IsAnswer}
+use Rattle.states_layers.specs.Says.{IsUnassumed}
+use Rattle.states_layers.specs.declared.answer.Answer.{Answer}
 
 -- the answer is true
 abbrev pub IsTrueOf : Spec → Asked → Lined → Answer → Type 0

@@ -1,13 +1,13 @@
 -- A specification beside the lines of all logs, from which its steps can be asked.
 use Rattle.std.specs.Prelude.{ℕ, length}
-use Rattle.tla_terms.specs.declared.spec.Spec.{Spec}
-use Rattle.log_cuts.specs.Cuts.{total}
-use Rattle.log_cuts.specs.Orders.{sizes}
-use Rattle.tied_logs.specs.Lines.{AreTied, HaveOwnPlaces}
-use Rattle.tied_logs.specs.declared.logs.Lined.{Lined}
-use Rattle.tied_logs.specs.declared.logs.Lined.TheVariants.{Sequence, Tied}
-use Rattle.ready_specs.specs.Beside.{IsReady}
-use Rattle.tied_steps.specs.Beside.{IsReadyBeside}
+use Rattle.names_terms.specs.declared.spec.Spec.{Spec}
+use Rattle.base_cuts.specs.Cuts.{total}
+use Rattle.base_cuts.specs.Orders.{sizes}
+use Rattle.logs_tied.specs.Lines.{AreTied, HaveOwnPlaces}
+use Rattle.logs_tied.specs.declared.logs.Lined.{Lined}
+use Rattle.logs_tied.specs.declared.logs.Lined.TheVariants.{Sequence, Tied}
+use Rattle.steps_ready_defs.specs.Beside.{IsReady}
+use Rattle.steps_tied.specs.Beside.{IsReadyBeside}
 
 -- how many lines there are
 abbrev pub lines_of : Lined → ℕ

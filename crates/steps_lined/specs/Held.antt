@@ -1,9 +1,9 @@
 -- What is so of each reading that is accepted, since the types of what was read hold it.
 use Rattle.std.specs.Prelude.{◌<◌, ◌≤◌, ◌^◌, All, IsUtf8}
-use Rattle.tla_terms.specs.declared.spec.Spec.{Spec}
-use Rattle.path_updates.specs.declared.line.Line.{Line}
-use Rattle.tied_logs.specs.declared.logs.Lined.{Lined}
-use Rattle.tied_logs.specs.declared.logs.Lined.TheVariants.{Sequence, Tied}
+use Rattle.names_terms.specs.declared.spec.Spec.{Spec}
+use Rattle.logs_updates.specs.declared.line.Line.{Line}
+use Rattle.logs_tied.specs.declared.logs.Lined.{Lined}
+use Rattle.logs_tied.specs.declared.logs.Lined.TheVariants.{Sequence, Tied}
 use Rattle.steps_lined.specs.Beside.{IsReadyOver, lines_of}
 
 -- the line stands in a file and at a line of 32 bits

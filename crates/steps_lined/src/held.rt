@@ -3,8 +3,8 @@ ghost use Rattle.steps_lined.specs.Beside.{IsReadyOver, lines_of};
 ghost use Rattle.steps_lined.specs.Held.{IsHeldSo};
 
 use crate::known::{known_places, known_texts};
-use tied_logs::Lined;
-use tla_terms::Spec;
+use logs_tied::Lined;
+use names_terms::Spec;
 
 /// That a specification and the lines of its logs, from which its steps can be asked, are held so: as their types hold names and places.
 pub fn held_so(spec: &Spec, lined: &Lined)

@@ -3,9 +3,9 @@
 ghost use Rattle.std.specs.Prelude.{All, IsUtf8};
 ghost use Rattle.steps_lined.specs.Held.{ArePlaced, IsPlaced};
 
-use path_updates::{Line, LineList};
-use tied_logs::Lined;
-use trace_base::{Names, Text};
+use base_core::{Names, Text};
+use logs_tied::Lined;
+use logs_updates::{Line, LineList};
 
 /// That names are UTF-8.
 pub(crate) fn known_texts(names: &Names)

@@ -1,12 +1,12 @@
 //! `tlatrace`: whether the logs of a distributed system can come from its TLA+ specification.
 #![tactic(auto)]
 
-use library_calls::{WithLibrary, run_with_library};
+use base_core::{HostFiles, HostSink};
+use run_call::Status;
+use run_library::{WithLibrary, run_with_library};
 use std::env;
 use std::io::{self, ErrorKind};
 use std::process::ExitCode;
-use trace_base::{HostFiles, HostSink};
-use trace_cli::Status;
 
 fn main(rt: HostRuntime) -> ExitCode {
     let words = match words(&rt) {

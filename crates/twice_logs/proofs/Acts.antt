@@ -1,30 +1,30 @@
 -- Operators and Next hold and fail over the one specification as over the other.
 use Rattle.std.proofs.Common.{◌≡◌, ap, inl, inr, refl, subst, List, [], length}
 use Rattle.std.specs.Prelude.{ℕ, Option, Some, None, slice_get}
-use Rattle.tla_values.specs.Data.{Val}
-use Rattle.tla_core.specs.States.{Values}
-use Rattle.tla_core.specs.declared.fault.Fault.{Fault}
-use Rattle.tla_terms.specs.declared.ids.DefId.{DefId}
-use Rattle.tla_terms.specs.declared.operator.Operator.{Operator}
-use Rattle.tla_terms.specs.declared.spec.Spec.{Spec}
-use Rattle.tla_terms.specs.Terms.{Term}
-use Rattle.tla_eval.specs.Evaluates.{max_evaluations}
-use Rattle.term_parts.specs.Slots.{UsesSmaller}
-use Rattle.tla_actions.specs.declared.which.Which.{Which}
-use Rattle.tla_actions.specs.declared.which.Which.TheVariants as which
-use Rattle.tla_actions.specs.Reads.{VariableSet}
-use Rattle.path_updates.specs.declared.line.Event.{Event}
-use Rattle.line_steps.specs.Says.{Act, ActFails, ActFixes, ActHolds, BothFail, BothHold, InitFails, InitHolds, IsState, NextFails, NextHolds, at_states, setting}
-use Rattle.line_steps.specs.Asks.{HasNoEvent, act_of}
-use Rattle.line_steps.specs.Steps.{FaultFirst, FaultSilent, IsInitial, Silent, silent_act}
-use Rattle.action_truth.specs.Truths.{everything}
-use Rattle.spec_pairs.specs.Filling.{BothFailThere}
-use Rattle.alike_terms.specs.Alike.{Alike, AlikeRows}
-use Rattle.alike_terms.specs.Laws.{AreOne}
-use Rattle.alike_terms.proofs.Inverted.{row_is}
-use Rattle.one_outcome.specs.Outcome.{AreAlike, AlikeSilent, none_silent, both_silent}
-use Rattle.alike_actions.specs.AlikeSettings.{AreAlikeSettings}
-use Rattle.alike_actions.specs.Laws.{FailsAlike, FixesAlike, HoldsAlike}
+use Rattle.values_core.specs.Data.{Val}
+use Rattle.states_core.specs.States.{Values}
+use Rattle.states_core.specs.declared.fault.Fault.{Fault}
+use Rattle.names_terms.specs.declared.ids.DefId.{DefId}
+use Rattle.names_terms.specs.declared.operator.Operator.{Operator}
+use Rattle.names_terms.specs.declared.spec.Spec.{Spec}
+use Rattle.names_terms.specs.Terms.{Term}
+use Rattle.eval_meanings.specs.Evaluates.{max_evaluations}
+use Rattle.names_term_parts.specs.Slots.{UsesSmaller}
+use Rattle.actions_meanings.specs.declared.which.Which.{Which}
+use Rattle.actions_meanings.specs.declared.which.Which.TheVariants as which
+use Rattle.actions_meanings.specs.Reads.{VariableSet}
+use Rattle.logs_updates.specs.declared.line.Event.{Event}
+use Rattle.steps_lines_defs.specs.Says.{Act, ActFails, ActFixes, ActHolds, BothFail, BothHold, InitFails, InitHolds, IsState, NextFails, NextHolds, at_states, setting}
+use Rattle.steps_lines_defs.specs.Asks.{HasNoEvent, act_of}
+use Rattle.steps_lines_defs.specs.Steps.{FaultFirst, FaultSilent, IsInitial, Silent, silent_act}
+use Rattle.judge_truth.specs.Truths.{everything}
+use Rattle.judge_pairs.specs.Filling.{BothFailThere}
+use Rattle.twice_terms.specs.Alike.{Alike, AlikeRows}
+use Rattle.twice_terms.specs.Laws.{AreOne}
+use Rattle.twice_terms.proofs.Inverted.{row_is}
+use Rattle.twice_tables.specs.Outcome.{AreAlike, AlikeSilent, none_silent, both_silent}
+use Rattle.twice_outcomes.specs.AlikeSettings.{AreAlikeSettings}
+use Rattle.twice_outcomes.specs.Actions.{FailsAlike, FixesAlike, HoldsAlike}
 use Rattle.twice_logs.specs.AlikeLogs.{AlikeEvents, no_event, both_events}
 
 -- the operators are alike and have the same arguments, or there is none on either side

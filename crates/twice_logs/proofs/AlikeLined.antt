@@ -2,14 +2,14 @@
 use Rattle.std.proofs.Common.{◌≡◌, suc, List, [], ◌∷◌, length, map, ap, refl, sym, subst, ◌∙◌, arith}
 use Rattle.std.specs.Prelude.{◌||◌, Bool, if◌then◌else◌}
 use Rattle.std.specs.List.{AllZip}
-use Rattle.tla_terms.specs.declared.operator.Operator.{Operator}
-use Rattle.path_updates.specs.declared.line.Line.{Line}
-use Rattle.log_cuts.specs.Orders.{by_clock, by_vectors}
-use Rattle.tied_logs.specs.declared.logs.Lined.{Lined}
-use Rattle.tied_logs.specs.declared.logs.Lined.TheVariants.{Sequence, Tied}
-use Rattle.tied_logs.specs.declared.logs.Logs.{Logs}
-use Rattle.log_lines.specs.declared.file.FileLines.{FileLines}
-use Rattle.log_files.specs.Lined.{AreLogsOf, IsLinedOf, are_open, order_of}
+use Rattle.names_terms.specs.declared.operator.Operator.{Operator}
+use Rattle.logs_updates.specs.declared.line.Line.{Line}
+use Rattle.base_cuts.specs.Orders.{by_clock, by_vectors}
+use Rattle.logs_tied.specs.declared.logs.Lined.{Lined}
+use Rattle.logs_tied.specs.declared.logs.Lined.TheVariants.{Sequence, Tied}
+use Rattle.logs_tied.specs.declared.logs.Logs.{Logs}
+use Rattle.logs_lines.specs.declared.file.FileLines.{FileLines}
+use Rattle.logs_files.specs.Lined.{AreLogsOf, IsLinedOf, are_open, order_of}
 use Rattle.twice_logs.specs.AlikeLogs.{AreAlikeLines}
 use Rattle.twice_logs.specs.Steps.{AnswersAlike, VerdictsAlike}
 use Rattle.twice_logs.specs.AlikeFiles.{AreAlikeFiles}

@@ -4,26 +4,26 @@ use Rattle.std.specs.Prelude.{MatchBool, is_some, unwrap_or}
 use Rattle.std.specs.List.{list_all}
 use Rattle.serde_json.specs.Data.{Members}
 use Rattle.serde_json.specs.Find.{as_object}
-use Rattle.tla_values.specs.Data.{Val}
-use Rattle.tla_terms.specs.declared.operator.Operator.{Operator}
-use Rattle.json_values.specs.Reads.{ReadsEach}
-use Rattle.line_shapes.specs.Parts.{PathShape, SeeShape, UpdateShape}
-use Rattle.line_shapes.specs.Shapes.{LineShape, shape_of}
-use Rattle.line_shapes.specs.declared.key.Key.{Key}
-use Rattle.line_shapes.specs.declared.key.Key.TheVariants as key
-use Rattle.path_updates.specs.Paths.{KeyPath}
-use Rattle.path_updates.specs.declared.update.See.{See}
-use Rattle.path_updates.specs.declared.update.Update.{Update}
-use Rattle.path_updates.specs.declared.clock.Clock.{Clock}
-use Rattle.log_lines.specs.Clocks.{IsMissing, IsOtherForm, clock_or}
-use Rattle.log_lines.specs.Setting.{Setting}
-use Rattle.log_lines.specs.Values.{EachOf, PathReads, SeeReads, UpdateReads}
-use Rattle.log_lines.specs.Lines.{ArgsSay, ClocksSay, EventIs, FormSays, HasNoForm, HasUnknown, InitSays, IsBlank, IsJson, LineSays, NamesSay, ObjectSays, OnBack, OnValue, SeesSay, ShapeSays, StepSays, TestsSay, TextSays, Unless, UpdatesSay, event_with, params_of, step_line}
-use Rattle.log_lines.specs.declared.position.Position.{Position}
-use Rattle.log_lines.specs.declared.kind.LogKind.{LogKind}
-use Rattle.log_lines.specs.declared.kind.LogKind.TheVariants as kind
-use Rattle.log_lines.specs.declared.kind.Outcome.{Outcome}
-use Rattle.log_lines.specs.declared.kind.Outcome.TheVariants.{Blank, Init, Refused}
+use Rattle.values_core.specs.Data.{Val}
+use Rattle.names_terms.specs.declared.operator.Operator.{Operator}
+use Rattle.values_json.specs.Reads.{ReadsEach}
+use Rattle.logs_shapes.specs.Parts.{PathShape, SeeShape, UpdateShape}
+use Rattle.logs_shapes.specs.Shapes.{LineShape, shape_of}
+use Rattle.logs_shapes.specs.declared.key.Key.{Key}
+use Rattle.logs_shapes.specs.declared.key.Key.TheVariants as key
+use Rattle.logs_updates.specs.Paths.{KeyPath}
+use Rattle.logs_updates.specs.declared.update.See.{See}
+use Rattle.logs_updates.specs.declared.update.Update.{Update}
+use Rattle.logs_updates.specs.declared.clock.Clock.{Clock}
+use Rattle.logs_lines.specs.Clocks.{IsMissing, IsOtherForm, clock_or}
+use Rattle.logs_lines.specs.Setting.{Setting}
+use Rattle.logs_lines.specs.Values.{EachOf, PathReads, SeeReads, UpdateReads}
+use Rattle.logs_lines.specs.Lines.{ArgsSay, ClocksSay, EventIs, FormSays, HasNoForm, HasUnknown, InitSays, IsBlank, IsJson, LineSays, NamesSay, ObjectSays, OnBack, OnValue, SeesSay, ShapeSays, StepSays, TestsSay, TextSays, Unless, UpdatesSay, event_with, params_of, step_line}
+use Rattle.logs_lines.specs.declared.position.Position.{Position}
+use Rattle.logs_lines.specs.declared.kind.LogKind.{LogKind}
+use Rattle.logs_lines.specs.declared.kind.LogKind.TheVariants as kind
+use Rattle.logs_lines.specs.declared.kind.Outcome.{Outcome}
+use Rattle.logs_lines.specs.declared.kind.Outcome.TheVariants.{Blank, Init, Refused}
 use Rattle.twice_logs.specs.AlikeLogs.{AlikeEvents, both_events, no_event}
 use Rattle.twice_logs.specs.AlikeFiles.{AlikeOutcomes, both_blank, both_init, both_refused, both_step}
 use Rattle.twice_logs.specs.AlikeNames.{AlikeTold, TellAlike, both_told, none_told}

@@ -2,15 +2,15 @@
 use Rattle.std.proofs.Common.{◌≡◌, ℕ, zero, suc, List, [], ◌∷◌, ◌++◌, map, Some, None, refl, sym, ◌∙◌, subst}
 use Rattle.std.specs.Prelude.{◌||◌, slice_get}
 use Rattle.std.specs.List.{AllZip, list_any}
-use Rattle.tla_terms.specs.declared.operator.Operator.{Operator}
-use Rattle.path_updates.specs.Clocks.{is_vector, number_in, vector_in}
-use Rattle.path_updates.specs.declared.clock.Clock.{Clock}
-use Rattle.path_updates.specs.declared.line.Line.{Line}
-use Rattle.path_updates.specs.declared.line.Log.{Log}
-use Rattle.clock_merge.specs.Orders.{Clocks, IsMerged, IsOnlyOrder}
-use Rattle.clock_merge.specs.declared.order.LineRef.{LineRef}
-use Rattle.log_lines.specs.declared.file.FileLines.{FileLines}
-use Rattle.log_files.specs.Logs.{IsLogOf, StandsAt, are_vectors, numbers_in, first_sees, sees_of, vectors_in}
+use Rattle.names_terms.specs.declared.operator.Operator.{Operator}
+use Rattle.logs_updates.specs.Clocks.{is_vector, number_in, vector_in}
+use Rattle.logs_updates.specs.declared.clock.Clock.{Clock}
+use Rattle.logs_updates.specs.declared.line.Line.{Line}
+use Rattle.logs_updates.specs.declared.line.Log.{Log}
+use Rattle.base_clock_order.specs.Orders.{Clocks, IsMerged, IsOnlyOrder}
+use Rattle.base_clock_order.specs.declared.order.LineRef.{LineRef}
+use Rattle.logs_lines.specs.declared.file.FileLines.{FileLines}
+use Rattle.logs_files.specs.Logs.{IsLogOf, StandsAt, are_vectors, numbers_in, first_sees, sees_of, vectors_in}
 use Rattle.twice_logs.specs.AlikeLogs.{AreAlikeLines, AreAlikeLogs}
 use Rattle.twice_logs.specs.AlikeFiles.{AreAlikeFiles}
 

@@ -1,16 +1,16 @@
 -- What a file says over one setting, it says over one that is alike, but for the numbers of definitions.
 use Rattle.std.proofs.Common.{◌≡◌, ℕ, List, [], ◌∷◌, ◌++◌, Result, Ok, Err, refl, sym, subst}
 use Rattle.std.specs.List.{AllZip}
-use Rattle.tla_terms.specs.declared.operator.Operator.{Operator}
-use Rattle.log_lines.specs.Setting.{Setting}
-use Rattle.log_lines.specs.Files.{FileSays, GoesOn, LinesSay, behind_step, nothing_found, pieces_of}
-use Rattle.log_lines.specs.declared.clocks.ClockForm.{ClockForm}
-use Rattle.path_updates.specs.declared.clock.Clock.{Clock}
-use Rattle.log_lines.specs.declared.position.Position.{Position}
-use Rattle.log_lines.specs.declared.kind.Outcome.{Outcome}
-use Rattle.log_lines.specs.declared.file.FileLines.{FileLines}
-use Rattle.log_lines.specs.declared.file.Refusal.{Refusal}
-use Rattle.log_lines.proofs.OneOutcome.{one_file}
+use Rattle.names_terms.specs.declared.operator.Operator.{Operator}
+use Rattle.logs_lines.specs.Setting.{Setting}
+use Rattle.logs_lines.specs.Files.{FileSays, GoesOn, LinesSay, behind_step, nothing_found, pieces_of}
+use Rattle.logs_lines.specs.declared.clocks.ClockForm.{ClockForm}
+use Rattle.logs_updates.specs.declared.clock.Clock.{Clock}
+use Rattle.logs_lines.specs.declared.position.Position.{Position}
+use Rattle.logs_lines.specs.declared.kind.Outcome.{Outcome}
+use Rattle.logs_lines.specs.declared.file.FileLines.{FileLines}
+use Rattle.logs_lines.specs.declared.file.Refusal.{Refusal}
+use Rattle.logs_lines.proofs.OneOutcome.{one_file}
 use Rattle.twice_logs.specs.AlikeLogs.{AreAlikeLines}
 use Rattle.twice_logs.specs.AlikeFiles.{AlikeOutcomes, AreAlikeFiles, AreAlikeResults, both_blank, both_init, both_refused, both_step}
 use Rattle.twice_logs.specs.AlikeNames.{TellAlike}

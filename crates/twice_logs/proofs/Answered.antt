@@ -1,19 +1,19 @@
 -- Runs, layers and answers over systems that say the same.
 use Rattle.std.proofs.Common.{◌≡◌, ap, ap₂, inl, inr, subst, sym, ◌∙◌, List, [], ◌∷◌, ◌++◌}
 use Rattle.std.specs.Prelude.{◌⊎◌, ℕ, suc, ◌<◌}
-use Rattle.trace_base.specs.declared.place.LineAt.{LineAt}
-use Rattle.trace_base.specs.declared.place.Place.{Place}
-use Rattle.tla_core.specs.States.{Values, shown}
-use Rattle.tla_core.specs.System.{System, Begins}
-use Rattle.tla_core.specs.Sets.{AreOf, HasAtMost, HasMoreThan, HasSome}
-use Rattle.tla_core.specs.Runs.{Run, start, wait, go, IsBehaviour, Layer, Faults, Faulty, FaultyInit, Entry, Upto}
-use Rattle.tla_core.specs.declared.fault.Fault.{Fault}
-use Rattle.tla_core.specs.declared.state.Mark.TheVariants.{Init, Silent, Line}
-use Rattle.tla_core.specs.declared.state.Shown.{Shown}
-use Rattle.state_layers.specs.Answers.{AllAssumed, Clear, IsAnswer, IsAssumeFalse, IsAssumeFault, IsExplained, HasLayer, IsNoInitial, IsNotExplained, IsStateFault, IsTotalLimit, fault}
-use Rattle.state_layers.specs.Says.{IsUnassumed}
-use Rattle.state_layers.specs.declared.answer.Answer.{Answer}
-use Rattle.state_layers.specs.declared.answer.Answer.TheVariants.{Explained, NotExplained, NoInitial, InitFault, Fault as StateFault, AssumeFault, AssumeFalse, LayerLimit, TotalLimit}
+use Rattle.base_core.specs.declared.place.LineAt.{LineAt}
+use Rattle.base_core.specs.declared.place.Place.{Place}
+use Rattle.states_core.specs.States.{Values, shown}
+use Rattle.states_core.specs.System.{System, Begins}
+use Rattle.states_core.specs.Sets.{AreOf, HasAtMost, HasMoreThan, HasSome}
+use Rattle.states_core.specs.Runs.{Run, start, wait, go, IsBehaviour, Layer, Faults, Faulty, FaultyInit, Entry, Upto}
+use Rattle.states_core.specs.declared.fault.Fault.{Fault}
+use Rattle.states_core.specs.declared.state.Mark.TheVariants.{Init, Silent, Line}
+use Rattle.states_core.specs.declared.state.Shown.{Shown}
+use Rattle.states_layers.specs.Answers.{AllAssumed, Clear, IsAnswer, IsAssumeFalse, IsAssumeFault, IsExplained, HasLayer, IsNoInitial, IsNotExplained, IsStateFault, IsTotalLimit, fault}
+use Rattle.states_layers.specs.Says.{IsUnassumed}
+use Rattle.states_layers.specs.declared.answer.Answer.{Answer}
+use Rattle.states_layers.specs.declared.answer.Answer.TheVariants.{Explained, NotExplained, NoInitial, InitFault, Fault as StateFault, AssumeFault, AssumeFalse, LayerLimit, TotalLimit}
 use Rattle.twice_logs.specs.Same.{SaySame}
 use Rattle.twice_logs.specs.Steps.{AnswerSame}
 use Rattle.twice_logs.proofs.Turns.{turned}

@@ -1,27 +1,27 @@
 -- What is asked over the one specification beside its log is asked over the other.
 use Rattle.std.proofs.Common.{◌≡◌, ◌∙◌, refl, inl, inr, subst, List, [], length}
 use Rattle.std.specs.Prelude.{ℕ, Bool, true, false, Result, Ok, Err}
-use Rattle.trace_base.specs.declared.place.Place.{Place}
-use Rattle.tla_core.specs.States.{Values}
-use Rattle.tla_core.specs.declared.fault.Fault.{Fault}
-use Rattle.tla_terms.specs.declared.spec.Spec.{Spec}
-use Rattle.tla_terms.specs.Lists.{terms_list}
-use Rattle.tla_eval.specs.Evaluates.{max_evaluations}
-use Rattle.tla_actions.specs.Reads.{in_none}
-use Rattle.path_updates.specs.declared.line.Line.{Line}
-use Rattle.path_updates.specs.declared.line.Log.{Log}
-use Rattle.path_updates.specs.declared.update.See.{See}
-use Rattle.path_updates.specs.declared.update.Update.{Update}
-use Rattle.line_steps.specs.Says.{BothFail, BothHold, IsState, at_states}
-use Rattle.line_steps.specs.Asks.{AreSeen, HasNoEvent, Moves, act_of, asks, updated}
-use Rattle.line_steps.specs.Steps.{FaultStep, Rests, Step}
-use Rattle.line_steps.specs.Logs.{Asked, Assumption, OfLine, system}
-use Rattle.action_truth.specs.Truths.{everything}
-use Rattle.spec_pairs.specs.Filling.{BothFailThere, pair_asks}
-use Rattle.alike_terms.specs.Alike.{Alike}
-use Rattle.alike_terms.specs.Laws.{AreOne}
-use Rattle.alike_outcomes.proofs.AlikeLists.{terms_zip}
-use Rattle.alike_outcomes.specs.Laws.{EvaluatesAlike}
+use Rattle.base_core.specs.declared.place.Place.{Place}
+use Rattle.states_core.specs.States.{Values}
+use Rattle.states_core.specs.declared.fault.Fault.{Fault}
+use Rattle.names_terms.specs.declared.spec.Spec.{Spec}
+use Rattle.names_terms.specs.Lists.{terms_list}
+use Rattle.eval_meanings.specs.Evaluates.{max_evaluations}
+use Rattle.actions_meanings.specs.Reads.{in_none}
+use Rattle.logs_updates.specs.declared.line.Line.{Line}
+use Rattle.logs_updates.specs.declared.line.Log.{Log}
+use Rattle.logs_updates.specs.declared.update.See.{See}
+use Rattle.logs_updates.specs.declared.update.Update.{Update}
+use Rattle.steps_lines_defs.specs.Says.{BothFail, BothHold, IsState, at_states}
+use Rattle.steps_lines_defs.specs.Asks.{AreSeen, HasNoEvent, Moves, act_of, asks, updated}
+use Rattle.steps_lines_defs.specs.Steps.{FaultStep, Rests, Step}
+use Rattle.steps_lines_defs.specs.Logs.{Asked, Assumption, OfLine, system}
+use Rattle.judge_truth.specs.Truths.{everything}
+use Rattle.judge_pairs.specs.Filling.{BothFailThere, pair_asks}
+use Rattle.twice_terms.specs.Alike.{Alike}
+use Rattle.twice_terms.specs.Laws.{AreOne}
+use Rattle.twice_outcomes.proofs.AlikeLists.{terms_zip}
+use Rattle.twice_outcomes.specs.Outcomes.{EvaluatesAlike}
 use Rattle.twice_logs.specs.AlikeLogs.{AreAlikeLines}
 use Rattle.twice_logs.specs.Steps.{AreBeside}
 use Rattle.twice_logs.proofs.Carried.{Carries}

@@ -1,10 +1,10 @@
 -- What is asked on the one side is asked on the other; both ways, the two ask the same.
 use Rattle.std.specs.Prelude.{◌≡◌, ℕ}
-use Rattle.trace_base.specs.declared.place.LineAt.{LineAt}
-use Rattle.trace_base.specs.declared.place.Place.{Place}
-use Rattle.tla_core.specs.States.{Values}
-use Rattle.tla_core.specs.declared.fault.Fault.{Fault}
-use Rattle.state_verdicts.specs.Asks.{PairAsks}
+use Rattle.base_core.specs.declared.place.LineAt.{LineAt}
+use Rattle.base_core.specs.declared.place.Place.{Place}
+use Rattle.states_core.specs.States.{Values}
+use Rattle.states_core.specs.declared.fault.Fault.{Fault}
+use Rattle.states_verdicts.specs.Asks.{PairAsks}
 use Rattle.twice_logs.specs.Same.{AskSame, SaySame}
 
 pub record Carries (a b : PairAsks) : Type 0 where

@@ -1,19 +1,19 @@
 -- Verdicts on given states, where the same is asked of them.
 use Rattle.std.proofs.Common.{inl, inr, subst, sym, ◌∙◌, List, length}
 use Rattle.std.specs.Prelude.{◌≢◌, ◌⊎◌, ℕ, suc, ◌<◌, ◌≤◌, Option, None, Some, slice_get}
-use Rattle.trace_base.specs.declared.place.LineAt.{LineAt}
-use Rattle.tla_core.specs.States.{Values}
-use Rattle.tla_core.specs.declared.fault.Fault.{Fault}
-use Rattle.tla_core.specs.declared.state.Mark.{Mark}
-use Rattle.tla_core.specs.declared.state.Mark.TheVariants.{Init, Silent, Line}
-use Rattle.tla_core.specs.declared.state.Shown.{Shown}
-use Rattle.state_verdicts.specs.Asks.{PairAsks, IsRest}
-use Rattle.state_verdicts.specs.Cleans.{Reached, IsQuiet, FitsAt, FaultsAt, Faults, IsClean, AreClean, reached_at}
-use Rattle.state_verdicts.specs.Verdicts.{IsWrongFirst, IsWrongSilent, IsWrongLine, IsWrongAt, IsWrongEnd, IsWrong, IsReason, IsFault, IsVerdict}
-use Rattle.state_verdicts.specs.declared.verdict.Reason.{Reason}
-use Rattle.state_verdicts.specs.declared.verdict.Reason.TheVariants.{NoState, WrongMark, NotInit, TooManySilent, WrongLine, NotSilent, NotStep, NotSeen, LinesLeft}
-use Rattle.state_verdicts.specs.declared.verdict.Verdict.{Verdict}
-use Rattle.state_verdicts.specs.declared.verdict.Verdict.TheVariants.{Valid, Invalid, Fault as Faulted}
+use Rattle.base_core.specs.declared.place.LineAt.{LineAt}
+use Rattle.states_core.specs.States.{Values}
+use Rattle.states_core.specs.declared.fault.Fault.{Fault}
+use Rattle.states_core.specs.declared.state.Mark.{Mark}
+use Rattle.states_core.specs.declared.state.Mark.TheVariants.{Init, Silent, Line}
+use Rattle.states_core.specs.declared.state.Shown.{Shown}
+use Rattle.states_verdicts.specs.Asks.{PairAsks, IsRest}
+use Rattle.states_verdicts.specs.Cleans.{Reached, IsQuiet, FitsAt, FaultsAt, Faults, IsClean, AreClean, reached_at}
+use Rattle.states_verdicts.specs.Verdicts.{IsWrongFirst, IsWrongSilent, IsWrongLine, IsWrongAt, IsWrongEnd, IsWrong, IsReason, IsFault, IsVerdict}
+use Rattle.states_verdicts.specs.declared.verdict.Reason.{Reason}
+use Rattle.states_verdicts.specs.declared.verdict.Reason.TheVariants.{NoState, WrongMark, NotInit, TooManySilent, WrongLine, NotSilent, NotStep, NotSeen, LinesLeft}
+use Rattle.states_verdicts.specs.declared.verdict.Verdict.{Verdict}
+use Rattle.states_verdicts.specs.declared.verdict.Verdict.TheVariants.{Valid, Invalid, Fault as Faulted}
 use Rattle.twice_logs.specs.Same.{AskSame}
 use Rattle.twice_logs.proofs.Turns.{asked_back}
 use Rattle.twice_logs.proofs.Answered.{behaves_same}

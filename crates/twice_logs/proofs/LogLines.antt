@@ -2,24 +2,24 @@
 use Rattle.std.proofs.Common.{◌≡◌, ap, inl, inr, refl, subst, ◌∙◌, List, [], ◌∷◌, length}
 use Rattle.std.specs.Prelude.{ℕ, zero, suc, Bool, Some, Result, Ok, Err, slice_get}
 use Rattle.std.specs.List.{AllZip}
-use Rattle.trace_base.specs.declared.place.Place.{Place}
-use Rattle.tla_core.specs.declared.fault.Fault.{Fault}
-use Rattle.tla_terms.specs.declared.operator.Operator.{Operator}
-use Rattle.tla_terms.specs.Lists.{terms_list}
-use Rattle.tla_terms.specs.Terms.{Term, Terms, place_of}
-use Rattle.tla_eval.specs.Contexts.{Context}
-use Rattle.tla_eval.specs.Evaluates.{Evaluates}
-use Rattle.tla_eval.specs.Outcomes.{truth_at}
-use Rattle.tla_eval.specs.Unchanged.{TruthOf}
-use Rattle.term_parts.specs.Slots.{UsesSmaller}
-use Rattle.path_updates.specs.declared.line.Line.{Line}
-use Rattle.line_steps.specs.Logs.{OfLine, place_of_line}
-use Rattle.alike_terms.specs.Alike.{Alike, AlikeTerms}
-use Rattle.alike_terms.specs.Laws.{AreOne}
-use Rattle.alike_terms.proofs.Inverted.{same_place}
-use Rattle.alike_terms.proofs.Zips.{zip_at}
-use Rattle.alike_outcomes.proofs.AlikeLists.{terms_zip}
-use Rattle.alike_outcomes.specs.Laws.{EvaluatesAlike}
+use Rattle.base_core.specs.declared.place.Place.{Place}
+use Rattle.states_core.specs.declared.fault.Fault.{Fault}
+use Rattle.names_terms.specs.declared.operator.Operator.{Operator}
+use Rattle.names_terms.specs.Lists.{terms_list}
+use Rattle.names_terms.specs.Terms.{Term, Terms, place_of}
+use Rattle.eval_meanings.specs.Contexts.{Context}
+use Rattle.eval_meanings.specs.Evaluates.{Evaluates}
+use Rattle.eval_meanings.specs.Outcomes.{truth_at}
+use Rattle.eval_meanings.specs.Unchanged.{TruthOf}
+use Rattle.names_term_parts.specs.Slots.{UsesSmaller}
+use Rattle.logs_updates.specs.declared.line.Line.{Line}
+use Rattle.steps_lines_defs.specs.Logs.{OfLine, place_of_line}
+use Rattle.twice_terms.specs.Alike.{Alike, AlikeTerms}
+use Rattle.twice_terms.specs.Laws.{AreOne}
+use Rattle.twice_terms.proofs.Inverted.{same_place}
+use Rattle.twice_terms.proofs.Zips.{zip_at}
+use Rattle.twice_outcomes.proofs.AlikeLists.{terms_zip}
+use Rattle.twice_outcomes.specs.Outcomes.{EvaluatesAlike}
 use Rattle.twice_logs.specs.AlikeLogs.{AreAlikeLines}
 
 pub zip_long : {A B : Type 0} (R : A → B → Type 0) (xs : List A) (ys : List B) → AllZip R xs ys → length xs ≡ length ys

@@ -1,16 +1,16 @@
 -- Lines that stand at one place in logs whose lines are related one by one.
 use Rattle.std.proofs.Common.{◌≡◌, inl, inr, ℕ, zero, suc, List, [], ◌∷◌, Option, Some, None, ap, sym, ◌∙◌, subst, refl}
 use Rattle.std.specs.List.{AllZip, slice_get}
-use Rattle.trace_base.specs.declared.place.LineAt.{LineAt}
-use Rattle.clock_merge.specs.declared.order.LineRef.{LineRef}
-use Rattle.path_updates.specs.declared.line.Line.{Line}
-use Rattle.line_steps.specs.Logs.{place_of_line}
-use Rattle.log_cuts.specs.Cuts.{Cut}
-use Rattle.log_cuts.specs.Orders.{IsReadyAt, Order}
-use Rattle.tied_logs.specs.Lines.{StandsIn}
-use Rattle.tied_logs.specs.Named.{IsChosen, IsNamed}
-use Rattle.tied_logs.proofs.Zips.{zip_at}
-use Rattle.tied_steps.specs.Tied.{IsFirstReady, TakesLine, line_at, line_in}
+use Rattle.base_core.specs.declared.place.LineAt.{LineAt}
+use Rattle.base_clock_order.specs.declared.order.LineRef.{LineRef}
+use Rattle.logs_updates.specs.declared.line.Line.{Line}
+use Rattle.steps_lines_defs.specs.Logs.{place_of_line}
+use Rattle.base_cuts.specs.Cuts.{Cut}
+use Rattle.base_cuts.specs.Orders.{IsReadyAt, Order}
+use Rattle.logs_tied.specs.Lines.{StandsIn}
+use Rattle.logs_tied.specs.Named.{IsChosen, IsNamed}
+use Rattle.logs_tied.proofs.Zips.{zip_at}
+use Rattle.steps_tied.specs.Tied.{IsFirstReady, TakesLine, line_at, line_in}
 
 pub zip_turned : {A B : Type 0} (R : A → B → Type 0) (Q : B → A → Type 0) → ((x : A) (y : B) → R x y → Q y x) → (xs : List A) (ys : List B) → AllZip R xs ys → AllZip Q ys xs
 zip_turned R Q turn [] [] z = tt

@@ -1,19 +1,19 @@
 -- Beside several logs that are alike the two specifications say the same over cuts, and given states have the same verdicts.
 use Rattle.std.proofs.Common.{◌≡◌, ℕ, List, take, Option, Some, ap, sym, ◌∙◌, subst, refl}
 use Rattle.std.specs.List.{AllZip, slice_get}
-use Rattle.trace_base.specs.declared.place.LineAt.{LineAt}
-use Rattle.tla_core.specs.declared.state.Shown.{Shown}
-use Rattle.tla_terms.specs.declared.spec.Spec.{Spec}
-use Rattle.clock_merge.specs.declared.order.LineRef.{LineRef}
-use Rattle.path_updates.specs.declared.line.Line.{Line}
-use Rattle.line_steps.specs.Logs.{Asked}
-use Rattle.log_cuts.specs.Cuts.{after, next, total}
-use Rattle.log_cuts.specs.Orders.{IsAllowed, Order, sizes, start}
-use Rattle.state_verdicts.specs.declared.verdict.Verdict.{Verdict}
-use Rattle.tied_logs.specs.Named.{IsNamed, KeepsTo, names}
-use Rattle.tied_logs.specs.declared.logs.Logs.{Logs}
-use Rattle.tied_steps.specs.Languages.{language}
-use Rattle.tied_steps.specs.Tied.{moved, tied_system}
+use Rattle.base_core.specs.declared.place.LineAt.{LineAt}
+use Rattle.states_core.specs.declared.state.Shown.{Shown}
+use Rattle.names_terms.specs.declared.spec.Spec.{Spec}
+use Rattle.base_clock_order.specs.declared.order.LineRef.{LineRef}
+use Rattle.logs_updates.specs.declared.line.Line.{Line}
+use Rattle.steps_lines_defs.specs.Logs.{Asked}
+use Rattle.base_cuts.specs.Cuts.{after, next, total}
+use Rattle.base_cuts.specs.Orders.{IsAllowed, Order, sizes, start}
+use Rattle.states_verdicts.specs.declared.verdict.Verdict.{Verdict}
+use Rattle.logs_tied.specs.Named.{IsNamed, KeepsTo, names}
+use Rattle.logs_tied.specs.declared.logs.Logs.{Logs}
+use Rattle.steps_tied.specs.Languages.{language}
+use Rattle.steps_tied.specs.Tied.{moved, tied_system}
 use Rattle.judge_verdicts.specs.Tied.{IsTiedVerdict}
 use Rattle.twice_logs.specs.AlikeLogs.{AreAlikeLines}
 use Rattle.twice_logs.specs.Steps.{AskAlike, VerdictsAlike}

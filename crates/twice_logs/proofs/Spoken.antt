@@ -1,16 +1,16 @@
 -- What the two specifications say of lines that are alike, told of logs of one line.
 use Rattle.std.proofs.Common.{◌≡◌, ◌↔◌, ℕ, List, [], ◌∷◌, Some, sym, subst, refl}
 use Rattle.std.specs.List.{slice_get}
-use Rattle.tla_core.specs.States.{Values}
-use Rattle.tla_core.specs.declared.fault.Fault.{Fault}
-use Rattle.tla_terms.specs.declared.spec.Spec.{Spec}
-use Rattle.path_updates.specs.declared.line.Line.{Line}
-use Rattle.path_updates.specs.declared.line.Log.{Log}
-use Rattle.path_updates.specs.declared.update.See.{See}
-use Rattle.line_steps.specs.Logs.{Asked, OfLine, system}
-use Rattle.log_cuts.proofs.Rules.{some_is}
-use Rattle.tied_logs.specs.declared.logs.Logs.{Logs}
-use Rattle.tied_steps.specs.Languages.{language}
+use Rattle.states_core.specs.States.{Values}
+use Rattle.states_core.specs.declared.fault.Fault.{Fault}
+use Rattle.names_terms.specs.declared.spec.Spec.{Spec}
+use Rattle.logs_updates.specs.declared.line.Line.{Line}
+use Rattle.logs_updates.specs.declared.line.Log.{Log}
+use Rattle.logs_updates.specs.declared.update.See.{See}
+use Rattle.steps_lines_defs.specs.Logs.{Asked, OfLine, system}
+use Rattle.base_cuts.proofs.Rules.{some_is}
+use Rattle.logs_tied.specs.declared.logs.Logs.{Logs}
+use Rattle.steps_tied.specs.Languages.{language}
 use Rattle.twice_logs.specs.AlikeLogs.{AreAlikeLines}
 use Rattle.twice_logs.specs.Steps.{AskAlike}
 use Rattle.twice_logs.specs.Same.{SaySame}

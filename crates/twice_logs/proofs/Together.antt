@@ -2,20 +2,20 @@
 use Rattle.std.proofs.Common.{sym, List, [], ◌∷◌}
 use Rattle.std.specs.Prelude.{ℕ, Option}
 use Rattle.std.specs.List.{AllZip}
-use Rattle.tla_terms.specs.declared.ids.DefId.{DefId}
-use Rattle.tla_terms.specs.declared.operator.Operator.{Operator}
-use Rattle.tla_terms.specs.declared.spec.Spec.{Spec}
-use Rattle.path_updates.specs.declared.line.Event.{Event}
-use Rattle.path_updates.specs.declared.line.Line.{Line}
-use Rattle.path_updates.specs.declared.line.Log.{Log}
-use Rattle.line_steps.specs.Logs.{system}
-use Rattle.spec_pairs.specs.Filling.{pair_asks}
-use Rattle.alike_terms.specs.Alike.{AlikeRows}
-use Rattle.alike_terms.specs.Laws.{AreOne}
-use Rattle.one_outcome.specs.Outcome.{AreAlike, AlikeSilent, none_silent, both_silent}
-use Rattle.alike_actions.specs.Laws.{FailsAlike, FixesAlike, HoldsAlike}
-use Rattle.alike_outcomes.specs.Laws.{EvaluatesAlike}
-use Rattle.alike_outcomes.proofs.Turning.{turned_alike, turned_row, turned_terms}
+use Rattle.names_terms.specs.declared.ids.DefId.{DefId}
+use Rattle.names_terms.specs.declared.operator.Operator.{Operator}
+use Rattle.names_terms.specs.declared.spec.Spec.{Spec}
+use Rattle.logs_updates.specs.declared.line.Event.{Event}
+use Rattle.logs_updates.specs.declared.line.Line.{Line}
+use Rattle.logs_updates.specs.declared.line.Log.{Log}
+use Rattle.steps_lines_defs.specs.Logs.{system}
+use Rattle.judge_pairs.specs.Filling.{pair_asks}
+use Rattle.twice_terms.specs.Alike.{AlikeRows}
+use Rattle.twice_terms.specs.Laws.{AreOne}
+use Rattle.twice_tables.specs.Outcome.{AreAlike, AlikeSilent, none_silent, both_silent}
+use Rattle.twice_outcomes.specs.Actions.{FailsAlike, FixesAlike, HoldsAlike}
+use Rattle.twice_outcomes.specs.Outcomes.{EvaluatesAlike}
+use Rattle.twice_outcomes.proofs.Turning.{turned_alike, turned_row, turned_terms}
 use Rattle.twice_logs.specs.AlikeLogs.{AlikeEvents, no_event, both_events, AreAlikeLines}
 use Rattle.twice_logs.specs.Steps.{AnswersAlike, AreBeside, AskAlike, VerdictsAlike}
 use Rattle.twice_logs.proofs.Acts.{ActionsAlike}

@@ -1,25 +1,25 @@
 -- The names of two specifications that are alike tell alike operators and the same variables.
 use Rattle.std.proofs.Common.{◌≡◌, ◌≢◌, ℕ, List, [], length, Option, Some, None, refl, ap, sym, ◌∙◌, subst}
 use Rattle.std.specs.Prelude.{false, slice_get}
-use Rattle.tla_terms.specs.declared.level.Level.TheVariants.{Action}
-use Rattle.tla_terms.specs.declared.operator.Operator.{Operator}
-use Rattle.tla_terms.specs.declared.spec.Spec.{Spec}
-use Rattle.term_parts.specs.Limits.{is_above}
-use Rattle.alike_terms.specs.Alike.{AlikeRows, Alike}
-use Rattle.alike_terms.specs.Laws.{AreOne}
-use Rattle.alike_terms.proofs.Inverted.{row_is}
-use Rattle.spec_laws.specs.IsSpec.{IsSpec}
-use Rattle.one_outcome.specs.Outcome.{AreAlike}
-use Rattle.tla_actions.specs.declared.which.Which.TheVariants as which
-use Rattle.path_updates.specs.declared.update.Update.{Update}
-use Rattle.line_steps.specs.Asks.{updated}
-use Rattle.line_steps.specs.Says.{setting}
-use Rattle.spec_names.specs.Laws.{OperatorsAreTold}
-use Rattle.spec_names.specs.Names.{AreOf, HasFormWith, IsTold, names_of, operator_named, variable_named}
+use Rattle.names_terms.specs.declared.level.Level.TheVariants.{Action}
+use Rattle.names_terms.specs.declared.operator.Operator.{Operator}
+use Rattle.names_terms.specs.declared.spec.Spec.{Spec}
+use Rattle.names_term_parts.specs.Limits.{is_above}
+use Rattle.twice_terms.specs.Alike.{AlikeRows, Alike}
+use Rattle.twice_terms.specs.Laws.{AreOne}
+use Rattle.twice_terms.proofs.Inverted.{row_is}
+use Rattle.names_specification_laws.specs.IsSpec.{IsSpec}
+use Rattle.twice_tables.specs.Outcome.{AreAlike}
+use Rattle.actions_meanings.specs.declared.which.Which.TheVariants as which
+use Rattle.logs_updates.specs.declared.update.Update.{Update}
+use Rattle.steps_lines_defs.specs.Asks.{updated}
+use Rattle.steps_lines_defs.specs.Says.{setting}
+use Rattle.steps_names.specs.Laws.{OperatorsAreTold}
+use Rattle.steps_names.specs.Names.{AreOf, HasFormWith, IsTold, names_of, operator_named, variable_named}
 use Rattle.twice_logs.specs.AlikeNames.{AlikeTold, TellAlike, both_told, none_told}
-use Rattle.alike_actions.specs.AlikeSettings.{AreAlikeSettings}
-use Rattle.alike_actions.specs.Laws.{FixesAlike}
-use Rattle.alike_outcomes.proofs.Turning.{turned_row}
+use Rattle.twice_outcomes.specs.AlikeSettings.{AreAlikeSettings}
+use Rattle.twice_outcomes.specs.Actions.{FixesAlike}
+use Rattle.twice_outcomes.proofs.Turning.{turned_row}
 
 -- what two definitions that are alike have in common
 pub record Beside (ops all : List Operator) (k j : ℕ) (o p : Operator) : Type 0 where

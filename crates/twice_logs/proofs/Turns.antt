@@ -1,8 +1,8 @@
 -- Saying the same goes both ways.
 use Rattle.std.proofs.Common.{sym}
 use Rattle.std.specs.Prelude.{◌↔◌}
-use Rattle.tla_core.specs.System.{System}
-use Rattle.state_verdicts.specs.Asks.{PairAsks}
+use Rattle.states_core.specs.System.{System}
+use Rattle.states_verdicts.specs.Asks.{PairAsks}
 use Rattle.twice_logs.specs.Same.{AskSame, SaySame}
 
 pub back : {A B : Type 0} → A ↔ B → B ↔ A

@@ -1,15 +1,15 @@
 -- What comes of one line, and of one file, read beside two specifications that are alike: all but the numbers of definitions is the same.
 use Rattle.std.specs.Prelude.{◌≡◌, List, Result, Ok, Err}
 use Rattle.std.specs.List.{AllZip}
-use Rattle.tla_terms.specs.declared.operator.Operator.{Operator}
-use Rattle.path_updates.specs.declared.line.Line.{Line}
-use Rattle.path_updates.specs.declared.update.See.{See}
-use Rattle.log_lines.specs.declared.clocks.ClockForm.{ClockForm}
-use Rattle.log_lines.specs.declared.kind.LogKind.{LogKind}
-use Rattle.log_lines.specs.declared.kind.Outcome.{Outcome}
-use Rattle.log_lines.specs.declared.kind.Outcome.TheVariants.{Blank, Init, Step, Refused}
-use Rattle.log_lines.specs.declared.file.FileLines.{FileLines}
-use Rattle.log_lines.specs.declared.file.Refusal.{Refusal}
+use Rattle.names_terms.specs.declared.operator.Operator.{Operator}
+use Rattle.logs_updates.specs.declared.line.Line.{Line}
+use Rattle.logs_updates.specs.declared.update.See.{See}
+use Rattle.logs_lines.specs.declared.clocks.ClockForm.{ClockForm}
+use Rattle.logs_lines.specs.declared.kind.LogKind.{LogKind}
+use Rattle.logs_lines.specs.declared.kind.Outcome.{Outcome}
+use Rattle.logs_lines.specs.declared.kind.Outcome.TheVariants.{Blank, Init, Step, Refused}
+use Rattle.logs_lines.specs.declared.file.FileLines.{FileLines}
+use Rattle.logs_lines.specs.declared.file.Refusal.{Refusal}
 use Rattle.twice_logs.specs.AlikeLogs.{AreAlikeLines}
 
 -- both lines are blank, tell of the same initial state, tell of steps that are alike, or are refused for one reason

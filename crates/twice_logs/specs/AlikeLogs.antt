@@ -1,13 +1,13 @@
 -- What is the same of logs that are read beside two specifications that are alike: all but the numbers of the definitions that their events name.
 use Rattle.std.specs.Prelude.{◌≡◌, ℕ, List, Option, Some, None}
 use Rattle.std.specs.List.{AllZip}
-use Rattle.tla_values.specs.Data.{Val}
-use Rattle.tla_terms.specs.declared.operator.Operator.{Operator}
-use Rattle.path_updates.specs.declared.line.Event.{Event}
-use Rattle.path_updates.specs.declared.line.Line.{Line}
-use Rattle.path_updates.specs.declared.line.Log.{Log}
-use Rattle.alike_terms.specs.Alike.{AlikeRows}
-use Rattle.alike_terms.specs.Laws.{AreOne}
+use Rattle.values_core.specs.Data.{Val}
+use Rattle.names_terms.specs.declared.operator.Operator.{Operator}
+use Rattle.logs_updates.specs.declared.line.Event.{Event}
+use Rattle.logs_updates.specs.declared.line.Line.{Line}
+use Rattle.logs_updates.specs.declared.line.Log.{Log}
+use Rattle.twice_terms.specs.Alike.{AlikeRows}
+use Rattle.twice_terms.specs.Laws.{AreOne}
 
 -- the operators are alike and have the same arguments, or neither line has one
 pub data AlikeEvents (ops all : List Operator) : Option Event → Option Event → Type 0 where

@@ -1,10 +1,10 @@
 -- What two specifications that are alike tell a reader of logs.
 use Rattle.std.specs.Prelude.{◌≡◌, ℕ, List, Option, Some, None}
-use Rattle.tla_terms.specs.declared.operator.Operator.{Operator}
-use Rattle.alike_terms.specs.Alike.{AlikeRows}
-use Rattle.alike_terms.specs.Laws.{AreOne}
-use Rattle.path_updates.specs.declared.update.Update.{Update}
-use Rattle.log_lines.specs.Setting.{Setting}
+use Rattle.names_terms.specs.declared.operator.Operator.{Operator}
+use Rattle.twice_terms.specs.Alike.{AlikeRows}
+use Rattle.twice_terms.specs.Laws.{AreOne}
+use Rattle.logs_updates.specs.declared.update.Update.{Update}
+use Rattle.logs_lines.specs.Setting.{Setting}
 
 -- operators that are alike, with as many parameters, or none
 pub data AlikeTold (ops all : List Operator) : Option (ℕ × ℕ) → Option (ℕ × ℕ) → Type 0 where

@@ -1,15 +1,15 @@
 -- Over two specifications that are alike, beside the lines of logs that are alike, the same is true.
 use Rattle.std.specs.Prelude.{Bool, List}
 use Rattle.std.specs.List.{AllZip}
-use Rattle.tla_core.specs.declared.state.Shown.{Shown}
-use Rattle.tla_terms.specs.declared.operator.Operator.{Operator}
-use Rattle.tla_terms.specs.declared.spec.Spec.{Spec}
-use Rattle.line_steps.specs.Logs.{Asked}
-use Rattle.tied_logs.specs.declared.logs.Lined.{Lined}
-use Rattle.log_lines.specs.declared.file.FileLines.{FileLines}
-use Rattle.log_files.specs.Lined.{IsLinedOf}
-use Rattle.state_layers.specs.declared.answer.Answer.{Answer}
-use Rattle.state_verdicts.specs.declared.verdict.Verdict.{Verdict}
+use Rattle.states_core.specs.declared.state.Shown.{Shown}
+use Rattle.names_terms.specs.declared.operator.Operator.{Operator}
+use Rattle.names_terms.specs.declared.spec.Spec.{Spec}
+use Rattle.steps_lines_defs.specs.Logs.{Asked}
+use Rattle.logs_tied.specs.declared.logs.Lined.{Lined}
+use Rattle.logs_lines.specs.declared.file.FileLines.{FileLines}
+use Rattle.logs_files.specs.Lined.{IsLinedOf}
+use Rattle.states_layers.specs.declared.answer.Answer.{Answer}
+use Rattle.states_verdicts.specs.declared.verdict.Verdict.{Verdict}
 use Rattle.steps_lined.specs.Answers.{AreAssumedOf, IsTrueOf, IsUnassumedOf}
 use Rattle.judge_verdicts.specs.Lined.{IsJudgedOf}
 use Rattle.twice_logs.specs.AlikeFiles.{AreAlikeFiles}

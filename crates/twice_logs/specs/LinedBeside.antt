@@ -1,11 +1,11 @@
 -- The lines of all logs that are read beside two specifications that are alike: all but the numbers of the definitions that their events name is the same.
 use Rattle.std.specs.Prelude.{List}
-use Rattle.tla_terms.specs.declared.operator.Operator.{Operator}
-use Rattle.tla_terms.specs.declared.spec.Spec.{Spec}
-use Rattle.term_parts.specs.Slots.{UsesSmaller}
-use Rattle.one_outcome.specs.Outcome.{AreAlike}
-use Rattle.tied_logs.specs.declared.logs.Lined.{Lined}
-use Rattle.tied_logs.specs.declared.logs.Lined.TheVariants.{Sequence, Tied}
+use Rattle.names_terms.specs.declared.operator.Operator.{Operator}
+use Rattle.names_terms.specs.declared.spec.Spec.{Spec}
+use Rattle.names_term_parts.specs.Slots.{UsesSmaller}
+use Rattle.twice_tables.specs.Outcome.{AreAlike}
+use Rattle.logs_tied.specs.declared.logs.Lined.{Lined}
+use Rattle.logs_tied.specs.declared.logs.Lined.TheVariants.{Sequence, Tied}
 use Rattle.twice_logs.specs.AlikeLogs.{AreAlikeLogs}
 use Rattle.twice_logs.specs.TiesBeside.{AreAlikeTied}
 

@@ -1,17 +1,17 @@
 -- Logs that are read beside two specifications that are alike are alike.
 use Rattle.std.specs.Prelude.{ℕ, List, Result}
 use Rattle.std.specs.List.{AllZip}
-use Rattle.tla_terms.specs.declared.operator.Operator.{Operator}
-use Rattle.tla_terms.specs.declared.spec.Spec.{Spec}
-use Rattle.spec_laws.specs.IsSpec.{IsSpec}
-use Rattle.one_outcome.specs.Outcome.{AreAlike}
-use Rattle.path_updates.specs.declared.line.Log.{Log}
-use Rattle.log_lines.specs.Files.{FileSays}
-use Rattle.log_lines.specs.declared.file.FileLines.{FileLines}
-use Rattle.log_lines.specs.declared.file.Refusal.{Refusal}
-use Rattle.log_lines.specs.declared.position.Position.{Position}
-use Rattle.log_files.specs.Logs.{IsLogOf}
-use Rattle.spec_names.specs.Names.{names_of}
+use Rattle.names_terms.specs.declared.operator.Operator.{Operator}
+use Rattle.names_terms.specs.declared.spec.Spec.{Spec}
+use Rattle.names_specification_laws.specs.IsSpec.{IsSpec}
+use Rattle.twice_tables.specs.Outcome.{AreAlike}
+use Rattle.logs_updates.specs.declared.line.Log.{Log}
+use Rattle.logs_lines.specs.Files.{FileSays}
+use Rattle.logs_lines.specs.declared.file.FileLines.{FileLines}
+use Rattle.logs_lines.specs.declared.file.Refusal.{Refusal}
+use Rattle.logs_lines.specs.declared.position.Position.{Position}
+use Rattle.logs_files.specs.Logs.{IsLogOf}
+use Rattle.steps_names.specs.Names.{names_of}
 use Rattle.twice_logs.specs.AlikeLogs.{AreAlikeLogs}
 use Rattle.twice_logs.specs.AlikeFiles.{AreAlikeFiles, AreAlikeResults}
 use Rattle.twice_logs.specs.AlikeNames.{TellAlike}

@@ -1,11 +1,11 @@
 -- Two systems that say the same, relation by relation, and two that ask the same of given states.
 use Rattle.std.specs.Prelude.{◌≡◌, ◌↔◌, ℕ}
-use Rattle.trace_base.specs.declared.place.LineAt.{LineAt}
-use Rattle.trace_base.specs.declared.place.Place.{Place}
-use Rattle.tla_core.specs.States.{Values}
-use Rattle.tla_core.specs.System.{System}
-use Rattle.tla_core.specs.declared.fault.Fault.{Fault}
-use Rattle.state_verdicts.specs.Asks.{PairAsks}
+use Rattle.base_core.specs.declared.place.LineAt.{LineAt}
+use Rattle.base_core.specs.declared.place.Place.{Place}
+use Rattle.states_core.specs.States.{Values}
+use Rattle.states_core.specs.System.{System}
+use Rattle.states_core.specs.declared.fault.Fault.{Fault}
+use Rattle.states_verdicts.specs.Asks.{PairAsks}
 
 pub record SaySame {A : Type 0} (y z : System A) : Type 0 where
   pub init : (s : A) → y.Init s ↔ z.Init s

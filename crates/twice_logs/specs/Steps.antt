@@ -1,18 +1,18 @@
 -- Over two specifications that are alike, beside logs that are alike, the same is true.
 use Rattle.std.specs.Prelude.{List}
-use Rattle.tla_core.specs.System.{System}
-use Rattle.tla_core.specs.declared.state.Shown.{Shown}
-use Rattle.tla_terms.specs.declared.spec.Spec.{Spec}
-use Rattle.term_parts.specs.Slots.{UsesSmaller}
-use Rattle.path_updates.specs.declared.line.Log.{Log}
-use Rattle.line_steps.specs.Logs.{Asked, system}
-use Rattle.state_layers.specs.Answers.{AllAssumed, IsAnswer}
-use Rattle.state_layers.specs.Says.{IsUnassumed}
-use Rattle.state_layers.specs.declared.answer.Answer.{Answer}
-use Rattle.state_verdicts.specs.Verdicts.{IsVerdict}
-use Rattle.state_verdicts.specs.declared.verdict.Verdict.{Verdict}
-use Rattle.spec_pairs.specs.Filling.{pair_asks}
-use Rattle.one_outcome.specs.Outcome.{AreAlike}
+use Rattle.states_core.specs.System.{System}
+use Rattle.states_core.specs.declared.state.Shown.{Shown}
+use Rattle.names_terms.specs.declared.spec.Spec.{Spec}
+use Rattle.names_term_parts.specs.Slots.{UsesSmaller}
+use Rattle.logs_updates.specs.declared.line.Log.{Log}
+use Rattle.steps_lines_defs.specs.Logs.{Asked, system}
+use Rattle.states_layers.specs.Answers.{AllAssumed, IsAnswer}
+use Rattle.states_layers.specs.Says.{IsUnassumed}
+use Rattle.states_layers.specs.declared.answer.Answer.{Answer}
+use Rattle.states_verdicts.specs.Verdicts.{IsVerdict}
+use Rattle.states_verdicts.specs.declared.verdict.Verdict.{Verdict}
+use Rattle.judge_pairs.specs.Filling.{pair_asks}
+use Rattle.twice_tables.specs.Outcome.{AreAlike}
 use Rattle.twice_logs.specs.AlikeLogs.{AreAlikeLogs}
 use Rattle.twice_logs.specs.Same.{AskSame}
 

@@ -1,11 +1,11 @@
 -- Over two specifications that are alike, beside several logs that are alike, the same is true.
 use Rattle.std.specs.Prelude.{List}
-use Rattle.tla_core.specs.declared.state.Shown.{Shown}
-use Rattle.tla_terms.specs.declared.spec.Spec.{Spec}
-use Rattle.line_steps.specs.Logs.{Asked}
-use Rattle.state_verdicts.specs.declared.verdict.Verdict.{Verdict}
-use Rattle.tied_logs.specs.declared.logs.Logs.{Logs}
-use Rattle.tied_steps.specs.Tied.{tied_system}
+use Rattle.states_core.specs.declared.state.Shown.{Shown}
+use Rattle.names_terms.specs.declared.spec.Spec.{Spec}
+use Rattle.steps_lines_defs.specs.Logs.{Asked}
+use Rattle.states_verdicts.specs.declared.verdict.Verdict.{Verdict}
+use Rattle.logs_tied.specs.declared.logs.Logs.{Logs}
+use Rattle.steps_tied.specs.Tied.{tied_system}
 use Rattle.judge_verdicts.specs.Tied.{IsTiedVerdict}
 use Rattle.twice_logs.specs.Steps.{AnswerSame}
 use Rattle.twice_logs.specs.TiesBeside.{AreBesideTied}

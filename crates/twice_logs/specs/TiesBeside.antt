@@ -1,12 +1,12 @@
 -- Several logs that are read beside two specifications that are alike: all but the numbers of the definitions that their events name is the same.
 use Rattle.std.specs.Prelude.{◌≡◌, List}
 use Rattle.std.specs.List.{AllZip}
-use Rattle.tla_terms.specs.declared.operator.Operator.{Operator}
-use Rattle.tla_terms.specs.declared.spec.Spec.{Spec}
-use Rattle.term_parts.specs.Slots.{UsesSmaller}
-use Rattle.one_outcome.specs.Outcome.{AreAlike}
+use Rattle.names_terms.specs.declared.operator.Operator.{Operator}
+use Rattle.names_terms.specs.declared.spec.Spec.{Spec}
+use Rattle.names_term_parts.specs.Slots.{UsesSmaller}
+use Rattle.twice_tables.specs.Outcome.{AreAlike}
 use Rattle.twice_logs.specs.AlikeLogs.{AreAlikeLines}
-use Rattle.tied_logs.specs.declared.logs.Logs.{Logs}
+use Rattle.logs_tied.specs.declared.logs.Logs.{Logs}
 
 -- The same is seen at first, the lines of the logs are alike one by one, and their lines may stand in the same orders.
 pub record AreAlikeTied (ops all : List Operator) (logs others : Logs) : Type 0 where

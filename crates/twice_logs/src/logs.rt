@@ -1,8 +1,8 @@
 ghost use Rattle.twice_logs.specs.Logs.{FilesSayAlike, LogsAreAlike, NamesTellAlike};
 
-use alike_actions::alike_action_laws;
-use clock_merge::order_laws;
-use spec_names::name_laws;
+use base_clock_order::order_laws;
+use steps_names::name_laws;
+use twice_outcomes::alike_action_laws;
 
 /// What a text says beside two specifications that are alike is alike, and files that are alike have logs that are alike.
 pub fn alike_logs_laws()

@@ -1,7 +1,6 @@
 ghost use Rattle.twice_logs.specs.Steps.{AnswersAlike, AskAlike, VerdictsAlike};
 
-use alike_actions::alike_action_laws;
-use alike_outcomes::alike_outcome_laws;
+use twice_outcomes::{alike_action_laws, alike_outcome_laws};
 
 /// Over two specifications that are alike, beside logs that are alike, the same is asked of states, and the same answers and verdicts are true.
 pub fn alike_steps_laws()

@@ -1,18 +1,18 @@
 -- What is accepted is not refused.
 use Rattle.std.proofs.Common.{◌≡◌, ℕ, List, [], Some, Result, Ok, Err, refl, sym, ◌∙◌, subst}
-use Rattle.trace_base.specs.Device.{File}
-use Rattle.tla_ast.specs.declared.config.Config.{Config}
-use Rattle.tla_ast.specs.declared.module.Program.{Program}
-use Rattle.tla_core.specs.declared.state.Shown.{Shown}
-use Rattle.tla_terms.specs.declared.spec.Spec.{Spec}
-use Rattle.one_outcome.specs.Outcome.{AreAlike}
-use Rattle.tied_logs.specs.declared.logs.Lined.{Lined}
-use Rattle.state_files.specs.Files.{StateFileSays}
-use Rattle.state_files.specs.declared.refusal.StateRefusal.{StateRefusal}
+use Rattle.base_core.specs.Device.{File}
+use Rattle.reading_trees.specs.declared.config.Config.{Config}
+use Rattle.reading_trees.specs.declared.module.Program.{Program}
+use Rattle.states_core.specs.declared.state.Shown.{Shown}
+use Rattle.names_terms.specs.declared.spec.Spec.{Spec}
+use Rattle.twice_tables.specs.Outcome.{AreAlike}
+use Rattle.logs_tied.specs.declared.logs.Lined.{Lined}
+use Rattle.states_files.specs.Files.{StateFileSays}
+use Rattle.states_files.specs.declared.refusal.StateRefusal.{StateRefusal}
 use Rattle.run_words.specs.declared.job.Job.{Job}
-use Rattle.run_reading.specs.Texts.{HasText, LogsRead}
-use Rattle.run_reading.specs.Reaches.{Reaches, logged}
-use Rattle.run_reading.specs.Given.{AllGiven, GivenWants, IsGivenRefusal, are_refused, is_missing, is_refused, is_too_long, states_limit, wants_before, wants_states}
+use Rattle.run_reading_defs.specs.Texts.{HasText, LogsRead}
+use Rattle.run_reading_defs.specs.Reaches.{Reaches, logged}
+use Rattle.run_reading_defs.specs.Given.{AllGiven, GivenWants, IsGivenRefusal, are_refused, is_missing, is_refused, is_too_long, states_limit, wants_before, wants_states}
 use Rattle.twice_readings.proofs.SameLogs.{one_text}
 use Rattle.twice_readings.proofs.Stages.{logged_from}
 use Rattle.twice_readings.specs.NotRefused.{GivenNotRefused, ReadNotRefused}

@@ -1,8 +1,8 @@
 -- Where one file is read next and its text tested, what does not go on is one.
 use Rattle.std.proofs.Common.{◌≡◌, ◌∙◌, ◌<◌, ℕ, List, length, None, Some, arith, refl, subst, sym}
-use Rattle.trace_base.specs.Device.{File, IsLonger, found}
+use Rattle.base_core.specs.Device.{File, IsLonger, found}
 use Rattle.run_texts.specs.Files.{missing_text, too_long_text}
-use Rattle.run_reading.specs.Texts.{HasText}
+use Rattle.run_reading_defs.specs.Texts.{HasText}
 use Rattle.twice_readings.proofs.SameLogs.{one_text}
 use Rattle.twice_readings.proofs.Stages.{none_is_some, some_is}
 

@@ -1,24 +1,24 @@
 -- The first fault in the forms of two specifications that are alike is one.
 use Rattle.std.proofs.Common.{◌≡◌, ◌∙◌, [], length, Option, Some, Result, Ok, Err, ap, refl, subst, sym}
 use Rattle.std.specs.Prelude.{◌≢◌, IfSome}
-use Rattle.tla_terms.specs.declared.ids.DefId.{DefId}
-use Rattle.tla_terms.specs.declared.operator.Operator.{Operator}
-use Rattle.tla_terms.specs.declared.spec.Spec.{Spec}
-use Rattle.tla_terms.specs.Terms.{Term}
-use Rattle.early_reads.specs.Orderly.{IsSoundThroughout}
-use Rattle.spec_laws.specs.IsSpec.{IsSilent, IsSpec}
-use Rattle.tla_actions.specs.declared.fault.FormFault.{FormFault}
-use Rattle.tla_actions.specs.declared.which.Which.{Which}
-use Rattle.tla_actions.specs.declared.which.Which.TheVariants as which
-use Rattle.tla_actions.specs.Forms.{Setting}
-use Rattle.tla_actions.specs.Outcomes.{IsOutcome, IsWholeOutcome, wholly}
-use Rattle.tla_actions.specs.Reads.{in_none}
-use Rattle.line_steps.specs.Says.{setting}
-use Rattle.alike_terms.specs.Laws.{AreOne}
-use Rattle.alike_terms.proofs.Inverted.{row_is}
-use Rattle.alike_actions.specs.AlikeSettings.{AreAlikeIn, AreAlikeSettings}
-use Rattle.one_outcome.specs.Outcome.{AlikeSilent, AreAlike, both_silent, none_silent}
-use Rattle.spec_forms.specs.Forms.{IsFirstFault, IsWhole, SilentOutcome, in_init, in_next, in_silent}
+use Rattle.names_terms.specs.declared.ids.DefId.{DefId}
+use Rattle.names_terms.specs.declared.operator.Operator.{Operator}
+use Rattle.names_terms.specs.declared.spec.Spec.{Spec}
+use Rattle.names_terms.specs.Terms.{Term}
+use Rattle.actions_early_reads.specs.Orderly.{IsSoundThroughout}
+use Rattle.names_specification_laws.specs.IsSpec.{IsSilent, IsSpec}
+use Rattle.actions_meanings.specs.declared.fault.FormFault.{FormFault}
+use Rattle.actions_meanings.specs.declared.which.Which.{Which}
+use Rattle.actions_meanings.specs.declared.which.Which.TheVariants as which
+use Rattle.actions_meanings.specs.Forms.{Setting}
+use Rattle.actions_meanings.specs.Outcomes.{IsOutcome, IsWholeOutcome, wholly}
+use Rattle.actions_meanings.specs.Reads.{in_none}
+use Rattle.steps_lines_defs.specs.Says.{setting}
+use Rattle.twice_terms.specs.Laws.{AreOne}
+use Rattle.twice_terms.proofs.Inverted.{row_is}
+use Rattle.twice_outcomes.specs.AlikeSettings.{AreAlikeIn, AreAlikeSettings}
+use Rattle.twice_tables.specs.Outcome.{AlikeSilent, AreAlike, both_silent, none_silent}
+use Rattle.steps_forms.specs.Forms.{IsFirstFault, IsWhole, SilentOutcome, in_init, in_next, in_silent}
 use Rattle.twice_readings.proofs.Stages.{none_is_some, some_is}
 use Rattle.twice_readings.proofs.Forms.{FormsKnown}
 

@@ -1,28 +1,28 @@
 -- Where the actions of a specification have their forms, no other that is alike has a fault in them.
 use Rattle.std.proofs.Common.{◌≡◌, ℕ, [], length, Option, Some, Result, Ok, Err, refl, sym, ap, ◌∙◌, subst}
 use Rattle.std.specs.Prelude.{◌≢◌, IfSome, slice_get}
-use Rattle.tla_terms.specs.declared.ids.DefId.{DefId}
-use Rattle.tla_terms.specs.declared.operator.Operator.{Operator}
-use Rattle.tla_terms.specs.declared.spec.Spec.{Spec}
-use Rattle.tla_terms.specs.Terms.{Term}
-use Rattle.early_reads.specs.Orderly.{IsSoundThroughout}
-use Rattle.spec_laws.specs.IsSpec.{IsSilent, IsSpec}
-use Rattle.sound_laws.specs.Sound.{OperatorsAreSound, SpecsAreSound}
-use Rattle.tla_actions.specs.declared.fault.FormFault.{FormFault}
-use Rattle.tla_actions.specs.declared.which.Which.{Which}
-use Rattle.tla_actions.specs.declared.which.Which.TheVariants as which
-use Rattle.tla_actions.specs.Forms.{Setting}
-use Rattle.tla_actions.specs.Outcomes.{IsOutcome, IsWholeOutcome, wholly}
-use Rattle.tla_actions.specs.Reads.{VariableSet, in_none}
-use Rattle.action_forms.specs.Laws.{HasOneFormOutcome}
-use Rattle.line_steps.specs.Says.{setting}
-use Rattle.alike_terms.specs.Alike.{AlikeRows}
-use Rattle.alike_terms.specs.Laws.{AreOne}
-use Rattle.alike_terms.proofs.Inverted.{row_is}
-use Rattle.alike_actions.specs.AlikeSettings.{AreAlikeIn, AreAlikeSettings}
-use Rattle.alike_actions.specs.Laws.{OutcomesAlike, WholeAlike}
-use Rattle.one_outcome.specs.Outcome.{AlikeSilent, AreAlike, both_silent, none_silent}
-use Rattle.spec_forms.specs.Forms.{AreWhole, HasSilentForm, IsFirstFault, IsWhole, SilentOutcome, in_init, in_next, in_silent}
+use Rattle.names_terms.specs.declared.ids.DefId.{DefId}
+use Rattle.names_terms.specs.declared.operator.Operator.{Operator}
+use Rattle.names_terms.specs.declared.spec.Spec.{Spec}
+use Rattle.names_terms.specs.Terms.{Term}
+use Rattle.actions_early_reads.specs.Orderly.{IsSoundThroughout}
+use Rattle.names_specification_laws.specs.IsSpec.{IsSilent, IsSpec}
+use Rattle.actions_form_laws.specs.Sound.{OperatorsAreSound, SpecsAreSound}
+use Rattle.actions_meanings.specs.declared.fault.FormFault.{FormFault}
+use Rattle.actions_meanings.specs.declared.which.Which.{Which}
+use Rattle.actions_meanings.specs.declared.which.Which.TheVariants as which
+use Rattle.actions_meanings.specs.Forms.{Setting}
+use Rattle.actions_meanings.specs.Outcomes.{IsOutcome, IsWholeOutcome, wholly}
+use Rattle.actions_meanings.specs.Reads.{VariableSet, in_none}
+use Rattle.actions_forms.specs.Laws.{HasOneFormOutcome}
+use Rattle.steps_lines_defs.specs.Says.{setting}
+use Rattle.twice_terms.specs.Alike.{AlikeRows}
+use Rattle.twice_terms.specs.Laws.{AreOne}
+use Rattle.twice_terms.proofs.Inverted.{row_is}
+use Rattle.twice_outcomes.specs.AlikeSettings.{AreAlikeIn, AreAlikeSettings}
+use Rattle.twice_outcomes.specs.Actions.{OutcomesAlike, WholeAlike}
+use Rattle.twice_tables.specs.Outcome.{AlikeSilent, AreAlike, both_silent, none_silent}
+use Rattle.steps_forms.specs.Forms.{AreWhole, HasSilentForm, IsFirstFault, IsWhole, SilentOutcome, in_init, in_next, in_silent}
 
 ok_no_err : {A E : Type 0} (a : A) (e : E) (r q : Result A E) → r ≡ Ok a → q ≡ Err e → r ≡ q → ⊥
 ok_no_err a e r q h k same = let there : Ok a ≡ Err e = sym h ∙ same ∙ k in cc

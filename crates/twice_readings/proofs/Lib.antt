@@ -2,6 +2,8 @@ pub mod Accepted
 pub mod FileHalts
 pub mod FirstFaults
 pub mod Forms
+pub mod GivenPlaces
+pub mod LetRows
 pub mod LogHalts
 pub mod LogsBeside
 pub mod OneReading

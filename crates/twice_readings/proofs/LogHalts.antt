@@ -1,23 +1,23 @@
 -- Two readings that do not go on at a log.
 use Rattle.std.proofs.Common.{◌≡◌, ◌∙◌, ◌+◌, ◌-◌, ◌<◌, ℕ, List, ◌∷◌, length, Some, Ok, Err, Result, ap, subst, sym}
 use Rattle.std.specs.Prelude.{drop}
-use Rattle.trace_base.specs.Device.{File}
-use Rattle.tla_ast.specs.declared.config.Config.{Config}
-use Rattle.tla_ast.specs.declared.module.Program.{Program}
-use Rattle.tla_terms.specs.declared.spec.Spec.{Spec}
-use Rattle.spec_laws.specs.IsSpec.{IsSpec}
-use Rattle.one_outcome.specs.Outcome.{AreAlike}
-use Rattle.log_lines.specs.Files.{FileSays, first_line}
-use Rattle.log_lines.specs.declared.clocks.ClockForm.{ClockForm}
-use Rattle.log_lines.specs.declared.file.FileLines.{FileLines}
-use Rattle.log_lines.specs.declared.file.Refusal.{Refusal}
-use Rattle.spec_names.specs.Names.{names_of}
+use Rattle.base_core.specs.Device.{File}
+use Rattle.reading_trees.specs.declared.config.Config.{Config}
+use Rattle.reading_trees.specs.declared.module.Program.{Program}
+use Rattle.names_terms.specs.declared.spec.Spec.{Spec}
+use Rattle.names_specification_laws.specs.IsSpec.{IsSpec}
+use Rattle.twice_tables.specs.Outcome.{AreAlike}
+use Rattle.logs_lines.specs.Files.{FileSays, first_line}
+use Rattle.logs_lines.specs.declared.clocks.ClockForm.{ClockForm}
+use Rattle.logs_lines.specs.declared.file.FileLines.{FileLines}
+use Rattle.logs_lines.specs.declared.file.Refusal.{Refusal}
+use Rattle.steps_names.specs.Names.{names_of}
 use Rattle.twice_logs.specs.AlikeFiles.{AreAlikeResults}
 use Rattle.twice_logs.specs.Logs.{FilesSayAlike}
 use Rattle.run_words.specs.declared.job.Job.{Job}
 use Rattle.run_texts.specs.Logs.{log_refusal}
-use Rattle.run_reading.specs.Texts.{HasText, LogsRead, are_several, bytes_left, steps_left}
-use Rattle.run_reading.specs.Reaches.{LogSays, Reaches, logged}
+use Rattle.run_reading_defs.specs.Texts.{HasText, LogsRead, are_several, bytes_left, steps_left}
+use Rattle.run_reading_defs.specs.Reaches.{LogSays, Reaches, logged}
 use Rattle.twice_readings.proofs.SameLogs.{AreAlikeReads, same_logs}
 use Rattle.twice_readings.proofs.Stages.{head_is, still_named}
 use Rattle.twice_readings.proofs.LogsBeside.{LogAt, log_at}

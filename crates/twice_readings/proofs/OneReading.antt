@@ -1,47 +1,47 @@
 -- Two readings of the same files come to the same.
 use Rattle.std.proofs.Common.{◌≡◌, ◌⊎◌, ℕ, List, [], length, map, Some, Result, Ok, Err, inl, inr, refl, ap, sym, ◌∙◌, subst, arith}
 use Rattle.std.specs.Prelude.{Bool, true}
-use Rattle.trace_base.specs.Device.{File}
-use Rattle.tla_ast.specs.declared.config.Config.{Config}
-use Rattle.tla_ast.specs.declared.module.Program.{Program}
-use Rattle.tla_ast.specs.declared.module.WholeProgram.{WholeProgram}
-use Rattle.wide_config.specs.Wide.{ReadsBy}
-use Rattle.tla_modules.specs.declared.notes.Noted.{Noted}
-use Rattle.tla_modules.specs.Loads.{IsProgramBy}
-use Rattle.tla_modules.specs.Paths.{IsPath}
-use Rattle.wide_modules.specs.declared.unread.Unread.{Unread}
-use Rattle.wide_modules.specs.Laws.{OneWideProgram, told}
-use Rattle.wide_modules.specs.Wide.{reading_by}
-use Rattle.tla_core.specs.declared.state.Shown.{Shown}
-use Rattle.tla_terms.specs.declared.spec.Spec.{Spec}
-use Rattle.tla_levels.specs.Resolved.{IsOneForm}
-use Rattle.tla_levels.specs.declared.fault.ResolveFault.{ResolveFault}
-use Rattle.specification_names.specs.Resolving.{ResolvedBy}
-use Rattle.specification_names.proofs.Readings.{resolved_with}
-use Rattle.expanded_laws.specs.Laws.{ExpandedAreWellFormed}
-use Rattle.load_laws.specs.Loaded.{ConfigurationsHaveOneForm, PlainHasOneForm}
-use Rattle.resolved_laws.specs.InOrder.{IsWellFormed, ResolvedAreInOrder}
-use Rattle.wide_trees.specs.Laws.{OneAlone, OnePruned}
-use Rattle.wide_reading.specs.Laws.{PassedAreWellFormed, PassedHaveOneForm}
-use Rattle.whole_programs.specs.Expansion.{ExpansionBy}
-use Rattle.whole_programs.specs.Laws.{OneExpansion}
-use Rattle.wide_reading.specs.Passing.{Passes}
-use Rattle.spec_laws.specs.IsSpec.{IsSpec}
-use Rattle.one_outcome.specs.Laws.{HasOneOutcome}
-use Rattle.one_outcome.specs.Outcome.{AreAlike}
-use Rattle.tied_logs.specs.declared.logs.Lined.{Lined}
-use Rattle.state_files.specs.Files.{StateFileSays}
-use Rattle.state_files.specs.Laws.{StateFileSaysOne}
-use Rattle.state_files.specs.declared.refusal.StateRefusal.{StateRefusal}
+use Rattle.base_core.specs.Device.{File}
+use Rattle.reading_trees.specs.declared.config.Config.{Config}
+use Rattle.reading_trees.specs.declared.module.Program.{Program}
+use Rattle.reading_trees.specs.declared.module.WholeProgram.{WholeProgram}
+use Rattle.reading_wide_configuration.specs.Wide.{ReadsBy}
+use Rattle.reading_modules.specs.declared.notes.Noted.{Noted}
+use Rattle.reading_modules.specs.Loads.{IsProgramBy}
+use Rattle.reading_modules.specs.Paths.{IsPath}
+use Rattle.reading_wide_modules.specs.declared.unread.Unread.{Unread}
+use Rattle.reading_wide_modules.specs.Laws.{OneWideProgram, told}
+use Rattle.reading_wide_modules.specs.Wide.{reading_by}
+use Rattle.states_core.specs.declared.state.Shown.{Shown}
+use Rattle.names_terms.specs.declared.spec.Spec.{Spec}
+use Rattle.names_resolving.specs.Resolved.{IsOneForm}
+use Rattle.names_resolving.specs.declared.fault.ResolveFault.{ResolveFault}
+use Rattle.names_specification.specs.Resolving.{ResolvedBy}
+use Rattle.names_specification.proofs.Readings.{resolved_with}
+use Rattle.names_expanded_laws.specs.Expansion.{ExpandedAreWellFormed}
+use Rattle.names_load_laws.specs.Loaded.{ConfigurationsHaveOneForm, PlainHasOneForm}
+use Rattle.names_resolved_laws.specs.InOrder.{IsWellFormed, ResolvedAreInOrder}
+use Rattle.names_pruning.specs.Laws.{OneAlone, OnePruned}
+use Rattle.run_wide.specs.Laws.{PassedAreWellFormed, PassedHaveOneForm}
+use Rattle.names_whole_programs.specs.Expansion.{ExpansionBy}
+use Rattle.names_whole_programs.specs.Laws.{OneExpansion}
+use Rattle.run_wide.specs.Passing.{Passes}
+use Rattle.names_specification_laws.specs.IsSpec.{IsSpec}
+use Rattle.twice_tables.specs.OneOutcome.{HasOneOutcome}
+use Rattle.twice_tables.specs.Outcome.{AreAlike}
+use Rattle.logs_tied.specs.declared.logs.Lined.{Lined}
+use Rattle.states_files.specs.Files.{StateFileSays}
+use Rattle.states_files.specs.Laws.{StateFileSaysOne}
+use Rattle.states_files.specs.declared.refusal.StateRefusal.{StateRefusal}
 use Rattle.twice_logs.specs.Logs.{FilesSayAlike}
 use Rattle.twice_logs.specs.Lined.{LinedAreAlike}
 use Rattle.run_words.specs.declared.job.Job.{Job}
-use Rattle.run_reading.specs.Texts.{config_limit}
-use Rattle.run_reading.specs.Reaches.{AllRead, Reaches, configured, given, loaded, resolved}
-use Rattle.run_reading.specs.Given.{AllGiven, states_limit}
+use Rattle.run_reading_defs.specs.Texts.{config_limit}
+use Rattle.run_reading_defs.specs.Reaches.{AllRead, Reaches, configured, given, loaded, resolved}
+use Rattle.run_reading_defs.specs.Given.{AllGiven, states_limit}
 use Rattle.twice_readings.specs.Readings.{AreSame, GivenIsOne, ReadingIsOne}
-use Rattle.one_program.specs.Laws.{OneConfiguration, OnePath}
-use Rattle.one_program.specs.Readings.{noted_by}
+use Rattle.reading_laws.specs.OneReading.{OneConfiguration, OnePath}
+use Rattle.reading_laws.specs.Readings.{noted_by}
 use Rattle.twice_readings.proofs.Outcomes.{one_outcome_by}
 use Rattle.twice_readings.proofs.Passing.{PassingParts, one_passing, passes_same}
 use Rattle.twice_readings.proofs.Stages.{ConfiguredBy, LoadedBy, WithText, WithoutText, configured_by, counted, given_by, loaded_by, logged_from, none_is_some, resolved_by, some_is}

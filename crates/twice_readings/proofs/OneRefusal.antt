@@ -2,41 +2,41 @@
 use Rattle.std.proofs.Common.{◌≡◌, ◌∙◌, ◌<◌, ◌++◌, ℕ, List, [], ◌∷◌, length, Some, Result, Ok, Err, arith, inl, inr, refl, subst, sym}
 use Rattle.std.proofs.lemmas.Bool.{cases_lt}
 use Rattle.std.specs.Prelude.{◌⊎◌, Bool}
-use Rattle.trace_base.specs.Device.{File}
-use Rattle.trace_base.specs.declared.place.Place.{Place}
-use Rattle.trace_base.specs.declared.reading.ReadFault.{ReadFault}
-use Rattle.trace_base.specs.declared.reading.ReadFault.TheVariants.{Failed, Missing, TooLong}
-use Rattle.tla_ast.specs.declared.config.Config.{Config}
-use Rattle.tla_ast.specs.declared.module.Program.{Program}
-use Rattle.tla_ast.specs.declared.module.WholeProgram.{WholeProgram}
-use Rattle.tla_config.specs.declared.fault.ConfigKind.{ConfigKind}
-use Rattle.tla_modules.specs.declared.fault.LoadWhy.{LoadWhy}
-use Rattle.tla_modules.specs.declared.fault.LoadWhy.TheVariants.{Cycle, Lay, Lex, Nested, Parse, Read, TooMany, Twice, WrongName}
-use Rattle.tla_modules.specs.declared.notes.Noted.{Noted}
-use Rattle.tla_modules.specs.declared.so_far.Gathered.{Gathered}
-use Rattle.tla_modules.specs.Flattened.{FlattenedBy}
-use Rattle.tla_modules.specs.Refusals.{IsUnread}
-use Rattle.wide_config.specs.Laws as config
-use Rattle.wide_config.specs.Wide.{ReadsBy}
-use Rattle.wide_modules.specs.declared.unread.Unread.{Unread}
-use Rattle.wide_modules.specs.Laws.{NothingRepeatsWide, WideFlatteningMayStop}
-use Rattle.wide_modules.specs.Wide.{reading_by}
-use Rattle.tla_terms.specs.declared.spec.Spec.{Spec}
-use Rattle.tla_levels.specs.declared.fault.ResolveFault.{ResolveFault}
-use Rattle.specification_names.specs.Resolving.{ResolvedBy}
-use Rattle.tla_actions.specs.declared.fault.FormFault.{FormFault}
-use Rattle.spec_forms.specs.Forms.{IsFirstFault}
-use Rattle.wide_reading.specs.Passing.{Passes}
-use Rattle.spec_laws.specs.IsSpec.{IsSpec}
-use Rattle.one_outcome.specs.Outcome.{AreAlike}
+use Rattle.base_core.specs.Device.{File}
+use Rattle.base_core.specs.declared.place.Place.{Place}
+use Rattle.base_core.specs.declared.reading.ReadFault.{ReadFault}
+use Rattle.base_core.specs.declared.reading.ReadFault.TheVariants.{Failed, Missing, TooLong}
+use Rattle.reading_trees.specs.declared.config.Config.{Config}
+use Rattle.reading_trees.specs.declared.module.Program.{Program}
+use Rattle.reading_trees.specs.declared.module.WholeProgram.{WholeProgram}
+use Rattle.reading_configuration.specs.declared.fault.ConfigKind.{ConfigKind}
+use Rattle.reading_modules.specs.declared.fault.LoadWhy.{LoadWhy}
+use Rattle.reading_modules.specs.declared.fault.LoadWhy.TheVariants.{Cycle, Lay, Lex, Nested, Parse, Read, TooMany, Twice, WrongName}
+use Rattle.reading_modules.specs.declared.notes.Noted.{Noted}
+use Rattle.reading_modules.specs.declared.so_far.Gathered.{Gathered}
+use Rattle.reading_modules.specs.Flattened.{FlattenedBy}
+use Rattle.reading_modules.specs.Refusals.{IsUnread}
+use Rattle.reading_wide_configuration.specs.Laws as config
+use Rattle.reading_wide_configuration.specs.Wide.{ReadsBy}
+use Rattle.reading_wide_modules.specs.declared.unread.Unread.{Unread}
+use Rattle.reading_wide_modules.specs.Laws.{NothingRepeatsWide, WideFlatteningMayStop}
+use Rattle.reading_wide_modules.specs.Wide.{reading_by}
+use Rattle.names_terms.specs.declared.spec.Spec.{Spec}
+use Rattle.names_resolving.specs.declared.fault.ResolveFault.{ResolveFault}
+use Rattle.names_specification.specs.Resolving.{ResolvedBy}
+use Rattle.actions_meanings.specs.declared.fault.FormFault.{FormFault}
+use Rattle.steps_forms.specs.Forms.{IsFirstFault}
+use Rattle.run_wide.specs.Passing.{Passes}
+use Rattle.names_specification_laws.specs.IsSpec.{IsSpec}
+use Rattle.twice_tables.specs.Outcome.{AreAlike}
 use Rattle.run_words.specs.declared.job.Job.{Job}
 use Rattle.run_texts.specs.Configs.{config_refusal}
 use Rattle.run_texts.specs.Forms.{form_refusal}
 use Rattle.run_texts.specs.Resolved.{names_refusal}
-use Rattle.run_reading.specs.Texts.{HasText, LogsRead, config_limit}
-use Rattle.run_reading.specs.Reaches.{Reaches, Stage, begun, configured, given, loaded, logged, resolved}
-use Rattle.run_reading.specs.Refusals.{IsOfText, IsRefusal, all_files, is_missing, is_refused, is_too_long}
-use Rattle.one_program.specs.Laws.{NoConfigurationRefused}
+use Rattle.run_reading_defs.specs.Texts.{HasText, LogsRead, config_limit}
+use Rattle.run_reading_defs.specs.Reaches.{Reaches, Stage, begun, configured, given, loaded, logged, resolved}
+use Rattle.run_reading_defs.specs.Refusals.{IsOfText, IsRefusal, all_files, is_missing, is_refused, is_too_long}
+use Rattle.reading_laws.specs.OneReading.{NoConfigurationRefused}
 use Rattle.twice_readings.proofs.OneReading.{Given, Parts, begun_same, configured_same, expanded_same, one_expanded, form_is_one, given_form, given_same, in_order, passed_there, passing_parts, program_of, resolved_there, same_program}
 use Rattle.twice_readings.proofs.Outcomes.{one_outcome_by}
 use Rattle.twice_readings.proofs.Passing.{no_piece}

@@ -1,16 +1,16 @@
 -- A program with its configuration comes to one outcome, with the word `--wide` and without it.
 use Rattle.std.proofs.Common.{ℕ, List, Option, Result, Ok, Err}
 use Rattle.std.specs.Prelude.{Bool, true, false}
-use Rattle.tla_ast.specs.declared.config.Config.{Config}
-use Rattle.tla_ast.specs.declared.module.Program.{Program}
-use Rattle.tla_terms.specs.declared.spec.Spec.{Spec}
-use Rattle.tla_levels.specs.Resolved.{IsOneForm}
-use Rattle.tla_levels.specs.declared.fault.ResolveFault.{ResolveFault}
-use Rattle.specification_names.specs.Behind.{looked_through}
-use Rattle.specification_names.specs.Resolving.{ResolvedBy, ResolvedWide, as_it_stands, by_the_one_behind, refused_twice}
-use Rattle.specification_names.proofs.Forms.{same_form}
-use Rattle.one_outcome.specs.Laws.{HasOneOutcome}
-use Rattle.one_outcome.specs.Outcome.{IsSameOutcome}
+use Rattle.reading_trees.specs.declared.config.Config.{Config}
+use Rattle.reading_trees.specs.declared.module.Program.{Program}
+use Rattle.names_terms.specs.declared.spec.Spec.{Spec}
+use Rattle.names_resolving.specs.Resolved.{IsOneForm}
+use Rattle.names_resolving.specs.declared.fault.ResolveFault.{ResolveFault}
+use Rattle.names_specification.specs.Behind.{looked_through}
+use Rattle.names_specification.specs.Resolving.{ResolvedBy, ResolvedWide, as_it_stands, by_the_one_behind, refused_twice}
+use Rattle.names_specification.proofs.Forms.{same_form}
+use Rattle.twice_tables.specs.OneOutcome.{HasOneOutcome}
+use Rattle.twice_tables.specs.Outcome.{IsSameOutcome}
 
 module _ (one : HasOneOutcome) (p : Program) (c : Config) (silent : Option (List ℕ)) (form : IsOneForm c) where
   behind : IsOneForm (looked_through p c)

@@ -4,29 +4,29 @@ use Rattle.std.specs.Prelude.{◌≢◌, Bool, true, false, slice_get}
 use Rattle.std.proofs.Math.Seq.{get_or-append_seam}
 use Rattle.std.proofs.lemmas.List.{append_assoc}
 use Rattle.std.proofs.lemmas.Option.{slice_get_read}
-use Rattle.trace_base.specs.declared.place.Place.{Place}
-use Rattle.tla_ast.specs.declared.config.Config.{Config}
-use Rattle.tla_ast.specs.declared.module.Program.{Program}
-use Rattle.tla_ast.specs.declared.module.Unit.{Unit as ModuleUnit}
-use Rattle.module_pieces.specs.declared.mark.Mark.{Mark}
-use Rattle.tla_modules.specs.declared.notes.Noted.{Noted}
-use Rattle.one_program.specs.Readings.{noted_by}
-use Rattle.wide_config.specs.Wide.{also_told}
-use Rattle.wide_modules.specs.declared.unread.Unread.{Unread}
-use Rattle.wide_modules.specs.Laws.{told}
-use Rattle.tla_terms.specs.declared.spec.Spec.{Spec}
-use Rattle.tla_levels.specs.Resolved.{IsOneForm}
-use Rattle.tla_levels.specs.declared.fault.ResolveFault.{ResolveFault}
-use Rattle.specification_names.specs.Resolving.{ResolvedWide}
-use Rattle.tlc_calls.specs.Programs.{spelled_out}
-use Rattle.wide_trees.specs.Laws.{OneAlone, OnePruned}
-use Rattle.wide_trees.specs.Needed.{needed_names}
-use Rattle.wide_trees.specs.Pruning.{Alone, NeedsBad, NoneIsAsked, Pruned}
-use Rattle.wide_trees.specs.Told as units
-use Rattle.wide_reading.specs.Answers.{NeedsPiece}
-use Rattle.wide_reading.specs.Lines.{over_line, piece_lines, unread_lines}
-use Rattle.wide_reading.specs.Needing.{IsFirstNeeded, names_unread}
-use Rattle.wide_reading.specs.Passing.{IsNotWhole, Leaves, Passes, goes_on, has_many, is_whole, needed_alone, needed_alone_of_it, spelled, telling, without_bad, without_word}
+use Rattle.base_core.specs.declared.place.Place.{Place}
+use Rattle.reading_trees.specs.declared.config.Config.{Config}
+use Rattle.reading_trees.specs.declared.module.Program.{Program}
+use Rattle.reading_trees.specs.declared.module.Unit.{Unit as ModuleUnit}
+use Rattle.reading_pieces.specs.declared.mark.Mark.{Mark}
+use Rattle.reading_modules.specs.declared.notes.Noted.{Noted}
+use Rattle.reading_laws.specs.Readings.{noted_by}
+use Rattle.reading_wide_configuration.specs.Wide.{also_told}
+use Rattle.reading_wide_modules.specs.declared.unread.Unread.{Unread}
+use Rattle.reading_wide_modules.specs.Laws.{told}
+use Rattle.names_terms.specs.declared.spec.Spec.{Spec}
+use Rattle.names_resolving.specs.Resolved.{IsOneForm}
+use Rattle.names_resolving.specs.declared.fault.ResolveFault.{ResolveFault}
+use Rattle.names_specification.specs.Resolving.{ResolvedWide}
+use Rattle.names_tlc_calls.specs.Programs.{spelled_out}
+use Rattle.names_pruning.specs.Laws.{OneAlone, OnePruned}
+use Rattle.names_pruning.specs.Needed.{needed_names}
+use Rattle.names_pruning.specs.Pruning.{Alone, NeedsBad, NoneIsAsked, Pruned}
+use Rattle.names_pruning.specs.Told as units
+use Rattle.run_wide.specs.Answers.{NeedsPiece}
+use Rattle.run_wide.specs.Lines.{over_line, piece_lines, unread_lines}
+use Rattle.run_wide.specs.Needing.{IsFirstNeeded, names_unread}
+use Rattle.run_wide.specs.Passing.{IsNotWhole, Leaves, Passes, goes_on, has_many, is_whole, needed_alone, needed_alone_of_it, spelled, telling, without_bad, without_word}
 
 -- ---- pieces that are told the same
 

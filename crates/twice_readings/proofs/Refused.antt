@@ -1,38 +1,38 @@
 -- Beside an accepted reading nothing is refused, and each file that is sought is there and is not too long.
 use Rattle.std.proofs.Common.{Result, ◌≡◌, ◌<◌, ℕ, List, [], ◌∷◌, length, Some, None, Ok, Err, inl, inr, sym, ◌∙◌, subst, arith}
 use Rattle.std.specs.Prelude.{Bool, true}
-use Rattle.trace_base.specs.Device.{File, IsLonger, found}
-use Rattle.trace_base.specs.declared.place.Place.{Place}
-use Rattle.trace_base.specs.declared.reading.ReadFault.{ReadFault}
-use Rattle.trace_base.specs.declared.reading.ReadFault.TheVariants.{Missing, Failed, TooLong}
-use Rattle.tla_ast.specs.declared.config.Config.{Config}
-use Rattle.tla_ast.specs.declared.module.Program.{Program}
-use Rattle.tla_ast.specs.declared.module.WholeProgram.{WholeProgram}
-use Rattle.tla_config.specs.declared.fault.ConfigKind.{ConfigKind}
-use Rattle.wide_config.specs.Wide.{ReadsBy}
-use Rattle.tla_modules.specs.declared.fault.LoadWhy.{LoadWhy}
-use Rattle.tla_modules.specs.declared.fault.LoadWhy.TheVariants.{Read, Lex, Lay, Parse, Cycle, TooMany, Twice, WrongName, Nested}
-use Rattle.tla_modules.specs.declared.notes.Noted.{Noted}
-use Rattle.tla_modules.specs.declared.so_far.Gathered.{Gathered}
-use Rattle.tla_modules.specs.Flattened.{FlattenedBy, OutcomeOf}
-use Rattle.tla_modules.specs.Paths.{IsPath}
-use Rattle.tla_modules.specs.Refusals.{IsUnread, module_limit}
-use Rattle.wide_modules.specs.declared.unread.Unread.{Unread}
-use Rattle.wide_modules.specs.Laws.{NothingRepeatsWide, WideFlatteningMayStop}
-use Rattle.wide_modules.specs.Wide.{reading_by}
-use Rattle.tla_terms.specs.declared.spec.Spec.{Spec}
-use Rattle.tla_levels.specs.declared.fault.ResolveFault.{ResolveFault}
-use Rattle.specification_names.specs.Resolving.{ResolvedBy}
-use Rattle.whole_programs.specs.Expansion.{ExpansionBy}
-use Rattle.wide_reading.specs.Answers.{NeedsPiece}
-use Rattle.wide_reading.specs.Passing.{Passes}
-use Rattle.spec_laws.specs.IsSpec.{IsSpec}
-use Rattle.one_outcome.specs.Outcome.{AreAlike}
-use Rattle.one_program.specs.Laws.{NoConfigurationRefused}
+use Rattle.base_core.specs.Device.{File, IsLonger, found}
+use Rattle.base_core.specs.declared.place.Place.{Place}
+use Rattle.base_core.specs.declared.reading.ReadFault.{ReadFault}
+use Rattle.base_core.specs.declared.reading.ReadFault.TheVariants.{Missing, Failed, TooLong}
+use Rattle.reading_trees.specs.declared.config.Config.{Config}
+use Rattle.reading_trees.specs.declared.module.Program.{Program}
+use Rattle.reading_trees.specs.declared.module.WholeProgram.{WholeProgram}
+use Rattle.reading_configuration.specs.declared.fault.ConfigKind.{ConfigKind}
+use Rattle.reading_wide_configuration.specs.Wide.{ReadsBy}
+use Rattle.reading_modules.specs.declared.fault.LoadWhy.{LoadWhy}
+use Rattle.reading_modules.specs.declared.fault.LoadWhy.TheVariants.{Read, Lex, Lay, Parse, Cycle, TooMany, Twice, WrongName, Nested}
+use Rattle.reading_modules.specs.declared.notes.Noted.{Noted}
+use Rattle.reading_modules.specs.declared.so_far.Gathered.{Gathered}
+use Rattle.reading_modules.specs.Flattened.{FlattenedBy, OutcomeOf}
+use Rattle.reading_modules.specs.Paths.{IsPath}
+use Rattle.reading_modules.specs.Refusals.{IsUnread, module_limit}
+use Rattle.reading_wide_modules.specs.declared.unread.Unread.{Unread}
+use Rattle.reading_wide_modules.specs.Laws.{NothingRepeatsWide, WideFlatteningMayStop}
+use Rattle.reading_wide_modules.specs.Wide.{reading_by}
+use Rattle.names_terms.specs.declared.spec.Spec.{Spec}
+use Rattle.names_resolving.specs.declared.fault.ResolveFault.{ResolveFault}
+use Rattle.names_specification.specs.Resolving.{ResolvedBy}
+use Rattle.names_whole_programs.specs.Expansion.{ExpansionBy}
+use Rattle.run_wide.specs.Answers.{NeedsPiece}
+use Rattle.run_wide.specs.Passing.{Passes}
+use Rattle.names_specification_laws.specs.IsSpec.{IsSpec}
+use Rattle.twice_tables.specs.Outcome.{AreAlike}
+use Rattle.reading_laws.specs.OneReading.{NoConfigurationRefused}
 use Rattle.run_words.specs.declared.job.Job.{Job}
-use Rattle.run_reading.specs.Texts.{HasText, LogsRead, bytes_left, config_limit}
-use Rattle.run_reading.specs.Reaches.{IsNext, Reaches, Stage, config_next, configured, given, loaded, log_next, logged, module_next, resolved}
-use Rattle.run_reading.specs.Refusals.{IsOfText, IsRefusal, Rejects, in_a_log, in_a_module, in_a_piece, in_an_instance, in_all_modules, in_forms, in_names, in_the_configuration, is_missing, is_refused, is_too_long}
+use Rattle.run_reading_defs.specs.Texts.{HasText, LogsRead, bytes_left, config_limit}
+use Rattle.run_reading_defs.specs.Reaches.{IsNext, Reaches, Stage, config_next, configured, given, loaded, log_next, logged, module_next, resolved}
+use Rattle.run_reading_defs.specs.Refusals.{IsOfText, IsRefusal, Rejects, in_a_log, in_a_module, in_a_piece, in_an_instance, in_all_modules, in_forms, in_names, in_the_configuration, is_missing, is_refused, is_too_long}
 use Rattle.twice_readings.proofs.OneReading.{AreGiven, Given, Parts, ProgramOf, begun_same, configured_same, expanded_same, one_expanded, form_is_one, given_form, given_same, in_order, passed_there, passing_parts, program_of, resolved_there, same_program}
 use Rattle.twice_readings.proofs.Passing.{no_piece}
 use Rattle.twice_readings.proofs.Outcomes.{one_outcome_by}

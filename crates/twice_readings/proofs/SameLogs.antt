@@ -2,24 +2,24 @@
 use Rattle.std.proofs.Common.{◌≡◌, ◌+◌, ◌-◌, ℕ, suc, List, [], ◌∷◌, ◌++◌, length, Some, Ok, inl, inr, refl, ap, sym, ◌∙◌, subst, arith}
 use Rattle.std.specs.Prelude.{drop}
 use Rattle.std.specs.List.{AllZip}
-use Rattle.trace_base.specs.Device.{File}
-use Rattle.tla_ast.specs.declared.config.Config.{Config}
-use Rattle.tla_ast.specs.declared.module.Program.{Program}
-use Rattle.tla_terms.specs.declared.operator.Operator.{Operator}
-use Rattle.tla_terms.specs.declared.spec.Spec.{Spec}
-use Rattle.spec_laws.specs.IsSpec.{IsSpec}
-use Rattle.one_outcome.specs.Outcome.{AreAlike}
-use Rattle.log_lines.specs.Files.{FileSays, first_line}
-use Rattle.log_lines.specs.declared.clocks.ClockForm.{ClockForm}
-use Rattle.log_lines.specs.declared.file.FileLines.{FileLines}
-use Rattle.spec_names.specs.Names.{names_of}
+use Rattle.base_core.specs.Device.{File}
+use Rattle.reading_trees.specs.declared.config.Config.{Config}
+use Rattle.reading_trees.specs.declared.module.Program.{Program}
+use Rattle.names_terms.specs.declared.operator.Operator.{Operator}
+use Rattle.names_terms.specs.declared.spec.Spec.{Spec}
+use Rattle.names_specification_laws.specs.IsSpec.{IsSpec}
+use Rattle.twice_tables.specs.Outcome.{AreAlike}
+use Rattle.logs_lines.specs.Files.{FileSays, first_line}
+use Rattle.logs_lines.specs.declared.clocks.ClockForm.{ClockForm}
+use Rattle.logs_lines.specs.declared.file.FileLines.{FileLines}
+use Rattle.steps_names.specs.Names.{names_of}
 use Rattle.twice_logs.specs.AlikeLogs.{AreAlikeLines}
 use Rattle.twice_logs.specs.AlikeFiles.{AreAlikeFiles}
 use Rattle.twice_logs.specs.Logs.{FilesSayAlike}
 use Rattle.twice_logs.proofs.AlikeTexts.{zip_push}
 use Rattle.run_words.specs.declared.job.Job.{Job}
-use Rattle.run_reading.specs.Texts.{HasText, LogsRead, are_several, no_logs, steps_left, with_log}
-use Rattle.run_reading.specs.Reaches.{LogSays, Reaches, has_forms, logged, reads_log}
+use Rattle.run_reading_defs.specs.Texts.{HasText, LogsRead, are_several, no_logs, steps_left, with_log}
+use Rattle.run_reading_defs.specs.Reaches.{LogSays, Reaches, has_forms, logged, reads_log}
 use Rattle.twice_readings.proofs.Stages.{LastRead, head_is, logged_by, one_longer, some_is, still_named}
 
 -- what two readings found is alike

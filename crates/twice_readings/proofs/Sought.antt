@@ -1,17 +1,17 @@
 -- The way through the modules to a file whose read would fail is the way to it where the file is not there, or is too long.
 use Rattle.std.proofs.Common.{◌≡◌, ℕ, List, [], ◌∷◌, ◌++◌, length, Option, Ok, Err, refl, sym, ap, subst}
-use Rattle.trace_base.specs.Device.{File}
-use Rattle.trace_base.specs.declared.reading.ReadFault.{ReadFault}
-use Rattle.trace_base.specs.declared.reading.ReadFault.TheVariants.{Failed}
-use Rattle.tla_ast.specs.declared.module.Made.{Made}
-use Rattle.tla_ast.specs.declared.module.Unit.{Unit as ModuleUnit}
-use Rattle.tla_modules.specs.declared.fault.LoadWhy.{LoadWhy}
-use Rattle.tla_modules.specs.declared.fault.LoadWhy.TheVariants.{Read, Lex, Lay, Parse, Cycle, TooMany, Twice, WrongName, Nested}
-use Rattle.tla_modules.specs.declared.so_far.Gathered.{Gathered}
-use Rattle.tla_modules.specs.Flattened.{OutcomeOf, Meets, Follows, Visits, Makes, MakesAll, FlattenedBy, closes_cycle, is_listed, was_read, one_too_many, is_visited, all_met, stopped, went_on, is_refused, is_nested, stopped_below, stopped_in_instance, is_whole, all_made, makes_none, not_made, is_made, passed_over, stopped_inside, has_program, begun_of_instance, nothing_read, number_of, with_module, with_name}
-use Rattle.tla_modules.specs.Paths.{file_of}
-use Rattle.tla_modules.specs.Readings.{Reading}
-use Rattle.tla_modules.specs.Refusals.{IsUnread, Refuses, RefusesBytes, misnamed, misspelled, not_good, not_read}
+use Rattle.base_core.specs.Device.{File}
+use Rattle.base_core.specs.declared.reading.ReadFault.{ReadFault}
+use Rattle.base_core.specs.declared.reading.ReadFault.TheVariants.{Failed}
+use Rattle.reading_trees.specs.declared.module.Made.{Made}
+use Rattle.reading_trees.specs.declared.module.Unit.{Unit as ModuleUnit}
+use Rattle.reading_modules.specs.declared.fault.LoadWhy.{LoadWhy}
+use Rattle.reading_modules.specs.declared.fault.LoadWhy.TheVariants.{Read, Lex, Lay, Parse, Cycle, TooMany, Twice, WrongName, Nested}
+use Rattle.reading_modules.specs.declared.so_far.Gathered.{Gathered}
+use Rattle.reading_modules.specs.Flattened.{OutcomeOf, Meets, Follows, Visits, Makes, MakesAll, FlattenedBy, closes_cycle, is_listed, was_read, one_too_many, is_visited, all_met, stopped, went_on, is_refused, is_nested, stopped_below, stopped_in_instance, is_whole, all_made, makes_none, not_made, is_made, passed_over, stopped_inside, has_program, begun_of_instance, nothing_read, number_of, with_module, with_name}
+use Rattle.reading_modules.specs.Paths.{file_of}
+use Rattle.reading_modules.specs.Readings.{Reading}
+use Rattle.reading_modules.specs.Refusals.{IsUnread, Refuses, RefusesBytes, misnamed, misspelled, not_good, not_read}
 
 -- the refusal is that of a file that is not read
 abbrev IsOfRead : LoadWhy → Type 0

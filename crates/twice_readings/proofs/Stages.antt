@@ -1,24 +1,24 @@
 -- By what each stage of reading was reached.
 use Rattle.std.proofs.Common.{◌≡◌, ◌⊎◌, ◌+◌, ℕ, zero, suc, List, [], ◌∷◌, ◌++◌, length, length-append, Option, Some, None, Ok, inl, inr, refl, ap, ◌∙◌, arith}
 use Rattle.std.specs.Prelude.{drop}
-use Rattle.trace_base.specs.Device.{File}
-use Rattle.tla_ast.specs.declared.config.Config.{Config}
-use Rattle.tla_ast.specs.declared.module.Program.{Program}
-use Rattle.tla_ast.specs.declared.module.WholeProgram.{WholeProgram}
-use Rattle.tla_modules.specs.declared.notes.Noted.{Noted}
-use Rattle.tla_modules.specs.Loads.{IsProgramBy}
-use Rattle.tla_modules.specs.Paths.{IsPath}
-use Rattle.wide_config.specs.Wide.{ReadsBy}
-use Rattle.wide_modules.specs.declared.unread.Unread.{Unread}
-use Rattle.wide_modules.specs.Wide.{reading_by}
-use Rattle.tla_terms.specs.declared.spec.Spec.{Spec}
-use Rattle.specification_names.specs.Resolving.{ResolvedBy}
-use Rattle.whole_programs.specs.Expansion.{ExpansionBy}
-use Rattle.wide_reading.specs.Passing.{Passes}
-use Rattle.log_lines.specs.declared.file.FileLines.{FileLines}
+use Rattle.base_core.specs.Device.{File}
+use Rattle.reading_trees.specs.declared.config.Config.{Config}
+use Rattle.reading_trees.specs.declared.module.Program.{Program}
+use Rattle.reading_trees.specs.declared.module.WholeProgram.{WholeProgram}
+use Rattle.reading_modules.specs.declared.notes.Noted.{Noted}
+use Rattle.reading_modules.specs.Loads.{IsProgramBy}
+use Rattle.reading_modules.specs.Paths.{IsPath}
+use Rattle.reading_wide_configuration.specs.Wide.{ReadsBy}
+use Rattle.reading_wide_modules.specs.declared.unread.Unread.{Unread}
+use Rattle.reading_wide_modules.specs.Wide.{reading_by}
+use Rattle.names_terms.specs.declared.spec.Spec.{Spec}
+use Rattle.names_specification.specs.Resolving.{ResolvedBy}
+use Rattle.names_whole_programs.specs.Expansion.{ExpansionBy}
+use Rattle.run_wide.specs.Passing.{Passes}
+use Rattle.logs_lines.specs.declared.file.FileLines.{FileLines}
 use Rattle.run_words.specs.declared.job.Job.{Job}
-use Rattle.run_reading.specs.Texts.{HasText, LogsRead, config_limit, no_logs, with_log, without_file}
-use Rattle.run_reading.specs.Reaches.{IsLog, LogSays, Reaches, configured, given, has_forms, loaded, loads, logged, needs_no_configuration, passes, reads_configuration, reads_log, resolved, resolves}
+use Rattle.run_reading_defs.specs.Texts.{HasText, LogsRead, config_limit, no_logs, with_log, without_file}
+use Rattle.run_reading_defs.specs.Reaches.{IsLog, LogSays, Reaches, configured, given, has_forms, loaded, loads, logged, needs_no_configuration, passes, reads_configuration, reads_log, resolved, resolves}
 
 pub some_is : {A : Type 0} (a b : A) → Some a ≡ Some b → a ≡ b
 some_is a b e = cc

@@ -1,34 +1,34 @@
 -- What is read without the word `--wide` is read so with it.
 use Rattle.std.proofs.Common.{◌≡◌, ℕ, List, [], ◌∷◌, ◌++◌, length, Option, Some, Ok, refl, ap, sym, ◌∙◌, subst}
 use Rattle.std.specs.Prelude.{Bool, true, false}
-use Rattle.trace_base.specs.Device.{File}
-use Rattle.tla_ast.specs.declared.config.Config.{Config}
-use Rattle.tla_ast.specs.declared.module.Made.{Made}
-use Rattle.tla_ast.specs.declared.module.Module.{Module}
-use Rattle.tla_ast.specs.declared.module.Program.{Program}
-use Rattle.tla_ast.specs.declared.module.Unit.{Unit as ModuleUnit}
-use Rattle.tla_ast.specs.declared.module.WholeProgram.{WholeProgram}
-use Rattle.tla_modules.specs.declared.notes.Noted.{Noted}
-use Rattle.tla_modules.specs.declared.so_far.Gathered.{Gathered}
-use Rattle.tla_modules.specs.Flattened as flattening
-use Rattle.tla_modules.specs.Flattened.{Follows, Makes, MakesAll, Meets, Visits, all_made, all_met, begun_of_instance, has_program, is_listed, is_made, is_visited, makes_none, noted, nothing_read, number_of, passed_over, was_read, went_on, with_module}
-use Rattle.tla_modules.specs.Loads.{IsProgramBy}
-use Rattle.tla_modules.specs.Refusals.{IsModule}
-use Rattle.wide_config.specs.Laws.{StrictIsWide}
-use Rattle.wide_config.specs.Wide.{ReadsBy}
-use Rattle.wide_modules.specs.declared.unread.Unread.{Unread}
-use Rattle.wide_modules.specs.Wide as spelling
-use Rattle.wide_modules.specs.Wide.{SpelledWide, plain, reading_by, wide}
-use Rattle.tla_terms.specs.declared.spec.Spec.{Spec}
-use Rattle.specification_names.specs.Resolving.{ResolvedBy, ResolvedWide, as_it_stands}
-use Rattle.whole_programs.specs.Expansion.{ExpansionBy}
-use Rattle.whole_programs.specs.Laws.{StrictIsWide as ExpandedStrictly}
-use Rattle.wide_reading.specs.Passing as passing
-use Rattle.wide_reading.specs.Passing.{Passes, without_word}
-use Rattle.tied_logs.specs.declared.logs.Lined.{Lined}
+use Rattle.base_core.specs.Device.{File}
+use Rattle.reading_trees.specs.declared.config.Config.{Config}
+use Rattle.reading_trees.specs.declared.module.Made.{Made}
+use Rattle.reading_trees.specs.declared.module.Module.{Module}
+use Rattle.reading_trees.specs.declared.module.Program.{Program}
+use Rattle.reading_trees.specs.declared.module.Unit.{Unit as ModuleUnit}
+use Rattle.reading_trees.specs.declared.module.WholeProgram.{WholeProgram}
+use Rattle.reading_modules.specs.declared.notes.Noted.{Noted}
+use Rattle.reading_modules.specs.declared.so_far.Gathered.{Gathered}
+use Rattle.reading_modules.specs.Flattened as flattening
+use Rattle.reading_modules.specs.Flattened.{Follows, Makes, MakesAll, Meets, Visits, all_made, all_met, begun_of_instance, has_program, is_listed, is_made, is_visited, makes_none, noted, nothing_read, number_of, passed_over, was_read, went_on, with_module}
+use Rattle.reading_modules.specs.Loads.{IsProgramBy}
+use Rattle.reading_modules.specs.Refusals.{IsModule}
+use Rattle.reading_wide_configuration.specs.Laws.{StrictIsWide}
+use Rattle.reading_wide_configuration.specs.Wide.{ReadsBy}
+use Rattle.reading_wide_modules.specs.declared.unread.Unread.{Unread}
+use Rattle.reading_wide_modules.specs.Wide as spelling
+use Rattle.reading_wide_modules.specs.Wide.{SpelledWide, plain, reading_by, wide}
+use Rattle.names_terms.specs.declared.spec.Spec.{Spec}
+use Rattle.names_specification.specs.Resolving.{ResolvedBy, ResolvedWide, as_it_stands}
+use Rattle.names_whole_programs.specs.Expansion.{ExpansionBy}
+use Rattle.names_whole_programs.specs.Laws.{StrictIsWide as ExpandedStrictly}
+use Rattle.run_wide.specs.Passing as passing
+use Rattle.run_wide.specs.Passing.{Passes, without_word}
+use Rattle.logs_tied.specs.declared.logs.Lined.{Lined}
 use Rattle.run_words.specs.declared.job.Job.{Job}
-use Rattle.run_reading.specs.Texts.{LogsRead}
-use Rattle.run_reading.specs.Reaches.{AllRead, Reaches, given, has_forms, loaded, loads, logged, needs_no_configuration, passes, reads_configuration, reads_log, resolved, resolves}
+use Rattle.run_reading_defs.specs.Texts.{LogsRead}
+use Rattle.run_reading_defs.specs.Reaches.{AllRead, Reaches, given, has_forms, loaded, loads, logged, needs_no_configuration, passes, reads_configuration, reads_log, resolved, resolves}
 use Rattle.twice_readings.specs.Readings.{GivenStaysWide, ReadingIsOne, StrictStaysWide, WideIsStrict, widened}
 use Rattle.twice_readings.proofs.Stages.{ConfiguredBy, configured_by, given_by, resolved_by}
 

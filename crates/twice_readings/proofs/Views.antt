@@ -1,37 +1,37 @@
 -- What a reading that does not go on from a stage says, stage by stage.
 use Rattle.std.proofs.Common.{◌≡◌, ◌⊎◌, inl, inr, ◌++◌, ℕ, List, [], ◌∷◌, length, None, Some, Ok, Err, refl}
-use Rattle.trace_base.specs.Device.{File, IsLonger, found}
-use Rattle.trace_base.specs.declared.place.Place.{Place}
-use Rattle.trace_base.specs.declared.reading.ReadFault.TheVariants.{Failed}
-use Rattle.tla_modules.specs.declared.fault.LoadWhy.{LoadWhy}
-use Rattle.tla_modules.specs.declared.fault.LoadWhy.TheVariants.{Read}
-use Rattle.tla_modules.specs.declared.so_far.Gathered.{Gathered}
-use Rattle.tla_modules.specs.Flattened.{FlattenedBy}
-use Rattle.tla_modules.specs.Paths.{IsPath}
-use Rattle.tla_modules.specs.Refusals.{module_limit}
-use Rattle.tla_modules.specs.Twice.{OneRepeats}
-use Rattle.tla_config.specs.declared.fault.ConfigKind.{ConfigKind}
-use Rattle.wide_config.specs.Wide.{ReadsBy}
-use Rattle.wide_modules.specs.declared.unread.Unread.{Unread}
-use Rattle.wide_modules.specs.Wide.{reading_by}
-use Rattle.tla_levels.specs.declared.fault.ResolveFault.{ResolveFault}
-use Rattle.specification_names.specs.Resolving.{ResolvedBy}
-use Rattle.tla_actions.specs.declared.fault.FormFault.{FormFault}
-use Rattle.spec_forms.specs.Forms.{IsFirstFault}
-use Rattle.whole_programs.specs.Expansion.{ExpansionBy}
-use Rattle.wide_reading.specs.Answers.{NeedsPiece}
-use Rattle.tla_ast.specs.declared.config.Config.{Config}
-use Rattle.tla_ast.specs.declared.module.Program.{Program}
-use Rattle.tla_ast.specs.declared.module.WholeProgram.{WholeProgram}
-use Rattle.tla_modules.specs.declared.notes.Noted.{Noted}
+use Rattle.base_core.specs.Device.{File, IsLonger, found}
+use Rattle.base_core.specs.declared.place.Place.{Place}
+use Rattle.base_core.specs.declared.reading.ReadFault.TheVariants.{Failed}
+use Rattle.reading_modules.specs.declared.fault.LoadWhy.{LoadWhy}
+use Rattle.reading_modules.specs.declared.fault.LoadWhy.TheVariants.{Read}
+use Rattle.reading_modules.specs.declared.so_far.Gathered.{Gathered}
+use Rattle.reading_modules.specs.Flattened.{FlattenedBy}
+use Rattle.reading_modules.specs.Paths.{IsPath}
+use Rattle.reading_modules.specs.Refusals.{module_limit}
+use Rattle.reading_modules.specs.Twice.{OneRepeats}
+use Rattle.reading_configuration.specs.declared.fault.ConfigKind.{ConfigKind}
+use Rattle.reading_wide_configuration.specs.Wide.{ReadsBy}
+use Rattle.reading_wide_modules.specs.declared.unread.Unread.{Unread}
+use Rattle.reading_wide_modules.specs.Wide.{reading_by}
+use Rattle.names_resolving.specs.declared.fault.ResolveFault.{ResolveFault}
+use Rattle.names_specification.specs.Resolving.{ResolvedBy}
+use Rattle.actions_meanings.specs.declared.fault.FormFault.{FormFault}
+use Rattle.steps_forms.specs.Forms.{IsFirstFault}
+use Rattle.names_whole_programs.specs.Expansion.{ExpansionBy}
+use Rattle.run_wide.specs.Answers.{NeedsPiece}
+use Rattle.reading_trees.specs.declared.config.Config.{Config}
+use Rattle.reading_trees.specs.declared.module.Program.{Program}
+use Rattle.reading_trees.specs.declared.module.WholeProgram.{WholeProgram}
+use Rattle.reading_modules.specs.declared.notes.Noted.{Noted}
 use Rattle.run_words.specs.declared.job.Job.{Job}
 use Rattle.run_texts.specs.Configs.{config_refusal}
 use Rattle.run_texts.specs.Files.{missing_text, too_long_text}
 use Rattle.run_texts.specs.Forms.{form_refusal}
 use Rattle.run_texts.specs.Resolved.{names_refusal}
-use Rattle.run_reading.specs.Texts.{config_limit}
-use Rattle.run_reading.specs.Reaches.{IsNext, Stage, begun, config_next, configured, given, loaded, log_next, logged, module_next, resolved}
-use Rattle.run_reading.specs.Refusals.{IsOfText, Rejects, all_files, in_a_log, in_a_module, in_a_piece, in_an_instance, in_all_modules, in_forms, in_names, in_the_configuration}
+use Rattle.run_reading_defs.specs.Texts.{config_limit}
+use Rattle.run_reading_defs.specs.Reaches.{IsNext, Stage, begun, config_next, configured, given, loaded, log_next, logged, module_next, resolved}
+use Rattle.run_reading_defs.specs.Refusals.{IsOfText, Rejects, all_files, in_a_log, in_a_module, in_a_piece, in_an_instance, in_all_modules, in_forms, in_names, in_the_configuration}
 use Rattle.std.specs.Prelude.{true}
 use Rattle.twice_readings.specs.Refusals.{Halts, at_long, at_missing, at_text}
 use Rattle.twice_readings.proofs.FileHalts.{FileHalts, file_long, file_missing, file_refused}

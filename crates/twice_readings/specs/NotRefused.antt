@@ -1,15 +1,15 @@
 -- What is read and accepted is not refused. It is said of files that tell what they hold: where they do not, a read may fail at any time.
 use Rattle.std.specs.Prelude.{ℕ, List, Some}
-use Rattle.trace_base.specs.Device.{File}
-use Rattle.tla_ast.specs.declared.config.Config.{Config}
-use Rattle.tla_ast.specs.declared.module.Program.{Program}
-use Rattle.tla_core.specs.declared.state.Shown.{Shown}
-use Rattle.tla_terms.specs.declared.spec.Spec.{Spec}
-use Rattle.tied_logs.specs.declared.logs.Lined.{Lined}
+use Rattle.base_core.specs.Device.{File}
+use Rattle.reading_trees.specs.declared.config.Config.{Config}
+use Rattle.reading_trees.specs.declared.module.Program.{Program}
+use Rattle.states_core.specs.declared.state.Shown.{Shown}
+use Rattle.names_terms.specs.declared.spec.Spec.{Spec}
+use Rattle.logs_tied.specs.declared.logs.Lined.{Lined}
 use Rattle.run_words.specs.declared.job.Job.{Job}
-use Rattle.run_reading.specs.Given.{AllGiven, IsGivenRefusal}
-use Rattle.run_reading.specs.Reaches.{AllRead}
-use Rattle.run_reading.specs.Refusals.{IsRefusal}
+use Rattle.run_reading_defs.specs.Given.{AllGiven, IsGivenRefusal}
+use Rattle.run_reading_defs.specs.Reaches.{AllRead}
+use Rattle.run_reading_defs.specs.Refusals.{IsRefusal}
 
 -- what `validate` reads
 abbrev pub ReadNotRefused : Type 0

@@ -1,17 +1,17 @@
 -- Two readings of the same files come to the same. It is said of files that tell what they hold. And what is read without the word `--wide` is read so with it.
 use Rattle.std.specs.Prelude.{◌≡◌, ℕ, true, false, List, Option, Some}
-use Rattle.trace_base.specs.Device.{File}
-use Rattle.tla_ast.specs.declared.config.Config.{Config}
-use Rattle.tla_ast.specs.declared.module.Program.{Program}
-use Rattle.tla_core.specs.declared.state.Shown.{Shown}
-use Rattle.tla_terms.specs.declared.spec.Spec.{Spec}
-use Rattle.spec_laws.specs.IsSpec.{IsSpec}
-use Rattle.one_outcome.specs.Outcome.{AreAlike}
-use Rattle.tied_logs.specs.declared.logs.Lined.{Lined}
+use Rattle.base_core.specs.Device.{File}
+use Rattle.reading_trees.specs.declared.config.Config.{Config}
+use Rattle.reading_trees.specs.declared.module.Program.{Program}
+use Rattle.states_core.specs.declared.state.Shown.{Shown}
+use Rattle.names_terms.specs.declared.spec.Spec.{Spec}
+use Rattle.names_specification_laws.specs.IsSpec.{IsSpec}
+use Rattle.twice_tables.specs.Outcome.{AreAlike}
+use Rattle.logs_tied.specs.declared.logs.Lined.{Lined}
 use Rattle.twice_logs.specs.LinedBeside.{AreAlikeLined}
 use Rattle.run_words.specs.declared.job.Job.{Job}
-use Rattle.run_reading.specs.Given.{AllGiven}
-use Rattle.run_reading.specs.Reaches.{AllRead}
+use Rattle.run_reading_defs.specs.Given.{AllGiven}
+use Rattle.run_reading_defs.specs.Reaches.{AllRead}
 
 -- One program and one configuration, and specifications in order that differ by the numbers of definitions alone, as the lines of the logs do.
 pub record AreSame (p q : Program) (c d : Config) (s t : Spec) (lined other : Lined) : Type 0 where

@@ -1,17 +1,17 @@
 -- Two refusals of one run are one, at whatever counts of faults. It is said of files that tell what they hold, where two refusals of the modules are one, and two for a
 -- piece that is needed and was not read.
 use Rattle.std.specs.Prelude.{◌≡◌, ℕ, List, None, Some, Ok}
-use Rattle.trace_base.specs.Device.{File, IsLonger, found}
-use Rattle.tla_ast.specs.declared.config.Config.{Config}
-use Rattle.tla_ast.specs.declared.module.Program.{Program}
-use Rattle.tla_ast.specs.declared.module.WholeProgram.{WholeProgram}
-use Rattle.tla_modules.specs.declared.notes.Noted.{Noted}
-use Rattle.whole_programs.specs.Expansion.{ExpansionBy}
-use Rattle.wide_modules.specs.declared.unread.Unread.{Unread}
+use Rattle.base_core.specs.Device.{File, IsLonger, found}
+use Rattle.reading_trees.specs.declared.config.Config.{Config}
+use Rattle.reading_trees.specs.declared.module.Program.{Program}
+use Rattle.reading_trees.specs.declared.module.WholeProgram.{WholeProgram}
+use Rattle.reading_modules.specs.declared.notes.Noted.{Noted}
+use Rattle.names_whole_programs.specs.Expansion.{ExpansionBy}
+use Rattle.reading_wide_modules.specs.declared.unread.Unread.{Unread}
 use Rattle.run_words.specs.declared.job.Job.{Job}
 use Rattle.run_texts.specs.Files.{missing_text, too_long_text}
-use Rattle.run_reading.specs.Reaches.{IsNext, Reaches, Stage, begun, given}
-use Rattle.run_reading.specs.Refusals.{IsRefusal, Rejects}
+use Rattle.run_reading_defs.specs.Reaches.{IsNext, Reaches, Stage, begun, given}
+use Rattle.run_reading_defs.specs.Refusals.{IsRefusal, Rejects}
 
 -- reading does not go on from that stage, and this is the report: the file that is next is missing or too long, or what is read or tested next is refused
 pub data Halts (files : List File) (job : Job) (stage : Stage) : List ℕ → Type 0 where

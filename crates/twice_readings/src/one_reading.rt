@@ -1,18 +1,17 @@
 ghost use Rattle.twice_readings.specs.Readings.{GivenIsOne, GivenStaysWide, ReadingIsOne, StrictStaysWide, WideIsStrict};
 
-use expanded_laws::expanded_laws;
-use load_laws::configuration_laws;
-use one_outcome::outcome_laws;
-use one_program::one_program_laws;
-use resolved_laws::resolved_laws;
-use state_files::state_laws;
+use names_expanded_laws::{expanded_laws, wide_load_laws};
+use names_load_laws::configuration_laws;
+use names_pruning::pruning_laws;
+use names_resolved_laws::resolved_laws;
+use names_whole_programs::expansion_laws;
+use reading_laws::one_program_laws;
+use reading_wide_configuration::one_configuration_by;
+use reading_wide_modules::wide_program_laws;
+use run_wide::passing_laws;
+use states_files::state_laws;
 use twice_logs::{alike_lined_laws, alike_logs_laws};
-use whole_programs::expansion_laws;
-use wide_config::one_configuration_by;
-use wide_load_laws::wide_load_laws;
-use wide_modules::wide_program_laws;
-use wide_reading::passing_laws;
-use wide_trees::pruning_laws;
+use twice_tables::outcome_laws;
 
 /// Where files tell what they hold, each job reads one program and one configuration of them, and specifications and logs that differ by the
 /// numbers of definitions alone; and a file of states says the same states beside each of them.

@@ -1,10 +1,10 @@
 use Rattle.std.proofs.Common.{refl, subst, ap, List, inl, Ok}
 use Rattle.std.specs.Prelude.{◌↔◌, IsTrue, Contains}
-use Rattle.trace_base.specs.declared.place.Place.{Place}
-use Rattle.tla_values.specs.Data.{Val}
-use Rattle.eval_sets.specs.Membership.{Belongs}
-use Rattle.tla_eval.specs.Sets.{set_at}
-use Rattle.tla_terms.specs.Terms.{place_of}
+use Rattle.base_core.specs.declared.place.Place.{Place}
+use Rattle.values_core.specs.Data.{Val}
+use Rattle.values_sets.specs.Membership.{Belongs}
+use Rattle.eval_meanings.specs.Sets.{set_at}
+use Rattle.names_terms.specs.Terms.{place_of}
 use Rattle.eval_parts.proofs.answered.has_part.Goals as goal
 
 pub returns-in-Ok : goal.returns-in-Ok

@@ -1,8 +1,8 @@
 use Rattle.std.proofs.Common.{ap, subst}
-use Rattle.trace_base.specs.declared.place.Place.{Place}
-use Rattle.tla_eval.specs.Answers.{Tells}
-use Rattle.tla_eval.specs.Sets.{IntervalDescribed}
-use Rattle.tla_terms.specs.Terms.{place_of}
+use Rattle.base_core.specs.declared.place.Place.{Place}
+use Rattle.eval_meanings.specs.Answers.{Tells}
+use Rattle.eval_meanings.specs.Sets.{IntervalDescribed}
+use Rattle.names_terms.specs.Terms.{place_of}
 use Rattle.eval_parts.proofs.answered.interval_of.Goals as goal
 
 pub returns-clause-fine : goal.returns-clause-fine

@@ -1,9 +1,9 @@
-use Rattle.tla_values.specs.Sets.{items_of}
-use Rattle.tla_eval.specs.Binders.{members_at}
-use Rattle.tla_eval.specs.Outcomes.{Then}
-use Rattle.tla_eval.specs.Sets.{IsWithin, set_at}
-use Rattle.tla_eval.proofs.Telling.{tells_then}
-use Rattle.tla_terms.specs.Terms.{place_of}
+use Rattle.values_core.specs.Sets.{items_of}
+use Rattle.eval_meanings.specs.Binders.{members_at}
+use Rattle.eval_meanings.specs.Outcomes.{Then}
+use Rattle.eval_meanings.specs.Sets.{IsWithin, set_at}
+use Rattle.eval_meanings.proofs.Telling.{tells_then}
+use Rattle.names_terms.specs.Terms.{place_of}
 use Rattle.eval_parts.proofs.Rows.{members_of}
 use Rattle.eval_parts.proofs.answered.is_part.Goals as goal
 

@@ -1,6 +1,6 @@
 use Rattle.std.proofs.Common.{◌≡◌, ◌<◌, ◌≤◌, ◌+◌, ℕ, List, length, map, take, subst, arith}
 use Rattle.std.proofs.lemmas.List.{length-map}
-use Rattle.tla_values.specs.Data.{Val}
+use Rattle.values_core.specs.Data.{Val}
 use Rattle.eval_parts.specs.BoundSets.{HasMembers, bound_members, bound_value}
 use Rattle.eval_parts.proofs.BoundLemmas.{all_taken, has_members, no_members, taken_more}
 use Rattle.eval_parts.proofs.Loops.{EachSoFar, cut_at, cut_mapped, each_ends, each_goes_on, each_stops}

@@ -1,7 +1,7 @@
 use Rattle.std.proofs.Common.{◌≡◌, ◌<◌, ◌+◌, ◌++◌, ◌∷◌, List, length, map, drop, ap, sym, subst, ◌∙◌, arith}
-use Rattle.tla_values.specs.Data.{Val}
-use Rattle.tla_values.specs.Sets.{items_of}
-use Rattle.tla_eval.specs.Binders.{ranges, times}
+use Rattle.values_core.specs.Data.{Val}
+use Rattle.values_core.specs.Sets.{items_of}
+use Rattle.eval_meanings.specs.Binders.{ranges, times}
 use Rattle.eval_parts.specs.BoundSets.{bound_members}
 use Rattle.eval_parts.specs.Walks.{AllDiffer}
 use Rattle.eval_parts.specs.declared.bound_values.BoundSet.{BoundSet}

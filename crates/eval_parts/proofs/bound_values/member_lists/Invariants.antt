@@ -1,5 +1,5 @@
 use Rattle.std.proofs.Common.{◌≡◌, ◌++◌, map, drop}
-use Rattle.tla_eval.specs.Binders.{ranges}
+use Rattle.eval_meanings.specs.Binders.{ranges}
 use Rattle.eval_parts.specs.BoundSets.{bound_members}
 use Rattle.eval_parts.specs.Walks.{AllDiffer}
 use Rattle.eval_parts.proofs.bound_values.member_lists.Given as goal

@@ -1,6 +1,6 @@
 use Rattle.std.proofs.Common.{◌≡◌, ◌≤◌, ◌<◌, ◌+◌, ◌-◌, List, length, get_or, map, refl, sym, ◌∙◌, arith}
 use Rattle.std.proofs.lemmas.List.{length-map}
-use Rattle.tla_values.specs.Data.{Val}
+use Rattle.values_core.specs.Data.{Val}
 use Rattle.eval_parts.proofs.Loops.{cut_at, cut_mapped}
 use Rattle.eval_parts.proofs.Walking.{places_length, seen, turned_first, turned_on, was_last, went_on}
 use Rattle.eval_parts.proofs.bound_values.next_places.Goals as goal

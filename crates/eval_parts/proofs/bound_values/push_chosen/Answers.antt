@@ -1,6 +1,6 @@
 use Rattle.std.proofs.Common.{◌≡◌, ◌<◌, ◌++◌, ◌∷◌, [], List, length, get_or, map, refl, ap, sym, ◌∙◌, arith}
 use Rattle.std.proofs.lemmas.List.{length-map, map-append}
-use Rattle.tla_values.specs.Data.{Val}
+use Rattle.values_core.specs.Data.{Val}
 use Rattle.eval_parts.specs.Walks.{at_places}
 use Rattle.eval_parts.proofs.Loops.{cut_at, cut_mapped}
 use Rattle.eval_parts.proofs.Walking.{chosen_more, member_there, places_length}

@@ -1,5 +1,5 @@
 use Rattle.std.proofs.Common.{List}
-use Rattle.tla_values.specs.Data.{Val}
+use Rattle.values_core.specs.Data.{Val}
 use Rattle.eval_parts.proofs.Walking.{pushed_time}
 use Rattle.eval_parts.proofs.bound_values.push_times.Goals as goal
 use denote.Ref.{Bor}

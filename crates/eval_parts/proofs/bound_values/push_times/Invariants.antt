@@ -1,5 +1,5 @@
 use Rattle.std.proofs.Common.{◌≡◌, ◌++◌, map}
-use Rattle.tla_eval.specs.Binders.{times}
+use Rattle.eval_meanings.specs.Binders.{times}
 use Rattle.eval_parts.proofs.bound_values.push_times.Given as goal
 
 abbrev pub invariant-loop : goal.invariant-loop

@@ -1,5 +1,5 @@
 use Rattle.std.proofs.Common.{◌<◌, List, length, map, arith}
-use Rattle.tla_values.specs.Data.{Val}
+use Rattle.values_core.specs.Data.{Val}
 use Rattle.eval_parts.proofs.Loops.{cut_at, cut_mapped}
 use Rattle.eval_parts.proofs.Walking.{started}
 use Rattle.eval_parts.proofs.bound_values.start.Goals as goal

@@ -1,5 +1,5 @@
 use Rattle.std.proofs.Common.{ap}
-use Rattle.tla_terms.specs.Terms.{place_of}
+use Rattle.names_terms.specs.Terms.{place_of}
 use Rattle.eval_parts.proofs.ChangeWalk.{inside_refused, inside_told}
 use Rattle.eval_parts.proofs.changing.inside_at.Goals as goal
 

@@ -1,6 +1,6 @@
 use Rattle.std.proofs.Common.{◌≡◌, ℕ, zero, suc, refl, [], ◌∷◌, arith}
-use Rattle.trace_base.specs.declared.place.Place.{Place}
-use Rattle.tla_eval.specs.Outcomes.{place_in}
+use Rattle.base_core.specs.declared.place.Place.{Place}
+use Rattle.eval_meanings.specs.Outcomes.{place_in}
 use Rattle.eval_parts.proofs.changing.operand_place.Goals as goal
 
 first_operand : (at base : Place) (n : ℕ) → n ≡ 0 → base ≡ place_in at (base ∷ []) n

@@ -1,6 +1,6 @@
 use Rattle.std.proofs.Common.{◌≡◌, ◌∙◌, ◌-◌, ap, suc, length, sym, arith}
-use Rattle.tla_terms.specs.Terms.{place_of}
-use Rattle.tla_terms.specs.declared.term.StepAt.{StepAt}
+use Rattle.names_terms.specs.Terms.{place_of}
+use Rattle.names_terms.specs.declared.term.StepAt.{StepAt}
 use Rattle.eval_parts.proofs.StepWalk.{last_place, no_place}
 use Rattle.eval_parts.proofs.changing.place_behind.Goals as goal
 

@@ -1,6 +1,6 @@
 use Rattle.std.proofs.Common.{◌≡◌, ◌<◌, ◌≤◌, length, map, ap, ◌∙◌, arith}
 use Rattle.std.proofs.lemmas.List.{length-map}
-use Rattle.tla_terms.specs.TermViews.{step_item}
+use Rattle.names_terms.specs.TermViews.{step_item}
 use Rattle.eval_parts.specs.ChangePaths.{primes_in}
 use Rattle.eval_parts.proofs.Loops.{cut_at, cut_mapped}
 use Rattle.eval_parts.proofs.StepWalk.{no_primes, one_prime, primes_from, steps_are}

@@ -1,5 +1,5 @@
 use Rattle.std.proofs.Common.{◌≡◌, ◌≤◌, ◌+◌, drop, map}
-use Rattle.tla_terms.specs.TermViews.{step_item}
+use Rattle.names_terms.specs.TermViews.{step_item}
 use Rattle.eval_parts.specs.ChangePaths.{primes_in}
 use Rattle.eval_parts.proofs.changing.primes_among.Given as goal
 

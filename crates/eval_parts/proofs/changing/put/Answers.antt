@@ -1,7 +1,7 @@
 use Rattle.std.proofs.Common.{refl, subst}
 use Rattle.std.specs.Prelude.{Err}
-use Rattle.tla_values.specs.declared.fault.OpFault.{OpFault}
-use Rattle.tla_values.specs.FunctionOperations.{Excepts}
+use Rattle.values_core.specs.declared.fault.OpFault.{OpFault}
+use Rattle.values_core.specs.FunctionOperations.{Excepts}
 use Rattle.eval_parts.proofs.changing.put.Goals as goal
 
 pub returns-in-Err-Refused : goal.returns-in-Err-Refused

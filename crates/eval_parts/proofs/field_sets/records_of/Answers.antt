@@ -1,7 +1,7 @@
 use Rattle.std.proofs.Common.{map}
-use Rattle.eval_sets.specs.DescribedSets.{Records}
-use Rattle.tla_eval.specs.Outcomes.{Each, Gives}
-use Rattle.tla_eval.specs.Sets.{fields_of}
+use Rattle.values_sets.specs.DescribedSets.{Records}
+use Rattle.eval_meanings.specs.Outcomes.{Each, Gives}
+use Rattle.eval_meanings.specs.Sets.{fields_of}
 use Rattle.eval_parts.specs.ChangePaths.{SetOfField, part_item}
 use Rattle.eval_parts.proofs.RecordSets.{names_apart, records_told}
 use Rattle.eval_parts.proofs.Rows.{stops_then}

@@ -2,10 +2,10 @@ use Rattle.std.proofs.Common.{List, [], length, map, ap, sym, ◌∙◌, subst, 
 use Rattle.std.proofs.lemmas.List.Elements.{All-head, All-tail}
 use Rattle.std.specs.List.{All}
 use Rattle.std.specs.Vec.Iter.{into_iter_items}
-use Rattle.eval_sets.specs.DescribedSets.{Described, fields_list}
-use Rattle.eval_sets.specs.DescribedViews.{field_item}
-use Rattle.tla_eval.specs.Answers.{IsReady}
-use Rattle.tla_values.specs.Data.{Val}
+use Rattle.values_sets.specs.DescribedSets.{Described, fields_list}
+use Rattle.values_sets.specs.DescribedViews.{field_item}
+use Rattle.eval_meanings.specs.Answers.{IsReady}
+use Rattle.values_core.specs.Data.{Val}
 use Rattle.eval_parts.specs.ChangePaths.{SetOfField, part_item}
 use Rattle.eval_parts.specs.declared.field_sets.Part.{Part}
 use Rattle.eval_parts.proofs.RecordSets.{EachLeft, ListIsSound, left_begins, left_ends, left_goes_on, left_stops, list_sound, none_left, sound_more}

@@ -1,8 +1,8 @@
 use Rattle.std.proofs.Common.{◌≡◌, length, map}
 use Rattle.std.specs.List.{All}
 use Rattle.std.specs.Vec.Iter.{into_iter_items, into_iter_len}
-use Rattle.eval_sets.specs.DescribedSets.{fields_list}
-use Rattle.tla_eval.specs.Answers.{IsReady}
+use Rattle.values_sets.specs.DescribedSets.{fields_list}
+use Rattle.eval_meanings.specs.Answers.{IsReady}
 use Rattle.eval_parts.specs.ChangePaths.{SetOfField, part_item}
 use Rattle.eval_parts.proofs.RecordSets.{EachLeft, ListIsSound}
 use Rattle.eval_parts.proofs.field_sets.sound_fields.Given as goal

@@ -1,5 +1,5 @@
 use Rattle.std.proofs.Common.{◌≡◌, ◌<◌, ◌≤◌, ◌++◌, ◌∷◌, [], List, length, map, ap, ◌∙◌, arith}
-use Rattle.tla_terms.specs.Terms.{Term, place_of}
+use Rattle.names_terms.specs.Terms.{Term, place_of}
 use Rattle.eval_parts.proofs.Loops.{cut_at, of_items, places_on, places_end}
 use Rattle.eval_parts.proofs.operands.places_of.Goals as goal
 

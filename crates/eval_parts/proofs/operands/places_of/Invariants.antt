@@ -1,5 +1,5 @@
 use Rattle.std.proofs.Common.{◌≡◌, ◌++◌, map, drop}
-use Rattle.tla_terms.specs.Terms.{place_of}
+use Rattle.names_terms.specs.Terms.{place_of}
 use Rattle.eval_parts.proofs.operands.places_of.Given as goal
 
 abbrev pub invariant-loop-term : goal.invariant-loop-term

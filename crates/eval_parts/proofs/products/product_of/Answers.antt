@@ -1,9 +1,9 @@
 use Rattle.std.proofs.Common.{◌≡◌, List, Bool, ap, sym, ◌∙◌, length, arith}
 use Rattle.std.specs.Vec.Iter.{into_iter_items}
-use Rattle.trace_base.specs.declared.place.Place.{Place}
-use Rattle.eval_sets.specs.DescribedSets.{Described, Product, parts_list}
-use Rattle.tla_eval.specs.Outcomes.{Gives, Outcome}
-use Rattle.tla_eval.specs.Sets.{parts_of, set_at}
+use Rattle.base_core.specs.declared.place.Place.{Place}
+use Rattle.values_sets.specs.DescribedSets.{Described, Product, parts_list}
+use Rattle.eval_meanings.specs.Outcomes.{Gives, Outcome}
+use Rattle.eval_meanings.specs.Sets.{parts_of, set_at}
 use Rattle.eval_parts.proofs.ProductLemmas.{each_before_ends, each_before_more, each_before_stops, product_told, ready_rest, sound_pushed}
 use Rattle.eval_parts.proofs.products.product_of.Goals as goal
 

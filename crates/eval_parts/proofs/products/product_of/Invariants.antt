@@ -1,8 +1,8 @@
 use Rattle.std.proofs.Common.{◌≡◌, length}
 use Rattle.std.specs.Vec.Iter.{into_iter_items, into_iter_len}
-use Rattle.eval_sets.specs.DescribedSets.{parts_list}
-use Rattle.eval_sets.specs.Soundness.{PartsAreSound}
-use Rattle.tla_eval.specs.Sets.{set_at}
+use Rattle.values_sets.specs.DescribedSets.{parts_list}
+use Rattle.values_sets.specs.Soundness.{PartsAreSound}
+use Rattle.eval_meanings.specs.Sets.{set_at}
 use Rattle.eval_parts.specs.ReadyParts.{AreReady}
 use Rattle.eval_parts.proofs.ProductLemmas.{EachBefore}
 use Rattle.eval_parts.proofs.products.product_of.Given as goal

@@ -1,4 +1,4 @@
-use Rattle.tla_terms.specs.Terms.{Term}
+use Rattle.names_terms.specs.Terms.{Term}
 use Rattle.eval_parts.proofs.RecursionLemmas.{set_pushed}
 use Rattle.eval_parts.proofs.recursion.push_times.Goals as goal
 use denote.Ref.{Bor}

@@ -1,8 +1,8 @@
 use Rattle.std.proofs.Common.{◌≡◌, ◌<◌, ◌≤◌, ◌++◌, List, length, map, ap, sym, ◌∙◌, ℕ, arith}
 use Rattle.std.proofs.lemmas.List.{append-nil, length-map}
-use Rattle.tla_terms.specs.Terms.{Term}
-use Rattle.tla_terms.specs.TermViews.{bound_item}
-use Rattle.tla_eval.specs.Recursion.{sets_of_names}
+use Rattle.names_terms.specs.Terms.{Term}
+use Rattle.names_terms.specs.TermViews.{bound_item}
+use Rattle.eval_meanings.specs.Recursion.{sets_of_names}
 use Rattle.eval_parts.proofs.BoundLemmas.{bounds_are}
 use Rattle.eval_parts.proofs.Loops.{cut_at, cut_end, cut_mapped}
 use Rattle.eval_parts.proofs.RecursionLemmas.{sets_pushed}

@@ -1,6 +1,6 @@
 use Rattle.std.proofs.Common.{◌≡◌, ◌++◌, map, drop}
-use Rattle.tla_terms.specs.TermViews.{bound_item}
-use Rattle.tla_eval.specs.Recursion.{sets_of_names}
+use Rattle.names_terms.specs.TermViews.{bound_item}
+use Rattle.eval_meanings.specs.Recursion.{sets_of_names}
 use Rattle.eval_parts.proofs.recursion.sets_of_names.Given as goal
 
 abbrev pub invariant-loop-bound : goal.invariant-loop-bound

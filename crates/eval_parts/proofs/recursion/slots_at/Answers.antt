@@ -1,7 +1,7 @@
 use Rattle.std.proofs.Common.{◌≡◌, ◌≤◌, ◌++◌, ◌∷◌, [], List, length, map, ap, sym, ◌∙◌, arith}
 use Rattle.std.proofs.lemmas.List.{length-map, map-append, take_all}
-use Rattle.tla_values.specs.Data.{Val}
-use Rattle.tla_terms.specs.Terms.{Term}
+use Rattle.values_core.specs.Data.{Val}
+use Rattle.names_terms.specs.Terms.{Term}
 use Rattle.eval_parts.proofs.Loops.{slots_end}
 use Rattle.eval_parts.proofs.RecursionLemmas.{is_sequence, many_names, one_name}
 use Rattle.eval_parts.proofs.recursion.slots_at.Goals as goal

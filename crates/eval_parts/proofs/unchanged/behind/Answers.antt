@@ -1,5 +1,5 @@
 use Rattle.std.proofs.Common.{◌≡◌, ◌<◌, ◌-◌, ◌+◌, ℕ, min, length, ap, sym, ◌∙◌, arith}
-use Rattle.tla_eval.specs.Unchanged.{behind}
+use Rattle.eval_meanings.specs.Unchanged.{behind}
 use Rattle.eval_parts.specs.Scenes.{table}
 use Rattle.eval_parts.proofs.FollowingLemmas.{behind_more, behind_stops}
 use Rattle.eval_parts.proofs.unchanged.behind.Goals as goal

@@ -1,5 +1,5 @@
 use Rattle.std.proofs.Common.{◌≡◌, ◌-◌, ◌≤◌, length}
-use Rattle.tla_eval.specs.Unchanged.{behind}
+use Rattle.eval_meanings.specs.Unchanged.{behind}
 use Rattle.eval_parts.specs.Scenes.{context, table}
 use Rattle.eval_parts.proofs.unchanged.behind.Given as goal
 

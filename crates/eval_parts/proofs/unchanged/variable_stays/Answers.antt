@@ -1,6 +1,6 @@
 use Rattle.std.proofs.Common.{Bool, Ok, subst, sym}
-use Rattle.tla_eval.specs.Evaluates.{Evaluates}
-use Rattle.tla_eval.specs.Unchanged.{StaysSame}
+use Rattle.eval_meanings.specs.Evaluates.{Evaluates}
+use Rattle.eval_meanings.specs.Unchanged.{StaysSame}
 use Rattle.eval_parts.specs.Following.{variable_at}
 use Rattle.eval_parts.specs.Scenes.{context, table}
 use Rattle.eval_parts.proofs.FollowingLemmas.{reads_known, stays_known}

@@ -1,6 +1,6 @@
 use Rattle.std.proofs.Common.{List, ap, sym, ◌∙◌}
 use Rattle.std.specs.List.{take-map}
-use Rattle.tla_values.specs.Data.{Val}
+use Rattle.values_core.specs.Data.{Val}
 use Rattle.eval_parts.specs.Scenes.{context, with_slots}
 use Rattle.eval_parts.proofs.unchanged.within.Goals as goal
 

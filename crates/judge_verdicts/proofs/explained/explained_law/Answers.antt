@@ -1,4 +1,4 @@
-use Rattle.ready_specs.specs.Beside.{asked}
+use Rattle.steps_ready_defs.specs.Beside.{asked}
 use Rattle.judge_verdicts.proofs.Explaining.{behaves_over, explained_valid}
 use Rattle.judge_verdicts.proofs.explained.explained_law.Goals as goal
 

@@ -1,9 +1,14 @@
-use Rattle.std.proofs.Common.{◌≡◌, ℕ, List, subst, sym, arith, length}
-use Rattle.tla_ast.specs.declared.config.Config.{Config}
-use Rattle.run_reading.specs.Texts.{HasText, config_limit}
-use Rattle.run_reading.specs.Reaches.{Reaches, config_next, given, loaded, needs_no_configuration}
+use Rattle.std.proofs.Common.{◌≡◌, ◌++◌, ◌∷◌, [], ℕ, List, Err, subst, sym, arith, length}
+use Rattle.base_core.specs.declared.place.Place.{Place}
+use Rattle.reading_trees.specs.declared.config.Config.{Config}
+use Rattle.reading_configuration.specs.declared.fault.ConfigKind.{ConfigKind}
+use Rattle.reading_wide_configuration.specs.Wide.{ReadsBy}
+use Rattle.run_texts.specs.Configs.{config_refusal}
+use Rattle.run_reading_defs.specs.Texts.{HasText, config_limit}
+use Rattle.run_reading_defs.specs.Reaches.{Reaches, config_next, given, loaded, needs_no_configuration}
 use Rattle.run_stages.proofs.Reached.{loaded_few}
 use Rattle.run_stages.proofs.Stopping.{config_accepted, config_refused}
+use Rattle.run_stages.proofs.Told.{on_ok, refused_are_told}
 use Rattle.run_stages.proofs.configs.read_config.Goals as goal
 
 pub read_wanted-requires : goal.read_wanted-requires
@@ -33,3 +38,12 @@ returns-in_ok-text-in-Some-clause-stopped g c =
     let has = subst (λ (t : List ℕ). HasText holds c.in-Some.name config_limit t) (sym c.as_slice.ensures.value) c.in_ok-text-in-Some.ensures.text in
     config_refused holds (g.F.Files.faults c.args.files.now) (g.F.Files.faults c.read_wanted.new.files) c.args.job.now c.args.modules.now.program c.args.modules.now.notes c.in-Some.name c.as_slice.result.now
     c.config_of.result c.requires.reaches c.in-Some.is has c.config_of.ensures.refused
+
+pub returns-in_ok-text-in-Some-clause-quiet : goal.returns-in_ok-text-in-Some-clause-quiet
+returns-in_ok-text-in-Some-clause-quiet g c = on_ok c.config_of.result c.in_ok-text-in-Some.ensures.quiet
+
+pub returns-in_ok-text-in-Some-clause-told : goal.returns-in_ok-text-in-Some-clause-told
+returns-in_ok-text-in-Some-clause-told g c =
+    let program = c.args.modules.now.program.program in
+    let refusing : List ℕ → Type 0 = λ report. (kind : ConfigKind) × (at : Place) × ReadsBy c.args.job.now.wide (length program.files) c.in-Some.name c.as_slice.result.now (Err (kind, at)) × (report ≡ config_refusal (program.files ++ c.in-Some.name ∷ []) kind at) in
+    refused_are_told (g.F.Files.failures c.args.files.now) (g.F.Files.failures c.read_wanted.new.files) refusing c.config_of.result c.in_ok-text-in-Some.ensures.quiet c.config_of.ensures.refused

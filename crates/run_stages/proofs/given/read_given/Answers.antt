@@ -1,15 +1,16 @@
-use Rattle.std.proofs.Common.{rules, ◌≡◌, ℕ, List, [], IfErr, Option, Err, sym, subst}
-use Rattle.trace_base.specs.Device.{File}
-use Rattle.state_files.specs.Files.{StateFileSays}
-use Rattle.state_files.specs.declared.refusal.StateRefusal.{StateRefusal}
+use Rattle.std.proofs.Common.{rules, ◌∙◌, ◌≡◌, ℕ, List, [], IfErr, Option, Err, sym, subst}
+use Rattle.base_core.specs.Device.{File}
+use Rattle.states_files.specs.Files.{StateFileSays}
+use Rattle.states_files.specs.declared.refusal.StateRefusal.{StateRefusal}
 use Rattle.run_texts.specs.GivenStates.{states_refusal}
-use Rattle.run_reading.specs.Texts.{HasText}
-use Rattle.run_reading.specs.Reaches.{Reaches, logged}
-use Rattle.run_reading.specs.Given.{states_limit, wants_states}
-use Rattle.run_stages.specs.Stops.{RefusedWith, StopsBy}
+use Rattle.run_reading_defs.specs.Texts.{HasText}
+use Rattle.run_reading_defs.specs.Reaches.{Reaches, logged}
+use Rattle.run_reading_defs.specs.Given.{states_limit, wants_states}
+use Rattle.run_stages.specs.Stops.{IsToldBy, RefusedWith, StopsBy}
 use Rattle.run_stages.specs.GivenStops.{GivenStopsBy}
 use Rattle.run_stages.proofs.GivenStopping.{err_given_later, states_stop, stop_before}
 use Rattle.run_stages.proofs.Stopping.{err_mapped}
+use Rattle.run_stages.proofs.Told.{are_told_from, refused_are_told}
 use Rattle.run_stages.proofs.given.read_given.Goals as goal
 
 pub returns-in_err-accepted-clause-stopped : goal.returns-in_err-accepted-clause-stopped
@@ -63,3 +64,20 @@ returns-clause-accepted g c =
           (subst (λ (h : Option (List File)). HasText h c.args.witness.now states_limit c.in_ok-text.text.items) c.read_all.ensures.same c.in_ok-text.ensures.text);
       says = c.in_ok-states.ensures.says;
     }
+
+-- which calls on files failed
+
+pub returns-in_err-text-clause-told : goal.returns-in_err-text-clause-told
+returns-in_err-text-clause-told g c =
+    let q : IfErr c.from_residual-in_err-text.result (IsToldBy (g.F.Files.failures c.read_all.new.files) (g.F.Files.failures c.read_witness.new.files)) =
+    search (rules, c.from_residual-in_err-text.ensures, c.in_err-text.ensures.told, c.in_err-text.is) in
+    are_told_from (g.F.Files.failures c.args.files.now) (g.F.Files.failures c.read_all.new.files) (g.F.Files.failures c.read_witness.new.files) c.from_residual-in_err-text.result
+    c.in_ok-accepted.ensures.quiet q
+
+pub returns-in_err-states-clause-told : goal.returns-in_err-states-clause-told
+returns-in_err-states-clause-told g c =
+    let a = c.in_ok-accepted.accepted in
+    let says : List ℕ → Type 0 = λ report. (refusal : StateRefusal) × StateFileSays a.spec.variables c.as_slice.result.now (Err refusal) × (report ≡ states_refusal c.args.witness.now refusal) in
+    let q : IfErr c.from_residual-in_err-states.result (RefusedWith says) = search (rules, c.from_residual-in_err-states.ensures, c.in_err-states.ensures.refused, c.in_err-states.is) in
+    refused_are_told (g.F.Files.failures c.args.files.now) (g.F.Files.failures c.read_witness.new.files) says c.from_residual-in_err-states.result
+    (c.in_ok-text.ensures.quiet ∙ c.in_ok-accepted.ensures.quiet) q

@@ -1,11 +1,14 @@
 use Rattle.std.proofs.Common.{◌≡◌, ℕ, List, Ok, Err, subst, sym}
-use Rattle.tla_modules.specs.Loads.{LoadsBy}
-use Rattle.tla_modules.specs.Paths.{IsPath}
-use Rattle.run_reading.proofs.Parts.{path_parts}
-use Rattle.tla_modules.specs.declared.fault.LoadFault.TheVariants as faults
-use Rattle.wide_modules.specs.Wide.{reading_by}
-use Rattle.run_reading.specs.Reaches.{loads}
+use Rattle.reading_modules.specs.Loads.{LoadsBy}
+use Rattle.reading_modules.specs.Paths.{IsPath}
+use Rattle.run_reading_defs.proofs.Parts.{path_parts}
+use Rattle.reading_modules.specs.declared.fault.LoadFault.TheVariants as faults
+use Rattle.reading_wide_modules.specs.Wide.{reading_by}
+use Rattle.run_reading_defs.specs.Reaches.{loads}
 use Rattle.run_stages.proofs.Stopping.{module_stop}
+use Rattle.reading_modules.specs.Loads.{IsToldOf}
+use Rattle.reading_modules.specs.declared.fault.LoadFault.{LoadFault}
+use Rattle.run_stages.proofs.Told.{module_told}
 use Rattle.run_stages.proofs.modules.load_program.Goals as goal
 
 pub load_modules-requires : goal.load_modules-requires
@@ -26,3 +29,10 @@ returns-in_ok-refused-in-Err-Refused-clause-stopped g c =
     c.in-Err-Refused.field-0-is c.in-Err-Refused.ensures.loads) in
     module_stop (g.F.Files.holds c.args.files.now) (g.F.Files.faults c.args.files.now) (g.F.Files.faults c.load_modules.new.files) c.args.job.now
     c.in-Err-Refused.sought c.in-Err-Refused.why c.in_ok-refused-in-Err-Refused.field-0 h c.in_ok-refused-in-Err-Refused.ensures
+
+pub returns-in_ok-refused-in-Err-Refused-clause-told : goal.returns-in_ok-refused-in-Err-Refused-clause-told
+returns-in_ok-refused-in-Err-Refused-clause-told g c =
+    let before = g.F.Files.failures c.args.files.now in
+    let now = g.F.Files.failures c.load_modules.new.files in
+    module_told before now c.in-Err-Refused.sought c.in-Err-Refused.why c.in_ok-refused-in-Err-Refused.field-0
+    (subst (λ (f : LoadFault). IsToldOf before now f) c.in-Err-Refused.field-0-is c.in-Err-Refused.ensures.told) c.in_ok-refused-in-Err-Refused.ensures

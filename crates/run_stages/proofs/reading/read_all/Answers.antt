@@ -1,17 +1,18 @@
 use Rattle.std.proofs.Common.{rules, ◌≡◌, ◌≤◌, ◌++◌, ◌∙◌, ℕ, List, [], IfErr, Option, Ok, Err, sym, subst, arith}
-use Rattle.trace_base.specs.Device.{File}
-use Rattle.tla_actions.specs.declared.fault.FormFault.{FormFault}
-use Rattle.spec_forms.specs.Forms.{IsFirstFault}
-use Rattle.tla_levels.specs.declared.fault.ResolveFault.{ResolveFault}
-use Rattle.whole_programs.specs.Expansion.{ExpansionBy}
+use Rattle.base_core.specs.Device.{File}
+use Rattle.actions_meanings.specs.declared.fault.FormFault.{FormFault}
+use Rattle.steps_forms.specs.Forms.{IsFirstFault}
+use Rattle.names_resolving.specs.declared.fault.ResolveFault.{ResolveFault}
+use Rattle.names_whole_programs.specs.Expansion.{ExpansionBy}
 use Rattle.run_texts.specs.Forms.{form_refusal}
 use Rattle.run_texts.specs.Resolved.{names_refusal}
-use Rattle.run_reading.specs.Reaches.{Reaches, given, has_forms}
-use Rattle.run_reading.specs.Refusals.{all_files}
+use Rattle.run_reading_defs.specs.Reaches.{Reaches, given, has_forms}
+use Rattle.run_reading_defs.specs.Refusals.{all_files}
 use Rattle.run_stages.specs.Resolving.{IsUnresolved}
-use Rattle.run_stages.specs.Stops.{RefusedWith, StopsBy}
+use Rattle.run_stages.specs.Stops.{IsToldBy, RefusedWith, StopsBy}
 use Rattle.run_stages.proofs.Reached.{files_ready, one_form, ready_over, resolution_in_order, resolution_reached, spelled}
 use Rattle.run_stages.proofs.Stopping.{err_later, err_mapped, expanding_stop, forms_stop, unresolved_stop}
+use Rattle.run_stages.proofs.Told.{are_told_from, refused_are_told}
 use Rattle.run_stages.proofs.reading.read_all.Goals as goal
 
 pub returns-in_err-config-clause-stopped : goal.returns-in_err-config-clause-stopped
@@ -98,3 +99,43 @@ returns-clause-ready g c =
     let files = files_ready (g.F.Files.holds c.read_config.new.files) c.args.job.now r.program r.config r.spec read.read [] c.logs_are_ready.ensures.files is read.reaches in
     let lined = c.logs_are_ready.ensures.lined r.spec c.args.job.now.ties read.read.found c.in_ok-lined.lined is files read.lines c.known_values_over.ensures in
     ready_over r.spec c.in_ok-lined.lined c.in_ok-test_forms.ensures.ready lined c.in_ok-lined.ensures.made
+
+-- which calls on files failed
+
+pub returns-in_err-config-clause-told : goal.returns-in_err-config-clause-told
+returns-in_err-config-clause-told g c =
+    let q : IfErr c.from_residual-in_err-config.result (IsToldBy (g.F.Files.failures c.load_program.new.files) (g.F.Files.failures c.read_config.new.files)) = search rules in
+    are_told_from (g.F.Files.failures c.args.files.now) (g.F.Files.failures c.load_program.new.files) (g.F.Files.failures c.read_config.new.files) c.from_residual-in_err-config.result c.in_ok-modules.ensures.quiet q
+
+pub returns-in_err-expanded-clause-told : goal.returns-in_err-expanded-clause-told
+returns-in_err-expanded-clause-told g c =
+    let m = c.in_ok-modules.modules in
+    let k = c.in_ok-config.config in
+    let wrong : List ℕ → Type 0 = λ report. (f : ResolveFault) × ExpansionBy c.args.job.now.wide m.program (Err f) × (report ≡ names_refusal (all_files m.program.program k) f) in
+    let q : IfErr c.from_residual-in_err-expanded.result (RefusedWith wrong) = search (rules, c.from_residual-in_err-expanded.ensures, c.in_err-expanded.ensures.refused, c.in_err-expanded.is) in
+    refused_are_told (g.F.Files.failures c.args.files.now) (g.F.Files.failures c.read_config.new.files) wrong c.from_residual-in_err-expanded.result
+    (c.in_ok-config.ensures.quiet ∙ c.in_ok-modules.ensures.quiet) q
+
+pub returns-in_err-resolved-clause-told : goal.returns-in_err-resolved-clause-told
+returns-in_err-resolved-clause-told g c =
+    let m = c.in_ok-modules.modules in
+    let k = c.in_ok-config.config in
+    let p = c.in_ok-expanded.expanded in
+    let unresolved = RefusedWith (IsUnresolved c.args.job.now.wide p k c.args.job.now.silent m.notes) in
+    let q : IfErr c.from_residual-in_err-resolved.result unresolved = search (rules, c.from_residual-in_err-resolved.ensures, c.in_err-resolved.ensures.refused, c.in_err-resolved.is) in
+    refused_are_told (g.F.Files.failures c.args.files.now) (g.F.Files.failures c.read_config.new.files) (IsUnresolved c.args.job.now.wide p k c.args.job.now.silent m.notes)
+    c.from_residual-in_err-resolved.result (c.in_ok-config.ensures.quiet ∙ c.in_ok-modules.ensures.quiet) q
+
+pub returns-in_err-test_forms-clause-told : goal.returns-in_err-test_forms-clause-told
+returns-in_err-test_forms-clause-told g c =
+    let r = c.in_ok-resolved.resolved in
+    let unfit : List ℕ → Type 0 = λ report. (f : FormFault) × IsFirstFault r.spec f × (report ≡ form_refusal (all_files r.program r.config) r.spec.variables f) in
+    let q : IfErr c.from_residual-in_err-test_forms.result (RefusedWith unfit) = search (rules, c.from_residual-in_err-test_forms.ensures, c.in_err-test_forms.ensures.refused, c.in_err-test_forms.is) in
+    refused_are_told (g.F.Files.failures c.args.files.now) (g.F.Files.failures c.read_config.new.files) unfit c.from_residual-in_err-test_forms.result
+    (c.in_ok-config.ensures.quiet ∙ c.in_ok-modules.ensures.quiet) q
+
+pub returns-in_err-lined-clause-told : goal.returns-in_err-lined-clause-told
+returns-in_err-lined-clause-told g c =
+    let q : IfErr c.from_residual-in_err-lined.result (IsToldBy (g.F.Files.failures c.read_config.new.files) (g.F.Files.failures c.read_logs.new.files)) = search (rules, c.from_residual-in_err-lined.ensures, c.in_err-lined.ensures.told, c.in_err-lined.is) in
+    are_told_from (g.F.Files.failures c.args.files.now) (g.F.Files.failures c.read_config.new.files) (g.F.Files.failures c.read_logs.new.files) c.from_residual-in_err-lined.result
+    (c.in_ok-config.ensures.quiet ∙ c.in_ok-modules.ensures.quiet) q

@@ -1,6 +1,6 @@
 use Rattle.std.proofs.Common.{◌≡◌, ◌<◌, length, refl, sym}
 use Rattle.std.proofs.lemmas.Option.{slice_get_read}
-use Rattle.wide_reading.specs.declared.resolution.ResolutionFault.TheVariants.{Names, Piece}
+use Rattle.run_wide.specs.declared.resolution.ResolutionFault.TheVariants.{Names, Piece}
 use Rattle.run_stages.proofs.Unresolved.{fault_is, piece_stands, unresolved_names, unresolved_piece}
 use Rattle.run_stages.proofs.resolving.resolve_spec.Goals as goal
 

@@ -1,5 +1,5 @@
 use Rattle.std.specs.Prelude.{List, All}
-use Rattle.path_updates.specs.declared.line.Line.{Line}
+use Rattle.logs_updates.specs.declared.line.Line.{Line}
 use Rattle.steps_lined.specs.Held.{IsPlaced}
 use Rattle.steps_lined.proofs.UpTo.{UpTo}
 use Rattle.steps_lined.proofs.known.all_placed.Given as goal

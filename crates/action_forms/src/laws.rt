@@ -1,7 +1,0 @@
-ghost use Rattle.action_forms.specs.Laws.{HasFormOutcome, HasOneFormOutcome};
-
-/// A term has one outcome as an action, however many levels of terms are allowed.
-pub fn form_laws()
-    ensures one { HasOneFormOutcome }
-    ensures some { HasFormOutcome }
-{}

@@ -1,9 +1,0 @@
-pub mod Answering
-pub mod Stays
-pub mod Opening
-pub mod Choices
-pub mod Conjunctions
-pub mod Simple
-pub mod Changing
-pub mod Taken
-pub mod Telling

@@ -1,2 +1,0 @@
-pub mod ArmLemmas
-pub mod TestLemmas

@@ -1,0 +1,8 @@
+use Rattle.std.proofs.Common.{◌≡◌, ◌++◌, false, take}
+use Rattle.names_terms.specs.TermViews.{bounds_of}
+use Rattle.names_term_parts.specs.Parts.{parts_of, set_list}
+use Rattle.names_term_parts.specs.Waiting.{waiting}
+use Rattle.actions_early_reads.proofs.timely.push_sets.Given as goal
+
+abbrev pub invariant-loop-bound : goal.invariant-loop-bound
+invariant-loop-bound l = waiting l.stack.items ≡ waiting l.initial.stack.items ++ parts_of false (set_list (bounds_of (take l.bound-index l.items)))

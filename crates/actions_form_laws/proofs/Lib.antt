@@ -1,0 +1,10 @@
+mod Arms
+mod Each
+mod Growing
+mod Keeping
+mod Sound
+mod Speaking
+mod Staying
+mod Steps
+mod Timely
+mod Whole

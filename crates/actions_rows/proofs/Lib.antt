@@ -1,0 +1,3 @@
+pub mod ArmLemmas
+pub mod PartLists
+pub mod TestLemmas

@@ -1,2 +1,0 @@
-pub mod AlikeSettings
-pub mod Laws

@@ -1,0 +1,5 @@
+pub mod Device
+pub mod Failures
+pub mod Memory
+pub mod Reading
+pub mod Texts

@@ -1,7 +1,0 @@
-use Rattle.cut_steps.proofs.Small.{is_small}
-use Rattle.cut_steps.proofs.steps.small_law.Goals as goal
-
-pub returns : goal.returns
-returns c =
-    let s = c.args.steps.now in
-    is_small s.spec.now s.logs.now s.stutter s.within s.limit s.few_lines s.some_step s.few_steps s.small_layers

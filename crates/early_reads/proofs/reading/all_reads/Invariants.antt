@@ -1,6 +1,0 @@
-use Rattle.std.proofs.Common.{◌≡◌, ◌≤◌, ℕ, length}
-use Rattle.early_reads.specs.Keeping.{AreKept}
-use Rattle.early_reads.proofs.reading.all_reads.Given as goal
-
-abbrev pub invariant-loop-operator : goal.invariant-loop-operator
-invariant-loop-operator l = (length l.kept.items ≡ l.operator-index) × ((v : ℕ) → v ≤ 64 → AreKept l.operators v l.kept.items)

@@ -1,5 +1,0 @@
-use Rattle.early_reads.proofs.Shown.{shown-none}
-use Rattle.early_reads.proofs.sets.none.Goals as goal
-
-pub returns : goal.returns
-returns c = shown-none c.empty.result c.empty.ensures

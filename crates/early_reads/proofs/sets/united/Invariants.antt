@@ -1,5 +1,0 @@
-use Rattle.early_reads.proofs.Shown.{IsUnitedBelow}
-use Rattle.early_reads.proofs.sets.united.Given as goal
-
-abbrev pub invariant-loop-variable : goal.invariant-loop-variable
-invariant-loop-variable l = IsUnitedBelow l.all l.fn.first l.second l.variable

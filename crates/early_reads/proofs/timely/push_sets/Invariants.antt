@@ -1,8 +1,0 @@
-use Rattle.std.proofs.Common.{◌≡◌, ◌++◌, false, take}
-use Rattle.tla_terms.specs.TermViews.{bounds_of}
-use Rattle.term_parts.specs.Parts.{parts_of, set_list}
-use Rattle.term_parts.specs.Waiting.{waiting}
-use Rattle.early_reads.proofs.timely.push_sets.Given as goal
-
-abbrev pub invariant-loop-bound : goal.invariant-loop-bound
-invariant-loop-bound l = waiting l.stack.items ≡ waiting l.initial.stack.items ++ parts_of false (set_list (bounds_of (take l.bound-index l.items)))

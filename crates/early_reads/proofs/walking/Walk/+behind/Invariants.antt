@@ -1,4 +1,0 @@
-use Rattle.early_reads.proofs.walking.Walk.+behind.Given as goal
-
-abbrev pub decreases-behind : goal.decreases-behind
-decreases-behind l = l.bound

@@ -1,0 +1,4 @@
+pub mod AtMostOne
+pub mod Placing
+pub mod SmallTerms
+pub mod Telling

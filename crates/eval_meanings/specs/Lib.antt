@@ -1,0 +1,14 @@
+pub mod Answers
+pub mod Binders
+pub mod Contexts
+pub mod Evaluates
+pub mod Everywhere
+pub mod Functions
+pub mod Laws
+pub mod Meanings
+pub mod Operations
+pub mod Outcomes
+pub mod Reads
+pub mod Recursion
+pub mod Sets
+pub mod Unchanged

@@ -1,2 +1,0 @@
-//! Which terms can be evaluated where some values are unknown.
-#![tactic(auto)]

@@ -1,6 +1,0 @@
-use Rattle.std.proofs.Common.{arith}
-use Rattle.eval_sets.proofs.Items.{parts_listed}
-use Rattle.eval_sets.proofs.described.Parts.len.Goals as goal
-
-pub returns : goal.returns
-returns c = rw (← c.self.view_is, parts_listed c.self.inside.items.items) (omega arith)

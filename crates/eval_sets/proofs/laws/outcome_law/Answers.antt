@@ -1,5 +1,0 @@
-use Rattle.eval_sets.proofs.Outcomes.{lists_one_way}
-use Rattle.eval_sets.proofs.laws.outcome_law.Goals as goal
-
-pub returns : goal.returns
-returns c = lists_one_way

@@ -1,7 +1,0 @@
-use Rattle.std.specs.List.{Contains}
-use Rattle.eval_sets.specs.ListedParts.{IsChosen}
-use Rattle.value_ops.proofs.Listing.{gives_as}
-use Rattle.eval_sets.proofs.lists.chosen.Goals as goal
-
-pub returns : goal.returns
-returns c = gives_as (Contains c.in_ok-kept.kept.items) (IsChosen c.args.all.now c.args.right.now c.args.inside) c.set_from.result c.in_ok-kept.ensures c.set_from.ensures

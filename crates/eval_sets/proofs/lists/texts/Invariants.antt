@@ -1,7 +1,0 @@
-use Rattle.std.proofs.Common.{◌≡◌, ◌++◌, drop}
-use Rattle.eval_sets.specs.DescribedViews.{fields_of}
-use Rattle.eval_sets.specs.ListedParts.{texts_of}
-use Rattle.eval_sets.proofs.lists.texts.Given as goal
-
-abbrev pub invariant-loop-field : goal.invariant-loop-field
-invariant-loop-field l = l.names.items ++ texts_of (fields_of (drop l.field-index l.items)) ≡ texts_of (fields_of l.items)

@@ -1,9 +1,0 @@
-mod Steps
-mod Timely
-mod Each
-mod Speaking
-mod Keeping
-mod Growing
-mod Arms
-mod Staying
-mod Whole

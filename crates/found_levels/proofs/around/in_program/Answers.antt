@@ -1,9 +1,0 @@
-use Rattle.std.proofs.Common.{◌∙◌, ap}
-use Rattle.std.specs.Prelude.{Option}
-use Rattle.found_levels.specs.Found.{first_rises}
-use Rattle.least_levels.specs.declared.told.Told.{Told}
-use Rattle.found_levels.proofs.Mapped.{rises_first}
-use Rattle.found_levels.proofs.around.in_program.Goals as goal
-
-pub returns : goal.returns
-returns c = c.told_rises.ensures ∙ ap (λ (o : Option Told). first_rises c.args.marks.now o) c.get.ensures ∙ rises_first c.args.names.now c.args.marks.now c.args.name.now

@@ -1,8 +1,0 @@
-use Rattle.std.proofs.Common.{◌≡◌, drop}
-use Rattle.found_levels.specs.Raised.{told}
-use Rattle.least_levels.specs.Levels.{names_rise}
-use Rattle.found_levels.proofs.Telling.{tell}
-use Rattle.found_levels.proofs.around.told.Given as goal
-
-abbrev pub invariant-loop-known : goal.invariant-loop-known
-invariant-loop-known l = tell l.rises (drop l.known-index l.known-items) l.name ≡ told (names_rise l.names l.marks) l.around l.name

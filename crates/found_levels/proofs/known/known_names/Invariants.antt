@@ -1,9 +1,0 @@
-use Rattle.std.proofs.Common.{◌≡◌, ◌++◌, drop}
-use Rattle.found_levels.specs.Found.{AreFound}
-use Rattle.found_levels.proofs.known.known_names.Given as goal
-
-abbrev pub invariant-loop-known : goal.invariant-loop-known
-invariant-loop-known l = record {
-  copied : l.copies.items ++ drop l.known-index l.names ≡ l.names;
-  found : AreFound l.copies.items l.found;
-}

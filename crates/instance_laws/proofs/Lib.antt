@@ -1,9 +1,0 @@
-pub mod Around
-pub mod Levelled
-pub mod Made
-pub mod OwnMade
-pub mod Programs
-pub mod RowsAlike
-pub mod Scoped
-pub mod Standings
-pub mod Walk

@@ -1,4 +1,0 @@
-pub mod Programs
-pub mod Rows
-pub mod Standing
-pub mod Trees

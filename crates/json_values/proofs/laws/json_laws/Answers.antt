@@ -1,9 +1,0 @@
-use Rattle.json_values.proofs.OneValue.{one_value}
-use Rattle.json_values.proofs.ReadBack.{read_back}
-use Rattle.json_values.proofs.laws.json_laws.Goals as goal
-
-pub returns-clause-printed : goal.returns-clause-printed
-returns-clause-printed c = read_back
-
-pub returns-clause-one_value : goal.returns-clause-one_value
-returns-clause-one_value c = one_value

@@ -1,0 +1,11 @@
+pub mod Answering
+pub mod Changing
+pub mod Choices
+pub mod Conjunctions
+pub mod Opening
+pub mod Parts
+pub mod Simple
+pub mod Staying
+pub mod Stays
+pub mod Taken
+pub mod Telling

@@ -1,0 +1,4 @@
+pub mod Deciding
+pub mod Faults
+pub mod Pairs
+pub mod Truths

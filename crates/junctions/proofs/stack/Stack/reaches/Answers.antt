@@ -1,7 +1,0 @@
-use Rattle.std.proofs.Common.{sym, ap, ◌∙◌}
-use Rattle.junctions.specs.Summary.{summary_reaches}
-use Rattle.junctions.proofs.Summaries.{reaches-summary}
-use Rattle.junctions.proofs.stack.Stack.reaches.Goals as goal
-
-pub returns : goal.returns
-returns c = c.reaches.ensures ∙ ap (summary_reaches c.args.operand c.args.kind.now) c.summary.ensures ∙ sym (reaches-summary c.args.operand c.args.kind.now c.args.self.now)

@@ -1,4 +1,0 @@
-use Rattle.layer_rows.proofs.tests.TableSteps.successors.Goals as goal
-
-pub returns : goal.returns
-returns c = rw c.deref.ensures.value at c.listed.ensures

@@ -1,5 +1,0 @@
-use Rattle.least_levels.proofs.Walking.{levels_are}
-use Rattle.least_levels.proofs.laws.levels_are_least.Goals as goal
-
-pub returns : goal.returns
-returns c = levels_are

@@ -1,8 +1,0 @@
-//! The law of least levels.
-
-ghost use Rattle.least_levels.specs.Laws.{AllHaveLeast};
-
-/// Every program has least levels, which are found from no mark on, and no others.
-pub fn levels_are_least()
-    ensures { AllHaveLeast }
-{}

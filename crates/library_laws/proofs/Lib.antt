@@ -1,4 +1,0 @@
-pub mod Asking
-pub mod Checking
-pub mod Places
-pub mod Reading

@@ -1,5 +1,0 @@
-use Rattle.library_laws.proofs.Checking.{call_checks_after}
-use Rattle.library_laws.proofs.laws.call_check_law.Goals as goal
-
-pub returns : goal.returns
-returns c = call_checks_after c.one_command.ensures c.check_law.ensures

@@ -1,7 +1,0 @@
--- Whether a module is one of the library.
-use Rattle.std.specs.Prelude.{ℕ, Bool, List, is_some}
-use Rattle.trace_base.specs.Device.{found}
-use Rattle.library_texts.specs.Texts.{library}
-
-abbrev pub is_library : List ℕ → Bool
-is_library name = is_some (found name library)

@@ -1,6 +1,0 @@
-//! Equal copies of lines of logs.
-#![tactic(auto)]
-
-mod copies;
-
-pub use copies::{add_sees, copy_line};

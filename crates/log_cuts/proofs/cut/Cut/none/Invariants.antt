@@ -1,6 +1,0 @@
-use Rattle.std.proofs.Common.{◌≡◌}
-use Rattle.log_cuts.specs.Orders.{none_of}
-use Rattle.log_cuts.proofs.cut.Cut.none.Given as goal
-
-abbrev pub invariant-loop : goal.invariant-loop
-invariant-loop l = l.counts.items ≡ none_of l.counter

@@ -1,6 +1,0 @@
-use Rattle.std.proofs.Common.{◌≡◌, ◌++◌, drop}
-use Rattle.log_files.specs.Logs.{first_sees}
-use Rattle.log_files.proofs.placing.all_first_sees.Given as goal
-
-abbrev pub invariant-loop-file : goal.invariant-loop-file
-invariant-loop-file l = l.sees ++ first_sees (drop l.file-index l.files) ≡ first_sees l.files

@@ -1,7 +1,0 @@
-use Rattle.std.proofs.Common.{◌∷◌, [], refl}
-use Rattle.log_files.proofs.ClockKinds.{no_number_falls}
-use Rattle.log_files.proofs.OneFile.{log_of_file}
-use Rattle.log_files.proofs.placing.log_of_one.Goals as goal
-
-pub returns : goal.returns
-returns c = log_of_file c.args.file _ c.sees_or_none.ensures refl (no_number_falls (c.args.file ∷ []) c.requires)

@@ -1,8 +1,0 @@
-use Rattle.std.proofs.Common.{◌∙◌}
-use Rattle.line_shapes.specs.Parts.{see_of}
-use Rattle.log_lines.proofs.ItemLemmas.{known_names}
-use Rattle.log_lines.proofs.fields.knows_sees.Goals as goal
-
-pub returns : goal.returns
-returns g c =
-    c.are_known_sees.ensures ∙ known_names (g.N.SpecNames.setting c.args.names.now) see_of (λ s. s.path) c.args.shape.now.sees.now c.args.shape.now.sees_whole

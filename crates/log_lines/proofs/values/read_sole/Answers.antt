@@ -1,5 +1,0 @@
-use Rattle.log_lines.proofs.ValueLemmas.{not_sole}
-use Rattle.log_lines.proofs.values.read_sole.Goals as goal
-
-pub returns-then-contents-ne1 : goal.returns-then-contents-ne1
-returns-then-contents-ne1 c = λ v. not_sole c.args.contents.now v c.if-contents-ne1.true

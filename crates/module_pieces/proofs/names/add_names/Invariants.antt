@@ -1,6 +1,0 @@
-use Rattle.std.proofs.Common.{◌≡◌, ◌++◌, drop}
-use Rattle.module_pieces.specs.Names.{names_in}
-use Rattle.module_pieces.proofs.names.add_names.Given as goal
-
-abbrev pub invariant-loop-token : goal.invariant-loop-token
-invariant-loop-token l = l.names ++ names_in (drop l.token-index l.tokens) ≡ l.fn.names ++ names_in l.tokens

@@ -1,9 +1,0 @@
-//! The laws of pieces.
-
-ghost use Rattle.module_pieces.specs.Laws.{OneHeading, OneParting};
-
-/// Tokens have one heading, and are parted into pieces in one way.
-pub fn one_parting()
-    ensures heading { OneHeading }
-    ensures pieces { OneParting }
-{}

@@ -1,0 +1,9 @@
+pub mod Differing
+pub mod Expanding
+pub mod ExpansionPieces
+pub mod Inside
+pub mod Loading
+pub mod MadeNames
+pub mod MadeTrees
+pub mod WideLoadingPieces
+pub mod Words

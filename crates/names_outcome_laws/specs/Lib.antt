@@ -1,0 +1,4 @@
+pub mod Lets
+pub mod Levels
+pub mod Programs
+pub mod Trees

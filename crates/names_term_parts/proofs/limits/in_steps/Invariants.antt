@@ -1,0 +1,9 @@
+use Rattle.std.proofs.Common.{◌≡◌, take}
+use Rattle.names_terms.specs.TermViews.{steps_of}
+use Rattle.names_terms.specs.Levels.{of_steps}
+use Rattle.names_term_parts.specs.Limits.{steps_limits}
+use Rattle.names_term_parts.specs.FaultOrder.{held_all}
+use Rattle.names_term_parts.proofs.limits.in_steps.Given as goal
+
+abbrev pub invariant-loop-step : goal.invariant-loop-step
+invariant-loop-step l = (l.found ≡ held_all l.initial.found (steps_limits l.fn.level (steps_of (take l.step-index l.items)))) × (l.before ≡ of_steps l.fn.level (steps_of (take l.step-index l.items)))

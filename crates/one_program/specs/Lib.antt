@@ -1,3 +1,0 @@
-pub mod AnyReading
-pub mod Laws
-pub mod Readings

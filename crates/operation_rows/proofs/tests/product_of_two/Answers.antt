@@ -1,5 +1,0 @@
-use Rattle.std.proofs.Common.{length, ap, ◌∙◌, arith}
-use Rattle.operation_rows.proofs.tests.product_of_two.Goals as goal
-
-pub product-requires : goal.product-requires
-product-requires c = omega (arith, ap (λ vs. length vs) (c.as_slice.ensures.value ∙ c.in_ok-parts.ensures))

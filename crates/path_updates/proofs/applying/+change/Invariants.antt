@@ -1,5 +1,0 @@
-use Rattle.std.proofs.Common.{length}
-use Rattle.path_updates.proofs.applying.+change.Given as goal
-
-abbrev pub decreases-change : goal.decreases-change
-decreases-change l = length l.keys.now

@@ -1,9 +1,0 @@
--- A path into the value of a variable.
-use Rattle.std.specs.Prelude.{List}
-use Rattle.tla_core.specs.declared.var_id.VarId.{VarId}
-use Rattle.tla_values.specs.Data.{Val}
-
--- a variable, and the keys that lead from its value to what stands at the path
-pub record KeyPath : Type 0 where
-  pub variable : VarId
-  pub keys : List Val

@@ -1,0 +1,6 @@
+use Rattle.reading_trees.specs.Trees.{NoBounds}
+use Rattle.reading_trees.proofs.Pushes.{bounds_pushed}
+use Rattle.reading_trees.proofs.expr.Bounds.push.Goals as goal
+
+pub returns-clause-pushed : goal.returns-clause-pushed
+returns-clause-pushed c = rw (c.in_ok-push.ensures.items, ← c.self.view_is) (bounds_pushed NoBounds c.self.inside.items.items c.args.item)

@@ -1,5 +1,0 @@
-use Rattle.ready_laws.proofs.Readied.{assumptions_are_counted, resolved_are_ready, whole_are_ready}
-use Rattle.ready_laws.proofs.laws.ready_laws.Goals as goal
-
-pub returns : goal.returns
-returns c = record { whole = whole_are_ready; resolved = resolved_are_ready c.resolved_laws.ensures.in_order; counted = assumptions_are_counted }

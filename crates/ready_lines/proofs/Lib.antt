@@ -1,5 +1,0 @@
-mod LineLemmas
-mod LogLemmas
-mod Events
-mod Variables
-pub mod UpTo

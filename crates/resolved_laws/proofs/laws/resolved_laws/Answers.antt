@@ -1,5 +1,0 @@
-use Rattle.resolved_laws.proofs.Ordering.{resolved_are_in_order}
-use Rattle.resolved_laws.proofs.laws.resolved_laws.Goals as goal
-
-pub returns : goal.returns
-returns c = record { in_order = resolved_are_in_order }

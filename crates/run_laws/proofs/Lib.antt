@@ -1,4 +1,0 @@
-pub mod Following
-pub mod Deciding
-pub mod Kept
-pub mod Held

@@ -1,5 +1,0 @@
-//! Rows of names and their meanings that no run of the program tells apart.
-#![tactic(auto)]
-
-#[cfg(test)]
-mod tests;

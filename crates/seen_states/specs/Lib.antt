@@ -1,3 +1,0 @@
-pub mod Alikeness
-pub mod Laws
-pub mod Seen

@@ -1,6 +1,0 @@
-use Rattle.std.proofs.Common.{◌≡◌, ◌^◌, ◌≤◌}
-use Rattle.tla_values.specs.IsValue.{max_members}
-use Rattle.set_bounds.proofs.sizes.power.Given as goal
-
-abbrev pub invariant-loop-i : goal.invariant-loop-i
-invariant-loop-i l = (l.members ≡ l.base ^ l.i) × (l.members ≤ max_members)

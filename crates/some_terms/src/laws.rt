@@ -1,6 +1,0 @@
-ghost use Rattle.some_terms.specs.Trees.{TreesMeanSomething};
-
-/// Some term is meant by each tree in which nothing is wrong with names.
-pub fn tree_law()
-    ensures { TreesMeanSomething }
-{}

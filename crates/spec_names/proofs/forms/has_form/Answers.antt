@@ -1,6 +1,0 @@
-use Rattle.early_reads.specs.Sets.{shown}
-use Rattle.spec_names.proofs.FormLemmas.{has_one}
-use Rattle.spec_names.proofs.forms.has_form.Goals as goal
-
-pub returns-in-Ok : goal.returns-in-Ok
-returns-in-Ok c = has_one c.args.walk.now c.args.bound c.args.body.now (shown c.args.before) c.in-Ok.field-0 c.form_laws.ensures.some c.requires c.in-Ok.ensures

@@ -1,5 +1,0 @@
-use Rattle.spec_names.proofs.FormLemmas.{Gathers}
-use Rattle.spec_names.proofs.forms.updated.Given as goal
-
-abbrev pub invariant-loop-update : goal.invariant-loop-update
-invariant-loop-update l = Gathers l.variables l.all l.update-index l.set

@@ -1,4 +1,0 @@
-use Rattle.spec_pairs.proofs.pairs.SpecPairsPairs.first.Goals as goal
-
-pub returns : goal.returns
-returns c = c.tell_init.ensures

@@ -1,8 +1,0 @@
-use Rattle.std.proofs.Common.{◌≡◌, true}
-use Rattle.line_steps.specs.Asks.{HasNoEvent}
-use Rattle.spec_pairs.proofs.Lines.{line_tests}
-use Rattle.spec_pairs.proofs.pairs.SpecPairsPairs.stutters.Goals as goal
-
-pub returns : goal.returns
-returns c =
-    line_tests c.args.self.now.log.now.lines c.args.line c.line_of-line.result.now c.line_of-line.ensures (λ l. (c.args.self.now.stutter ≡ true) × HasNoEvent l.event) c.may_stay.result c.may_stay.ensures

@@ -1,7 +1,0 @@
-use Rattle.std.proofs.Common.{ap, ◌∙◌}
-use Rattle.tla_terms.specs.Terms.{place_of}
-use Rattle.spec_steps.specs.Told.{told_of}
-use Rattle.spec_steps.proofs.assumption.judged.Goals as goal
-
-pub returns : goal.returns
-returns c = (c.truth_of.result, c.truth_of.ensures, c.told.ensures ∙ ap (told_of c.truth_of.result) (ap place_of c.term.view_is))

@@ -1,5 +1,0 @@
-use Rattle.spec_steps.proofs.Given.{line_place}
-use Rattle.spec_steps.proofs.steps.SpecStepsSteps.expected.Goals as goal
-
-pub returns : goal.returns
-returns c = line_place c.args.self.now.log.now.lines c.args.line c.line_of.result.now c.line_of.ensures

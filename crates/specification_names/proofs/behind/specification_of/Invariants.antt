@@ -1,9 +1,0 @@
-use Rattle.std.proofs.Common.{◌≡◌}
-use Rattle.specification_names.specs.Behind.{deepest, last_from}
-use Rattle.specification_names.proofs.behind.specification_of.Given as goal
-
-abbrev pub invariant-loop-left : goal.invariant-loop-left
-invariant-loop-left l = last_from l.left l.program l.config l.last ≡ last_from deepest l.program l.config l.name
-
-abbrev pub decreases-loop-left : goal.decreases-loop-left
-decreases-loop-left l = l.left

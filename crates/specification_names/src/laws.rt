@@ -1,9 +1,0 @@
-//! Laws of what the word changes.
-
-ghost use Rattle.specification_names.specs.Laws.{AcceptedIsSame, RefusedIsSame};
-
-/// What is accepted without the word is the same with it, and what is refused with the word is refused the same without it.
-pub fn resolving_laws()
-    ensures accepted { AcceptedIsSame }
-    ensures refused { RefusedIsSame }
-{}

@@ -1,7 +1,0 @@
-use Rattle.std.proofs.Common.{take}
-use Rattle.serde_json.specs.View.{members_view}
-use Rattle.state_files.specs.States.{StateReads}
-use Rattle.state_files.proofs.values.read_state.Given as goal
-
-abbrev pub invariant-loop-name : goal.invariant-loop-name
-invariant-loop-name l = StateReads (members_view l.state.entries) (take l.name-index l.names) l.values.items

@@ -1,5 +1,0 @@
-use Rattle.state_layers.proofs.Shared.{found_same}
-use Rattle.state_layers.proofs.sharing.SharedValues.find.Goals as goal
-
-pub returns : goal.returns
-returns c = found_same _ _ _ c.get.ensures.key

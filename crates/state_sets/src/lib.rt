@@ -1,6 +1,0 @@
-//! The different states among places that were found.
-#![tactic(auto)]
-
-mod states;
-
-pub use states::states_of;

@@ -1,5 +1,0 @@
-use Rattle.state_verdicts.proofs.Runs.{clean_run}
-use Rattle.state_verdicts.proofs.laws.clean_law.Goals as goal
-
-pub returns : goal.returns
-returns g c = clean_run (g.P.Pairs.asks c.args._pairs.now) (g.met.P.Pairs.agrees c.args._pairs.now)

@@ -1,0 +1,4 @@
+use Rattle.states_tests.proofs.layers_tests.TableSteps.successors.Goals as goal
+
+pub returns : goal.returns
+returns c = rw c.deref.ensures.value at c.listed.ensures

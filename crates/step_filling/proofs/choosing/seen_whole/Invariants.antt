@@ -1,4 +1,0 @@
-use Rattle.step_filling.proofs.choosing.seen_whole.Given as goal
-
-abbrev pub invariant-loop-see : goal.invariant-loop-see
-invariant-loop-see l = Unit {0}

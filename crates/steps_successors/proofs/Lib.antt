@@ -1,0 +1,10 @@
+mod Adding
+mod Answering
+mod Beginning
+mod Both
+mod Completing
+mod Each
+mod Giving
+mod Grounding
+mod Listed
+mod Staging

@@ -1,0 +1,17 @@
+pub mod Early
+pub mod Ending
+pub mod Evaluated
+pub mod FormTerms
+pub mod LevelsOfParts
+pub mod Made
+pub mod Paired
+pub mod PartLists
+pub mod PartsHold
+pub mod ReadOfParts
+pub mod Rows
+pub mod Stable
+pub mod StableOutcomes
+pub mod TermsHold
+pub mod TermsOfParts
+pub mod Tuples
+pub mod Walked

@@ -1,9 +1,0 @@
-mod Answering
-mod Completing
-mod Grounding
-mod Staging
-mod Each
-mod Both
-mod Listed
-mod Giving
-mod Beginning

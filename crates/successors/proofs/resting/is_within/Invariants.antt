@@ -1,7 +1,0 @@
-use Rattle.std.proofs.Common.{◌≡◌, ◌<◌, ℕ}
-use Rattle.std.specs.Prelude.{Some, slice_get}
-use Rattle.tla_values.specs.Data.{Val}
-use Rattle.successors.proofs.resting.is_within.Given as goal
-
-abbrev pub invariant-loop-index : goal.invariant-loop-index
-invariant-loop-index l = (x : ℕ) (v : Val) → x < l.index → slice_get l.places x ≡ Some (Some v) → slice_get l.whole x ≡ Some (Some v)

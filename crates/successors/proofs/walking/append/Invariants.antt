@@ -1,9 +1,0 @@
-use Rattle.std.proofs.Common.{◌≡◌, ◌++◌, length}
-use Rattle.std.specs.Vec.Iter.{into_iter_items, into_iter_len}
-use Rattle.successors.proofs.walking.append.Given as goal
-
-abbrev pub invariant-loop-places : goal.invariant-loop-places
-invariant-loop-places l = record {
-  items : l.found.items ++ into_iter_items l.places-iterator ≡ l.initial.found.items ++ l.fn.more.items;
-  len : into_iter_len l.places-iterator ≡ length (into_iter_items l.places-iterator);
-}

@@ -1,7 +1,0 @@
-use Rattle.std.proofs.Common.{◌≡◌, ◌++◌, take}
-use Rattle.term_parts.specs.Waiting.{waiting}
-use Rattle.term_levels.specs.Arguments.{arguments_from}
-use Rattle.term_levels.proofs.reading.push_arguments.Given as goal
-
-abbrev pub invariant-loop-index : goal.invariant-loop-index
-invariant-loop-index l = waiting l.stack.items ≡ waiting l.initial.stack.items ++ arguments_from l.parameters l.outer l.primed 0 (take l.index l.arguments)

@@ -1,6 +1,0 @@
-use Rattle.std.proofs.Common.{take}
-use Rattle.term_levels.specs.Findings.{Adds, LetsFind}
-use Rattle.term_levels.proofs.reading.read_let.Given as goal
-
-abbrev pub invariant-loop-index : goal.invariant-loop-index
-invariant-loop-index l = Adds (LetsFind l.table l.notes l.primed (take l.index l.numbers)) l.initial.note l.note

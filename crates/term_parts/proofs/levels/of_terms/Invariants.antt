@@ -1,7 +1,0 @@
-use Rattle.std.proofs.Common.{◌≡◌, take}
-use Rattle.tla_terms.specs.TermViews.{terms_of}
-use Rattle.tla_terms.specs.Levels.{of_terms}
-use Rattle.term_parts.proofs.levels.of_terms.Given as goal
-
-abbrev pub invariant-loop-term : goal.invariant-loop-term
-invariant-loop-term l = l.level ≡ of_terms (terms_of (take l.term-index l.items))

@@ -1,8 +1,0 @@
-use Rattle.std.proofs.Common.{◌≡◌, take}
-use Rattle.tla_terms.specs.TermViews.{changes_of}
-use Rattle.term_parts.specs.Limits.{change_limits}
-use Rattle.term_parts.specs.FaultOrder.{held_all}
-use Rattle.term_parts.proofs.limits.in_changes.Given as goal
-
-abbrev pub invariant-loop-change : goal.invariant-loop-change
-invariant-loop-change l = l.found ≡ held_all l.initial.found (change_limits l.at (changes_of (take l.change-index l.items)))

@@ -1,7 +1,0 @@
-use Rattle.std.proofs.Common.{◌≡◌, take}
-use Rattle.term_parts.specs.FaultOrder.{held_all}
-use Rattle.term_parts.specs.Chains.{other_limits}
-use Rattle.term_parts.proofs.limits.in_others.Given as goal
-
-abbrev pub invariant-loop-operand : goal.invariant-loop-operand
-invariant-loop-operand l = l.found ≡ held_all l.initial.found (other_limits l.allowed (take l.operand-index l.others))

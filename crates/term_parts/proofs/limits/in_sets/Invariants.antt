@@ -1,8 +1,0 @@
-use Rattle.std.proofs.Common.{◌≡◌, take}
-use Rattle.tla_terms.specs.TermViews.{bounds_of}
-use Rattle.term_parts.specs.Limits.{set_limits}
-use Rattle.term_parts.specs.FaultOrder.{held_all}
-use Rattle.term_parts.proofs.limits.in_sets.Given as goal
-
-abbrev pub invariant-loop-bound : goal.invariant-loop-bound
-invariant-loop-bound l = l.found ≡ held_all l.initial.found (set_limits l.at (bounds_of (take l.bound-index l.items)))

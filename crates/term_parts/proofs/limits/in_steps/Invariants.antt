@@ -1,9 +1,0 @@
-use Rattle.std.proofs.Common.{◌≡◌, take}
-use Rattle.tla_terms.specs.TermViews.{steps_of}
-use Rattle.tla_terms.specs.Levels.{of_steps}
-use Rattle.term_parts.specs.Limits.{steps_limits}
-use Rattle.term_parts.specs.FaultOrder.{held_all}
-use Rattle.term_parts.proofs.limits.in_steps.Given as goal
-
-abbrev pub invariant-loop-step : goal.invariant-loop-step
-invariant-loop-step l = (l.found ≡ held_all l.initial.found (steps_limits l.fn.level (steps_of (take l.step-index l.items)))) × (l.before ≡ of_steps l.fn.level (steps_of (take l.step-index l.items)))

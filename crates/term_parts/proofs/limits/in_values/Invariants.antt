@@ -1,8 +1,0 @@
-use Rattle.std.proofs.Common.{◌≡◌, take}
-use Rattle.tla_terms.specs.TermViews.{fields_of}
-use Rattle.term_parts.specs.Limits.{value_limits}
-use Rattle.term_parts.specs.FaultOrder.{held_all}
-use Rattle.term_parts.proofs.limits.in_values.Given as goal
-
-abbrev pub invariant-loop-field : goal.invariant-loop-field
-invariant-loop-field l = l.found ≡ held_all l.initial.found (value_limits l.at (fields_of (take l.field-index l.items)))

@@ -1,5 +1,0 @@
-use Rattle.term_parts.specs.Marks.{Absorbs}
-use Rattle.term_parts.proofs.slots.Slots.absorb.Given as goal
-
-abbrev pub invariant-loop-slot : goal.invariant-loop-slot
-invariant-loop-slot l = Absorbs l.slot l.initial.self l.other l.self

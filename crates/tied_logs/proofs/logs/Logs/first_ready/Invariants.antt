@@ -1,5 +1,0 @@
-use Rattle.tied_logs.proofs.Taking.{NoneReady}
-use Rattle.tied_logs.proofs.logs.Logs.first_ready.Given as goal
-
-abbrev pub invariant-loop-file : goal.invariant-loop-file
-invariant-loop-file l = NoneReady l.self l.cut l.file

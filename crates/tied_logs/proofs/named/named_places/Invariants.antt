@@ -1,6 +1,0 @@
-use Rattle.std.proofs.Common.{◌≡◌, ◌++◌, drop}
-use Rattle.tied_logs.specs.Named.{names}
-use Rattle.tied_logs.proofs.named.named_places.Given as goal
-
-abbrev pub invariant-loop-shown : goal.invariant-loop-shown
-invariant-loop-shown l = l.places.items ++ names (drop l.shown-index l.states) ≡ names l.states

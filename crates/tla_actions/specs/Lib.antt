@@ -1,6 +1,0 @@
-pub mod Forms
-pub mod Reads
-pub mod Outcomes
-pub mod Holds
-pub mod Fails
-pub mod FaultCodes

@@ -1,6 +1,0 @@
-use Rattle.std.proofs.Common.{arith}
-use Rattle.tla_ast.proofs.Listed.{fields_listed}
-use Rattle.tla_ast.proofs.expr.Fields.len.Goals as goal
-
-pub returns : goal.returns
-returns c = rw (← c.self.view_is, fields_listed c.self.inside.items.items) (omega arith)

@@ -1,6 +1,0 @@
-use Rattle.std.proofs.Common.{◌≡◌, None}
-use Rattle.std.specs.Prelude.{replicate}
-use Rattle.tla_core.proofs.partial.Partial.empty.Given as goal
-
-abbrev pub invariant-loop : goal.invariant-loop
-invariant-loop l = l.places.items ≡ replicate l.counter None

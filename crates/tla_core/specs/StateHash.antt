@@ -1,8 +1,0 @@
--- The hash of a state, made once and kept beside its values.
-use Rattle.std.specs.Prelude.{ℕ, List}
-use Rattle.tla_values.specs.Data.{Val, vals_of}
-use Rattle.tla_values.specs.HashOf.{with_members}
-
--- The hash of each value in turn is mixed in.
-unfoldable pub state_hash : List Val → ℕ
-state_hash values = with_members 0 (vals_of values)

@@ -1,4 +1,0 @@
-pub mod SmallTerms
-pub mod Placing
-pub mod AtMostOne
-pub mod Telling

@@ -1,6 +1,0 @@
-use Rattle.tla_eval.specs.Operations.{PrefixAnswers}
-use Rattle.tla_eval.proofs.Placing.{tells_placed}
-use Rattle.tla_eval.proofs.operate.prefix.Goals as goal
-
-pub returns : goal.returns
-returns c = tells_placed (PrefixAnswers c.args.operator c.args.value.now) _ _ _ c.located.ensures c.prefix_answer.ensures

@@ -1,6 +1,0 @@
-use Rattle.tla_eval.specs.Operations.{StandardAnswers}
-use Rattle.tla_eval.proofs.Placing.{tells_placed}
-use Rattle.tla_eval.proofs.operate.standard.Goals as goal
-
-pub returns : goal.returns
-returns c = tells_placed (StandardAnswers c.args.operator c.args.arguments.now) _ _ _ c.located.ensures c.standard_answer.ensures

@@ -1,6 +1,0 @@
-use Rattle.std.proofs.Common.{◌≡◌, drop}
-use Rattle.tla_instances.specs.Instances.{declares}
-use Rattle.tla_instances.proofs.renaming.declares_constant.Given as goal
-
-abbrev pub invariant-loop-constant : goal.invariant-loop-constant
-invariant-loop-constant l = declares (drop l.constant-index l.constant-items) l.name ≡ declares l.constant-items l.name

@@ -1,6 +1,0 @@
-use Rattle.std.proofs.Common.{◌≡◌, drop}
-use Rattle.tla_instances.specs.Instances.{substitute_for}
-use Rattle.tla_instances.proofs.substitutes.Substitutes.get.Given as goal
-
-abbrev pub invariant-loop-item : goal.invariant-loop-item
-invariant-loop-item l = substitute_for (drop l.item-index l.item-items) l.name ≡ substitute_for l.self l.name

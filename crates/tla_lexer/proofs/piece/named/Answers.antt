@@ -1,5 +1,0 @@
-use Rattle.tla_lexer.proofs.Fronts.{words_utf8}
-use Rattle.tla_lexer.proofs.piece.named.Goals as goal
-
-pub text_of-requires : goal.text_of-requires
-text_of-requires c = words_utf8 c.args.word.now c.requires

@@ -1,6 +1,0 @@
-use Rattle.std.proofs.Common.{◌≡◌, ◌<◌, ◌^◌, drop}
-use Rattle.tla_tokens.specs.Shapes.{number_from}
-use Rattle.tla_lexer.proofs.piece.number.Given as goal
-
-abbrev pub invariant-loop-b : goal.invariant-loop-b
-invariant-loop-b l = (l.value < 2 ^ 63) × (number_from l.value (drop l.b-index l.digits) ≡ number_from 0 l.digits)

@@ -1,6 +1,0 @@
--- proofs/meeting/round/Invariants.antt
-use Rattle.std.proofs.Common.{◌≡◌, ◌++◌, drop}
-use Rattle.tla_modules.proofs.meeting.round.Given as goal
-
-abbrev pub invariant-loop-other : goal.invariant-loop-other
-invariant-loop-other l = l.names ++ drop l.other-index l.path ≡ l.path

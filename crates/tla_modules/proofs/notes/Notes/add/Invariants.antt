@@ -1,7 +1,0 @@
--- proofs/notes/Notes/add/Invariants.antt
-use Rattle.std.proofs.Common.{◌≡◌, ◌++◌}
-use Rattle.tla_modules.specs.Flattened.{noted}
-use Rattle.tla_modules.proofs.notes.Notes.add.Given as goal
-
-abbrev pub invariant-loop-note : goal.invariant-loop-note
-invariant-loop-note g l = l.self-inside.items.items ≡ l.fn.self ++ noted l.file l.yielded

@@ -1,5 +1,0 @@
-use Rattle.tla_scopes.proofs.MentionLoops.{DefinesSoFar}
-use Rattle.tla_scopes.proofs.free_names.defines.Given as goal
-
-abbrev pub invariant-loop-definition : goal.invariant-loop-definition
-invariant-loop-definition l = DefinesSoFar l.name l.definition-items l.definition-index

@@ -1,6 +1,0 @@
-use Rattle.std.proofs.Common.{◌≡◌, drop}
-use Rattle.tla_scopes.specs.Mentions.{is_one_of}
-use Rattle.tla_scopes.proofs.free_names.is_one_of.Given as goal
-
-abbrev pub invariant-loop-other : goal.invariant-loop-other
-invariant-loop-other l = is_one_of l.name (drop l.other-index l.names) ≡ is_one_of l.name l.names

@@ -1,7 +1,0 @@
-use Rattle.std.proofs.Common.{◌≡◌, drop}
-use Rattle.tla_scopes.specs.Standing.{AddsSlots}
-use Rattle.tla_scopes.specs.Scopes.{bind}
-use Rattle.tla_scopes.proofs.scope.Scope.bind.Given as goal
-
-abbrev pub invariant-loop-name : goal.invariant-loop-name
-invariant-loop-name l = (bind l.self (drop l.name-index l.names) ≡ bind l.initial.self l.names) × AddsSlots l.initial.self l.self

@@ -1,7 +1,0 @@
-use Rattle.std.proofs.Common.{◌≡◌, ◌≤◌, drop}
-use Rattle.tla_scopes.specs.Scopes.{bound, bound_from, later}
-use Rattle.tla_scopes.proofs.scope.Scope.meaning.Given as goal
-
-abbrev pub invariant-loop-local : goal.invariant-loop-local
-invariant-loop-local l =
-    (later l.found (bound_from l.slot (drop l.local-index l.local-items) l.name) ≡ bound l.self l.name) × (l.slot ≤ l.local-index)

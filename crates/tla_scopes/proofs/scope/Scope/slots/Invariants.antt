@@ -1,7 +1,0 @@
-use Rattle.std.proofs.Common.{◌≡◌, ◌≤◌, ◌+◌, drop}
-use Rattle.tla_scopes.specs.Scopes.{slots}
-use Rattle.tla_scopes.proofs.scope.Scope.slots.Given as goal
-
-abbrev pub invariant-loop-local : goal.invariant-loop-local
-invariant-loop-local l =
-    (l.count + slots (drop l.local-index l.local-items) ≡ slots l.self) × (l.count ≤ l.local-index)

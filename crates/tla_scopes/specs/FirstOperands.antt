@@ -1,6 +1,0 @@
--- The first of operands.
-use Rattle.tla_ast.specs.Trees.{Tree, Operands, First, Next}
-
-abbrev pub first_of : Operands → Tree
-first_of (First e) = e
-first_of (Next os at e) = first_of os

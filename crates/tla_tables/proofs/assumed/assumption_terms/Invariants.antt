@@ -1,6 +1,0 @@
-use Rattle.tla_program.specs.InUnits.{assumptions_in}
-use Rattle.tla_tables.specs.Assumed.{AreAssumed}
-use Rattle.tla_tables.proofs.assumed.assumption_terms.Given as goal
-
-abbrev pub invariant-loop-tree : goal.invariant-loop-tree
-invariant-loop-tree l = AreAssumed l.fn.table l.table (assumptions_in l.program.units) l.tree-index l.terms

@@ -1,6 +1,0 @@
-use Rattle.std.proofs.Common.{length}
-use Rattle.tla_tables.specs.Filling.{Filled}
-use Rattle.tla_tables.proofs.table.filled.Given as goal
-
-abbrev pub invariant-loop-index : goal.invariant-loop-index
-invariant-loop-index l = Filled l.program l.config l.names l.marks l.order (length l.order) l.index l.table

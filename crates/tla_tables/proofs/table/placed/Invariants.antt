@@ -1,5 +1,0 @@
-use Rattle.tla_tables.specs.Filling.{Filled}
-use Rattle.tla_tables.proofs.table.placed.Given as goal
-
-abbrev pub invariant-loop-next : goal.invariant-loop-next
-invariant-loop-next l = Filled l.program l.config l.names l.marks l.order l.next-index 0 l.table

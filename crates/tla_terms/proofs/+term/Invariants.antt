@@ -1,6 +1,0 @@
-use Rattle.std.proofs.Common.{◌≤◌}
-use Rattle.tla_terms.specs.TermSizes.{term_size}
-use Rattle.tla_terms.proofs.+term.Given as goal
-
-abbrev pub invariant-term::Term::drop-loop-test : goal.invariant-term::Term::drop-loop-test
-invariant-term::Term::drop-loop-test l = term_size l.self ≤ term_size l.initial.self

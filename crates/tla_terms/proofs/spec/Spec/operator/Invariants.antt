@@ -1,6 +1,0 @@
-use Rattle.std.proofs.Common.{ℕ, ◌<◌}
-use Rattle.tla_terms.specs.Named.{IsNamed}
-use Rattle.tla_terms.proofs.spec.Spec.operator.Given as goal
-
-abbrev pub invariant-loop-index : goal.invariant-loop-index
-invariant-loop-index l = (k : ℕ) → k < l.index → ¬ IsNamed l.operators l.name k

@@ -1,6 +1,0 @@
-use Rattle.std.proofs.Common.{ℕ, ◌<◌}
-use Rattle.tla_terms.specs.Named.{IsVariable}
-use Rattle.tla_terms.proofs.spec.Spec.variable.Given as goal
-
-abbrev pub invariant-loop-index : goal.invariant-loop-index
-invariant-loop-index l = (k : ℕ) → k < l.index → ¬ IsVariable l.variables l.name k

@@ -1,6 +1,0 @@
-use Rattle.tla_terms.specs.Terms.{NoFields}
-use Rattle.tla_terms.proofs.Pushes.{fields_pushed}
-use Rattle.tla_terms.proofs.term.Fields.push.Goals as goal
-
-pub returns-clause-pushed : goal.returns-clause-pushed
-returns-clause-pushed c = rw (c.in_ok-push.ensures.items, ← c.self.view_is) (fields_pushed NoFields c.self.inside.items.items c.args.item)

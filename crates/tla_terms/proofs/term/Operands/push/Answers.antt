@@ -1,6 +1,0 @@
-use Rattle.tla_terms.specs.Terms.{First}
-use Rattle.tla_terms.proofs.Pushes.{operands_pushed}
-use Rattle.tla_terms.proofs.term.Operands.push.Goals as goal
-
-pub returns-clause-pushed : goal.returns-clause-pushed
-returns-clause-pushed c = rw (c.in_ok-push.ensures.items, ← c.self.view_is) (operands_pushed (First c.self.inside.first.value) c.self.inside.others.items c.args.item)

@@ -1,7 +1,0 @@
-use Rattle.std.proofs.Common.{ap, ◌∙◌}
-use Rattle.tla_terms.specs.TermViews.{are_none}
-use Rattle.tla_terms.proofs.Pushes.{none_of_terms}
-use Rattle.tla_terms.proofs.term.Terms.is_empty.Goals as goal
-
-pub returns : goal.returns
-returns c = c.is_empty.ensures ∙ none_of_terms c.items-items.result.now ∙ ap are_none c.items-items.ensures

@@ -1,6 +1,0 @@
-use Rattle.std.proofs.Common.{◌≡◌, drop}
-use Rattle.tla_uses.proofs.Declaring.{in_operators}
-use Rattle.tla_uses.proofs.strict.is_among.Given as goal
-
-abbrev pub invariant-loop-operator : goal.invariant-loop-operator
-invariant-loop-operator l = in_operators l.name (drop l.operator-index l.operator-items) ≡ in_operators l.name l.operator-items

@@ -1,6 +1,0 @@
-use Rattle.std.proofs.Common.{◌≡◌, drop}
-use Rattle.tla_values.specs.HashOf.{with_bytes}
-use Rattle.tla_values.proofs.value.hash.hash_of_text.Given as goal
-
-abbrev pub invariant-loop-byte : goal.invariant-loop-byte
-invariant-loop-byte l = with_bytes l.hash (drop l.byte-index l.byte-items) ≡ with_bytes l.initial.hash l.byte-items

@@ -1,6 +1,0 @@
-use Rattle.std.proofs.Common.{◌≡◌}
-use Rattle.tla_values.specs.Functions.{fields_as_pairs}
-use Rattle.tla_values.proofs.value.making.pairs_from.Given as goal
-
-abbrev pub invariant-loop-name : goal.invariant-loop-name
-invariant-loop-name l = l.pairs.items ≡ fields_as_pairs l.yielded

@@ -1,8 +1,0 @@
--- What a value feeds to a hasher: its hash.
-use Rattle.std.specs.Hash as fed
-use Rattle.std.specs.Hash.{HashWrites}
-use Rattle.tla_values.specs.Data.{Val}
-use Rattle.tla_values.specs.HashOf.{hash_of}
-
-abbrev pub hash_input : Val → HashWrites
-hash_input v = fed.u64 (hash_of v)

@@ -1,6 +1,0 @@
-use Rattle.std.proofs.Common.{◌≡◌, ◌++◌, drop}
-use Rattle.tlc_calls.proofs.Items.{names_bound}
-use Rattle.tlc_calls.proofs.bound_names.BoundNames.push_bounds.Given as goal
-
-abbrev pub invariant-loop-bound : goal.invariant-loop-bound
-invariant-loop-bound l = l.self ++ names_bound (drop l.bound-index l.bound-items) ≡ l.initial.self ++ names_bound l.bound-items

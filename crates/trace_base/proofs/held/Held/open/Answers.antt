@@ -1,5 +1,0 @@
-use Rattle.trace_base.proofs.Filling.{opened}
-use Rattle.trace_base.proofs.held.Held.open.Goals as goal
-
-pub returns-in-Some-clause-finds : goal.returns-in-Some-clause-finds
-returns-in-Some-clause-finds c = opened _ _ _ _ c.deref.ensures.value c.in-Some.ensures

@@ -1,4 +1,0 @@
-pub mod Device
-pub mod Memory
-pub mod Reading
-pub mod Texts

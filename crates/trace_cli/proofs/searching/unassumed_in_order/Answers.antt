@@ -1,4 +1,0 @@
-use Rattle.trace_cli.proofs.searching.unassumed_in_order.Goals as goal
-
-pub returns-clause-assumed : goal.returns-clause-assumed
-returns-clause-assumed c = record { told = c.in_ok-answer.ensures }

@@ -1,0 +1,10 @@
+pub mod AfterExplained
+pub mod Answered
+pub mod Assumption
+pub mod Checks
+pub mod Decided
+pub mod Ends
+pub mod Library
+pub mod OwnPlace
+pub mod Printed
+pub mod Unseen

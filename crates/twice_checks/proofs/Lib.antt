@@ -1,3 +1,0 @@
-mod Accepting
-pub mod Answering
-pub mod Searching

@@ -1,0 +1,4 @@
+pub mod Actions
+pub mod AlikeSettings
+pub mod Alikes
+pub mod Outcomes

@@ -1,0 +1,3 @@
+pub mod PrintedStates
+pub mod StateFiles
+pub mod WhyLines

@@ -1,0 +1,16 @@
+pub mod Behind
+pub mod BothWays
+pub mod Chained
+pub mod Early
+pub mod Ended
+pub mod Faulty
+pub mod Heads
+pub mod Lawful
+pub mod Levelled
+pub mod Meanings
+pub mod Placed
+pub mod ProgramNames
+pub mod Sides
+pub mod Staged
+pub mod Tabled
+pub mod Valued

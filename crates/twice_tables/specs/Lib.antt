@@ -1,0 +1,4 @@
+pub mod OneOutcome
+pub mod Outcome
+pub mod Places
+pub mod Tables

@@ -1,2 +1,0 @@
-mod TokenLines
-mod UncheckedLines

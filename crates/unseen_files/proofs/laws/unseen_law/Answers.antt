@@ -1,8 +1,0 @@
-use Rattle.unseen_files.proofs.Unseen.{read_unseen, unasked_are_unseen}
-use Rattle.unseen_files.proofs.laws.unseen_law.Goals as goal
-
-pub returns-clause-words : goal.returns-clause-words
-returns-clause-words c = unasked_are_unseen
-
-pub returns-clause-job : goal.returns-clause-job
-returns-clause-job c = read_unseen

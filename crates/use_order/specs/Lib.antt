@@ -1,4 +1,0 @@
-pub mod Reaching
-pub mod Uses
-pub mod Walks
-pub mod Weights

@@ -1,6 +1,0 @@
-use Rattle.std.proofs.Common.{◌∙◌}
-use Rattle.value_ops.proofs.Pairs.{applies_among}
-use Rattle.value_ops.proofs.functions.is_in_domain.Goals as goal
-
-pub returns : goal.returns
-returns c = c.is_some.ensures ∙ applies_among (λ v. v.now) c.apply.result c.args.f.now c.args.key.now c.apply.ensures

@@ -1,6 +1,0 @@
-use Rattle.std.proofs.Common.{◌≡◌, take}
-use Rattle.tla_values.specs.Functions.{keys_in}
-use Rattle.value_ops.proofs.functions.keys_of.Given as goal
-
-abbrev pub invariant-loop-i : goal.invariant-loop-i
-invariant-loop-i l = l.keys.items ≡ take l.i (keys_in l.f)

@@ -1,6 +1,0 @@
-use Rattle.std.proofs.Common.{◌≡◌}
-use Rattle.value_ops.specs.Listed.{ints_from}
-use Rattle.value_ops.proofs.listings.integers.Given as goal
-
-abbrev pub invariant-loop-k : goal.invariant-loop-k
-invariant-loop-k l = l.members.items ≡ ints_from l.first l.k

@@ -1,7 +1,0 @@
-use Rattle.std.proofs.Common.{ℕ, ◌<◌, get_or}
-use Rattle.tla_values.specs.Data.{Val}
-use Rattle.tla_values.specs.IsValue.{IsValue}
-use Rattle.value_ops.proofs.products.are_values.Given as goal
-
-abbrev pub invariant-loop-v : goal.invariant-loop-v
-invariant-loop-v l = (k : ℕ) (d : Val) → k < l.v-index → IsValue (get_or l.values k d)

@@ -1,6 +1,0 @@
-use Rattle.std.proofs.Common.{ℕ, ◌<◌, get_or}
-use Rattle.tla_values.specs.Data.{Val, depth}
-use Rattle.value_ops.proofs.products.has_deep.Given as goal
-
-abbrev pub invariant-loop-v : goal.invariant-loop-v
-invariant-loop-v l = (k : ℕ) (d : Val) → k < l.v-index → depth (get_or l.values k d) < l.levels

@@ -1,6 +1,0 @@
-use Rattle.std.proofs.Common.{length, ap, arith}
-use Rattle.value_ops.proofs.Taking.{few_items}
-use Rattle.value_ops.proofs.products.members_in.Goals as goal
-
-pub returns : goal.returns
-returns c = record { all = c.members.ensures; few = omega (arith, few_items c.args.part.now c.is_value.ensures, ap (λ xs. length xs) c.members.ensures) }

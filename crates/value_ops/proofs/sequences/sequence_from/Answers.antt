@@ -1,8 +1,0 @@
-use Rattle.std.proofs.Common.{Err, subst, sym}
-use Rattle.tla_values.specs.FunctionOperations.{GivesSequence}
-use Rattle.tla_values.specs.declared.fault.OpFault.{OpFault}
-use Rattle.value_ops.proofs.Parts.{refuses_sequence}
-use Rattle.value_ops.proofs.sequences.sequence_from.Goals as goal
-
-pub returns-in-Err : goal.returns-in-Err
-returns-in-Err c = subst (λ (e : OpFault). GivesSequence c.args.values.items (Err e)) (sym c.from.ensures) (refuses_sequence c.args.values.items c.in-Err.fault c.in-Err.ensures)

@@ -1,6 +1,0 @@
-use Rattle.std.proofs.Common.{◌≡◌, ◌++◌, drop}
-use Rattle.whole_programs.proofs.copying.copy_withs.Given as goal
-
-abbrev pub invariant-loop-with : goal.invariant-loop-with
-invariant-loop-with l =
-    l.copy ++ drop l.with-index l.with-items ≡ l.with-items

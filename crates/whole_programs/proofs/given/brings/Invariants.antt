@@ -1,7 +1,0 @@
-use Rattle.std.proofs.Common.{◌≡◌, drop}
-use Rattle.tla_instances.specs.Instances.{brings}
-use Rattle.whole_programs.proofs.given.brings.Given as goal
-
-abbrev pub invariant-loop-entry : goal.invariant-loop-entry
-invariant-loop-entry l =
-    brings (drop l.entry-index l.entries) l.name ≡ brings l.entries l.name

@@ -1,5 +1,0 @@
-use Rattle.why_branches.proofs.OnePlace.{one_place_is_each}
-use Rattle.why_branches.proofs.reasons.near_law.Goals as goal
-
-pub returns : goal.returns
-returns c = one_place_is_each

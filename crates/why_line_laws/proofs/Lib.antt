@@ -1,5 +1,0 @@
-mod Asides
-mod Lines
-mod NearAsides
-mod Printed
-mod ReadAgain

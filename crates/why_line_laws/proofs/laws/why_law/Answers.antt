@@ -1,9 +1,0 @@
-use Rattle.why_line_laws.proofs.Asides.{why_reads_back}
-use Rattle.why_line_laws.proofs.ReadAgain.{report_reads_back}
-use Rattle.why_line_laws.proofs.laws.why_law.Goals as goal
-
-pub returns-clause-why : goal.returns-clause-why
-returns-clause-why c = why_reads_back c.json_laws.ensures.printed c.text_laws.ensures.ascending c.printed_law.ensures.asides
-
-pub returns-clause-report : goal.returns-clause-report
-returns-clause-report c = report_reads_back c.json_laws.ensures.printed c.text_laws.ensures.ascending c.printed_law.ensures.asides

@@ -1,6 +1,0 @@
-use Rattle.std.proofs.Common.{take}
-use Rattle.why_not.specs.Whys.{AreReasons}
-use Rattle.why_not.proofs.reasons.reasons.Given as goal
-
-abbrev pub invariant-loop-end : goal.invariant-loop-end
-invariant-loop-end l = AreReasons l.sees (take l.end-index l.ends) l.whys.items

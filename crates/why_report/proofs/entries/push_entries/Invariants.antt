@@ -1,8 +1,0 @@
-use Rattle.std.proofs.Common.{drop, string_bytes}
-use Rattle.run_texts.specs.Answers.{named}
-use Rattle.why_report.specs.Telling.{SoFar}
-use Rattle.why_report.proofs.entries.push_entries.Given as goal
-
-abbrev pub invariant-loop-entry : goal.invariant-loop-entry
-invariant-loop-entry l =
-    SoFar l.subject.spec.now l.subject.line.now (named l.labels) l.most l.entries l.left (drop l.entry-index l.entries) (string_bytes l.initial.text) (string_bytes l.text)

@@ -1,7 +1,0 @@
-use Rattle.std.specs.List.{Contains}
-use Rattle.why_report.specs.Within.{LeadsBeyond}
-use Rattle.why_report.proofs.Reaching.{NoneBefore}
-use Rattle.why_report.proofs.within.any_leads_beyond.Given as goal
-
-abbrev pub invariant-loop-from : goal.invariant-loop-from
-invariant-loop-from l = NoneBefore (LeadsBeyond l.steps.spec.now l.steps.limit (Contains l.entries)) l.entries l.from-index

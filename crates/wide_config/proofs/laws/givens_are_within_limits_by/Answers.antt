@@ -1,5 +1,0 @@
-use Rattle.wide_config.proofs.Within.{are_within}
-use Rattle.wide_config.proofs.laws.givens_are_within_limits_by.Goals as goal
-
-pub returns : goal.returns
-returns c = are_within c.givens_are_within_limits.ensures

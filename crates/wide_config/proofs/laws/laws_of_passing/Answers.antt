@@ -1,8 +1,0 @@
-use Rattle.wide_config.proofs.PassedOver.{nothing_passed, statements_passed}
-use Rattle.wide_config.proofs.laws.laws_of_passing.Goals as goal
-
-pub returns-clause-nothing : goal.returns-clause-nothing
-returns-clause-nothing c = nothing_passed
-
-pub returns-clause-whole : goal.returns-clause-whole
-returns-clause-whole c = statements_passed

@@ -1,6 +1,0 @@
-use Rattle.std.proofs.Common.{◌≡◌, ◌++◌, drop}
-use Rattle.wide_reading.specs.Needing.{names_unread}
-use Rattle.wide_reading.proofs.needing.names_unread.Given as goal
-
-abbrev pub invariant-loop-noted : goal.invariant-loop-noted
-invariant-loop-noted l = l.names ++ names_unread (drop l.noted-index l.unread) ≡ names_unread l.unread

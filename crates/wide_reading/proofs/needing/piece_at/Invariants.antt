@@ -1,6 +1,0 @@
-use Rattle.std.proofs.Common.{◌≡◌, ◌+◌, length, take}
-use Rattle.wide_reading.specs.Needing.{names_unread}
-use Rattle.wide_reading.proofs.needing.piece_at.Given as goal
-
-abbrev pub invariant-loop-index : goal.invariant-loop-index
-invariant-loop-index l = l.place ≡ length (names_unread (take l.index l.unread)) + l.rest

@@ -1,7 +1,0 @@
-use Rattle.std.proofs.Common.{◌∙◌, ap, sym}
-use Rattle.tla_ast.specs.Trees.{place_of}
-use Rattle.wide_trees.proofs.ToldLemmas.{place_is}
-use Rattle.wide_trees.proofs.telling.place_of.Goals as goal
-
-pub returns : goal.returns
-returns c = sym (place_is c.tree.inside.at c.tree.inside.node.value) ∙ ap place_of c.tree.view_is
